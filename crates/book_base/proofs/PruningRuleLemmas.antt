@@ -8,6 +8,7 @@ use Rattle.book_base.specs.declared.call.Call.{Call}
 use Rattle.book_base.specs.declared.call.Place.{Place}
 use Rattle.book_base.specs.declared.pruning_rules.CallBound.{CallBound}
 use Rattle.book_base.specs.declared.TheConstants.{MAX_CALLERS}
+use Rattle.book_base.specs.SeqSpec.{SeqSpec}
 use Rattle.book_base.specs.Cut.{Holds}
 use Rattle.book_base.specs.Book.{Page, page_of, calls_of, IsCall}
 use Rattle.book_base.specs.Order.{StandsAt}
@@ -107,14 +108,12 @@ has_call_bound-with_call_bound known call call_bound other has h =
 
 -- What is known stays right with another bound of a call, where that bound forbids the call only
 -- where the call is infeasible.
-pub with_call_bound_is_right : (init : List ℕ) (next : List ℕ → ℕ → List ℕ × ℕ) (book : List Page)
-    (known : Known) (call : Call) (call_bound : CallBound) → HasCallBound known call
-    → ArePruningRules init next book known
+pub with_call_bound_is_right : (spec : SeqSpec) (book : List Page) (known : Known) (call : Call)
+    (call_bound : CallBound) → HasCallBound known call → ArePruningRules spec book known
     → ((cut list : List ℕ) → IsBelow cut call_bound.predecessor_bound
-    ⊎ HasEarly known.ranks list call_bound.limit
-    → IsInfeasible init next book cut list call)
-    → ArePruningRules init next book (with_call_bound known call call_bound)
-with_call_bound_is_right init next book known call call_bound has right infeasible cut list
+    ⊎ HasEarly known.ranks list call_bound.limit → IsInfeasible spec book cut list call)
+    → ArePruningRules spec book (with_call_bound known call call_bound)
+with_call_bound_is_right spec book known call call_bound has right infeasible cut list
     other forbids =
     let says : CallBound → Type 0 =
     λ b. IsBelow cut b.predecessor_bound ⊎ HasEarly known.ranks list b.limit in
@@ -126,7 +125,7 @@ with_call_bound_is_right init next book known call call_bound has right infeasib
           let here : says (call_bound_of (with_call_bound known call call_bound) call) =
           subst (λ (c : Call). says (call_bound_of (with_call_bound known call call_bound) c))
           same forbids in
-          subst (λ (c : Call). IsInfeasible init next book cut list c) (sym same)
+          subst (λ (c : Call). IsInfeasible spec book cut list c) (sym same)
           (infeasible cut list
           (subst says (call_bound_of-with_call_bound_same known call call_bound has) here))
     ]
@@ -150,10 +149,10 @@ set_at_most (x ∷ xs) zero v = omega arith
 set_at_most (x ∷ xs) (suc i) v = set_at_most xs i v
 
 -- where a cut lacks a call that must come before another one, the other one is infeasible
-infeasible_from_first : (init : List ℕ) (next : List ℕ → ℕ → List ℕ × ℕ) (book : List Page)
-    (cut list : List ℕ) (call other : Call) → MustComeFirst init next book other call
-    → (Holds cut other → ⊥) → IsInfeasible init next book cut list call
-infeasible_from_first init next book cut list call other first lacks before rest reply
+infeasible_from_first : (spec : SeqSpec) (book : List Page) (cut list : List ℕ) (call other : Call)
+    → MustComeFirst spec book other call → (Holds cut other → ⊥)
+    → IsInfeasible spec book cut list call
+infeasible_from_first spec book cut list call other first lacks before rest reply
     reaches legal =
     let place : Place = record { caller = call.caller; number = call.number; reply = reply } in
     let found = first (before ++ place ∷ rest) legal (length before)
@@ -192,22 +191,21 @@ below_raised cut predecessor_bound other (i, lt) =
     ]
 
 -- What is known stays right where a call is held back until after one that must come first.
-pub held_back_is_right : (init : List ℕ) (next : List ℕ → ℕ → List ℕ × ℕ) (book : List Page)
-    (known : Known) (call other : Call) → HasCallBound known call
-    → ArePruningRules init next book known → MustComeFirst init next book other call
-    → ArePruningRules init next book (held_back known call other)
-held_back_is_right init next book known call other has right first =
+pub held_back_is_right : (spec : SeqSpec) (book : List Page) (known : Known) (call other : Call)
+    → HasCallBound known call → ArePruningRules spec book known → MustComeFirst spec book other call
+    → ArePruningRules spec book (held_back known call other)
+held_back_is_right spec book known call other has right first =
     let call_bound : CallBound = call_bound_of known call in
     let raised : CallBound = record call_bound {
       predecessor_bound = set call_bound.predecessor_bound other.caller
           (max (get_or call_bound.predecessor_bound other.caller 0) (other.number + 1));
     } in
-    with_call_bound_is_right init next book known call raised has right (λ (cut list : List ℕ)
+    with_call_bound_is_right spec book known call raised has right (λ (cut list : List ℕ)
     (forbids : IsBelow cut raised.predecessor_bound ⊎ HasEarly known.ranks list raised.limit).
     elim forbids [
       | inl below ↦ elim (below_raised cut call_bound.predecessor_bound other below) [
         | inl low ↦ right cut list call (inl low)
-        | inr lacks ↦ infeasible_from_first init next book cut list call other first lacks
+        | inr lacks ↦ infeasible_from_first spec book cut list call other first lacks
       ]
       | inr early ↦ right cut list call (inr early)
     ])
@@ -231,15 +229,14 @@ early_either ranks list a b (word, inside, early) =
     ]
 
 -- What is known stays right where a call is limited by ranks whose words make it infeasible.
-pub limited_is_right : (init : List ℕ) (next : List ℕ → ℕ → List ℕ × ℕ) (book : List Page)
-    (known : Known) (call : Call) (limit : ℕ) → HasCallBound known call
-    → ArePruningRules init next book known → ((cut list : List ℕ) → HasEarly known.ranks list limit
-    → IsInfeasible init next book cut list call)
-    → ArePruningRules init next book (limited known call limit)
-limited_is_right init next book known call limit has right infeasible =
+pub limited_is_right : (spec : SeqSpec) (book : List Page) (known : Known) (call : Call) (limit : ℕ)
+    → HasCallBound known call → ArePruningRules spec book known
+    → ((cut list : List ℕ) → HasEarly known.ranks list limit → IsInfeasible spec book cut list call)
+    → ArePruningRules spec book (limited known call limit)
+limited_is_right spec book known call limit has right infeasible =
     let call_bound : CallBound = call_bound_of known call in
     let higher : CallBound = record call_bound { limit = max call_bound.limit limit } in
-    with_call_bound_is_right init next book known call higher has right (λ (cut list : List ℕ)
+    with_call_bound_is_right spec book known call higher has right (λ (cut list : List ℕ)
     (forbids : IsBelow cut higher.predecessor_bound ⊎ HasEarly known.ranks list higher.limit).
     elim forbids [
       | inl below ↦ right cut list call (inl below)
@@ -253,15 +250,13 @@ limited_is_right init next book known call limit has right infeasible =
 
 -- What is known stays right with another rank of a word, where each call that this rank forbids at
 -- a list with the word is infeasible there.
-pub ranked_is_right : (init : List ℕ) (next : List ℕ → ℕ → List ℕ × ℕ) (book : List Page)
-    (known new : Known) (word rank : ℕ) → new.call_bounds ≡ known.call_bounds
-    → ((other : ℕ)
+pub ranked_is_right : (spec : SeqSpec) (book : List Page) (known new : Known) (word rank : ℕ)
+    → new.call_bounds ≡ known.call_bounds → ((other : ℕ)
     → rank_of new.ranks other ≡ cond (other == word) (Some rank) (rank_of known.ranks other))
-    → ArePruningRules init next book known
-    → ((cut list : List ℕ) (call : Call) → Contains list word
-    → rank < (call_bound_of known call).limit
-    → IsInfeasible init next book cut list call) → ArePruningRules init next book new
-ranked_is_right init next book known new word rank call_bounds ranks right infeasible cut list
+    → ArePruningRules spec book known → ((cut list : List ℕ) (call : Call) → Contains list word
+    → rank < (call_bound_of known call).limit → IsInfeasible spec book cut list call)
+    → ArePruningRules spec book new
+ranked_is_right spec book known new word rank call_bounds ranks right infeasible cut list
     call forbids =
     let call_bound : call_bound_of new call ≡ call_bound_of known call =
     ap (λ (b : List (List CallBound)). get_or (get_or b call.caller []) call.number no_call_bound)
@@ -317,9 +312,9 @@ call_bound_of-blank book call =
           call.caller [] (omega (arith, length-map book call_bounds_for)))
     ]
 
-pub blank_is_right : (init : List ℕ) (next : List ℕ → ℕ → List ℕ × ℕ) (book : List Page)
-    → ArePruningRules init next book (record { call_bounds = blank_call_bounds book; ranks = [] })
-blank_is_right init next book cut list call forbids =
+pub blank_is_right : (spec : SeqSpec) (book : List Page)
+    → ArePruningRules spec book (record { call_bounds = blank_call_bounds book; ranks = [] })
+blank_is_right spec book cut list call forbids =
     let at : IsBelow cut no_call_bound.predecessor_bound ⊎ HasEarly [] list no_call_bound.limit =
     subst (λ (call_bound : CallBound). IsBelow cut call_bound.predecessor_bound
     ⊎ HasEarly [] list call_bound.limit)

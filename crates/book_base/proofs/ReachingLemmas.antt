@@ -8,6 +8,7 @@ use Rattle.list_laws.proofs.Places.{slice_get-push_old, slice_get-push_last, sli
 use Rattle.book_base.specs.declared.call.Call.{Call}
 use Rattle.book_base.specs.declared.call.Place.{Place}
 use Rattle.book_base.specs.declared.call.Record.{Record}
+use Rattle.book_base.specs.SeqSpec.{SeqSpec}
 use Rattle.book_base.specs.Cut.{Holds}
 use Rattle.book_base.specs.Book.{Page, record_of}
 use Rattle.book_base.specs.Sequential.{IsRunFrom}
@@ -65,7 +66,7 @@ raised_held cut place call inside at held =
     ]
 
 pub no_places_reach_the_start : NoPlacesReachTheStart
-no_places_reach_the_start init next book n = record {
+no_places_reach_the_start spec book n = record {
   holds = λ k call (place, at, is). absurd (none-some place at);
   held =
       λ call held. absurd (omega (arith, held, get_or-replicate_default {X = ℕ} n call.caller 0));
@@ -73,7 +74,7 @@ no_places_reach_the_start init next book n = record {
 }
 
 pub one_more_place_reaches_on : OneMorePlaceReachesOn
-one_more_place_reaches_on init next book before cut list place reaches inside at = record {
+one_more_place_reaches_on spec book before cut list place reaches inside at = record {
   holds = λ k call stands. elim (slice_get-push_cases before place k stands.0 stands.1) [
     | inl old ↦
         raised_holds cut place call inside at (inl (reaches.holds k call (stands.0, old, stands.2)))
@@ -86,17 +87,16 @@ one_more_place_reaches_on init next book before cut list place reaches inside at
     )
     | inr is ↦ (length before, (place, slice_get-push_last before place, is))
   ];
-  reached = list_after_run-push next book init before place
-      ∙ ap (λ (l : List ℕ). (next l (step_at book place).0).0) reaches.reached;
+  reached = list_after_run-push spec.next book spec.init before place
+      ∙ ap (λ (l : List ℕ). (spec.next l (step_at book place).0).0) reaches.reached;
 }
 
 -- where an order reaches two cuts, each call that one of them holds is in the order, so that the
 -- other holds it
-reached_within : (init : List ℕ) (next : List ℕ → ℕ → List ℕ × ℕ) (book : List Page)
-    (order : List Place) (a b x y : List ℕ)
-    → Reaches init next book order a x → Reaches init next book order b y → (i : ℕ)
+reached_within : (spec : SeqSpec) (book : List Page) (order : List Place) (a b x y : List ℕ)
+    → Reaches spec book order a x → Reaches spec book order b y → (i : ℕ)
     → get_or a i 0 ≤ get_or b i 0
-reached_within init next book order a b x y first second i = elim (cases_lt 0 (get_or a i 0)) [
+reached_within spec book order a b x y first second i = elim (cases_lt 0 (get_or a i 0)) [
   | inl some ↦
       let call : Call = record { caller = i; number = get_or a i 0 - 1 } in
       let stands = first.held call (omega (arith, some)) in
@@ -106,21 +106,21 @@ reached_within init next book order a b x y first second i = elim (cases_lt 0 (g
 ]
 
 pub one_cut_is_reached : OneCutIsReached
-one_cut_is_reached init next book order a b x y wide first second = (
+one_cut_is_reached spec book order a b x y wide first second = (
   ext_get_or 0 a b wide (λ i inside. omega (
     arith,
-    reached_within init next book order a b x y first second i,
-    reached_within init next book order b a y x second first i,
+    reached_within spec book order a b x y first second i,
+    reached_within spec book order b a y x second first i,
   )),
   sym first.reached ∙ second.reached,
 )
 
 pub what_stands_is_not_infeasible : WhatStandsIsNotInfeasible
-what_stands_is_not_infeasible init next book before rest place cut list legal reaches infeasible =
+what_stands_is_not_infeasible spec book before rest place cut list legal reaches infeasible =
     infeasible before rest place.reply reaches legal
 
 pub preceding_comes_first : PrecedingComesFirst
-preceding_comes_first init next book a b precedes order legal q stands =
+preceding_comes_first spec book a b precedes order legal q stands =
     elim precedes [
       | inl answered ↦
           let says : Record → Type 0 = λ r. get_or r.view b.caller 0 ≤ b.number in

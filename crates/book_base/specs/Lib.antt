@@ -6,6 +6,7 @@ pub mod Book
 pub mod BookLayout
 pub mod BookAt
 pub mod Rising
+pub mod SeqSpec
 pub mod Sequential
 pub mod Order
 pub mod Next

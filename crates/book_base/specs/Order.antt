@@ -3,6 +3,7 @@ use Rattle.std.specs.Prelude.{◌≡◌, ℕ, ◌<◌, List, map, Some, unwrap_o
 use Rattle.book_base.specs.declared.call.Call.{Call}
 use Rattle.book_base.specs.declared.call.Record.{Record}
 use Rattle.book_base.specs.declared.call.Place.{Place}
+use Rattle.book_base.specs.SeqSpec.{SeqSpec}
 use Rattle.book_base.specs.Book.{Page, IsCall, operation_of, record_of, Precedes}
 use Rattle.book_base.specs.Sequential.{IsLegalRun}
 
@@ -18,11 +19,9 @@ StandsAt order k call = (place : Place) × (slice_get order k ≡ Some place) ×
 abbrev pub step_at : List Page → Place → ℕ × ℕ
 step_at book place = (unwrap_or (operation_of book (call_at place)) 0, place.reply)
 
--- A legal order of a book, for the sequential object with the first list `init` and the transition
--- function `next` (Herlihy and Wing 1990, on views). An unanswered call may stand in it with the
--- reply that the object gives, or be left out.
-pub record IsLegalOrder (init : List ℕ) (next : List ℕ → ℕ → List ℕ × ℕ) (book : List Page)
-    (order : List Place) : Type 0 where
+-- A legal order of a book, for a sequential object (Herlihy and Wing 1990, on views). An unanswered
+-- call may stand in it with the reply that the object gives, or be left out.
+pub record IsLegalOrder (spec : SeqSpec) (book : List Page) (order : List Place) : Type 0 where
   -- each call in it is a call of the book
   pub calls : (k : ℕ) (call : Call) → StandsAt order k call → IsCall book call
   -- no call stands in it twice
@@ -35,11 +34,11 @@ pub record IsLegalOrder (init : List ℕ) (next : List ℕ → ℕ → List ℕ 
       → (k : ℕ) × (slice_get order k
       ≡ Some (record { caller = call.caller; number = call.number; reply = r.reply }))
   -- the replies are those that the object gives when the operations are applied in this order
-  pub run : IsLegalRun init next (map (step_at book) order)
+  pub run : IsLegalRun spec (map (step_at book) order)
   -- where a call precedes another and both stand in it, it stands before the other
   pub precedence : (j k : ℕ) (a b : Call) → StandsAt order j a → StandsAt order k b
       → Precedes book a b → j < k
 
 -- the book has a legal order
-abbrev pub HasLegalOrder : List ℕ → (List ℕ → ℕ → List ℕ × ℕ) → List Page → Type 0
-HasLegalOrder init next book = (order : List Place) × IsLegalOrder init next book order
+abbrev pub HasLegalOrder : SeqSpec → List Page → Type 0
+HasLegalOrder spec book = (order : List Place) × IsLegalOrder spec book order

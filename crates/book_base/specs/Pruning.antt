@@ -4,6 +4,7 @@ use Rattle.book_base.specs.declared.call.Call.{Call}
 use Rattle.book_base.specs.declared.call.Place.{Place}
 use Rattle.book_base.specs.declared.call.Record.{Record}
 use Rattle.book_base.specs.declared.marked_callers.MarkedCallers.{MarkedCallers}
+use Rattle.book_base.specs.SeqSpec.{SeqSpec}
 use Rattle.book_base.specs.Cut.{IsWithin}
 use Rattle.book_base.specs.Book.{Page, answers_of, IsAnswered, record_of}
 use Rattle.book_base.specs.Order.{IsLegalOrder}
@@ -47,12 +48,11 @@ pub record StandsAtOnce (book : List Page) (next : List ℕ → ℕ → List ℕ
 
 -- Some order reaches a cut and a list, and whatever places continue it from there make a legal
 -- order with it.
-pub record IsReached (init : List ℕ) (next : List ℕ → ℕ → List ℕ × ℕ) (book : List Page)
-    (cut list : List ℕ) : Type 0 where
+pub record IsReached (spec : SeqSpec) (book : List Page) (cut list : List ℕ) : Type 0 where
   pub before : List Place
-  pub reaches : Reaches init next book before cut list
-  pub legal : (rest : List Place) → Continues book next cut list rest
-      → IsLegalOrder init next book (before ++ rest)
+  pub reaches : Reaches spec book before cut list
+  pub legal : (rest : List Place) → Continues book spec.next cut list rest
+      → IsLegalOrder spec book (before ++ rest)
 
 -- a caller is marked
 abbrev pub IsMarked : MarkedCallers → ℕ → Type 0

@@ -8,6 +8,7 @@ use Rattle.book_base.specs.declared.call.Call.{Call}
 use Rattle.book_base.specs.declared.call.Place.{Place}
 use Rattle.book_base.specs.declared.pruning_rules.CallBound.{CallBound}
 use Rattle.book_base.specs.declared.TheConstants.{MAX_CALLERS}
+use Rattle.book_base.specs.SeqSpec.{SeqSpec}
 use Rattle.book_base.specs.Cut.{Holds}
 use Rattle.book_base.specs.Book.{Page}
 use Rattle.book_base.specs.Order.{StandsAt, step_at, IsLegalOrder}
@@ -19,24 +20,23 @@ list_after_run next list (step ∷ steps) = list_after_run next (next list step.
 
 -- An order reaches a cut and a list: the cut holds the calls that stand in the order and no others,
 -- and the list is the object's after them.
-pub record Reaches (init : List ℕ) (next : List ℕ → ℕ → List ℕ × ℕ) (book : List Page)
-    (order : List Place) (cut list : List ℕ) : Type 0 where
+pub record Reaches (spec : SeqSpec) (book : List Page) (order : List Place)
+    (cut list : List ℕ) : Type 0 where
   pub holds : (k : ℕ) (call : Call) → StandsAt order k call → Holds cut call
   pub held : (call : Call) → Holds cut call → (k : ℕ) × StandsAt order k call
-  pub reached : list_after_run next init (map (step_at book) order) ≡ list
+  pub reached : list_after_run spec.next spec.init (map (step_at book) order) ≡ list
 
 -- A call is infeasible next, after a cut and at a list: no legal order that reaches them goes on
 -- with it.
-abbrev pub IsInfeasible : List ℕ → (List ℕ → ℕ → List ℕ × ℕ) → List Page → List ℕ → List ℕ
-    → Call → Type 0
-IsInfeasible init next book cut list call = (before rest : List Place) (reply : ℕ)
-    → Reaches init next book before cut list
-    → IsLegalOrder init next book
+abbrev pub IsInfeasible : SeqSpec → List Page → List ℕ → List ℕ → Call → Type 0
+IsInfeasible spec book cut list call = (before rest : List Place) (reply : ℕ)
+    → Reaches spec book before cut list
+    → IsLegalOrder spec book
     (before ++ record { caller = call.caller; number = call.number; reply = reply } ∷ rest) → ⊥
 
 -- In every legal order where call b stands, call a stands before it.
-abbrev pub MustComeFirst : List ℕ → (List ℕ → ℕ → List ℕ × ℕ) → List Page → Call → Call → Type 0
-MustComeFirst init next book a b = (order : List Place) → IsLegalOrder init next book order
+abbrev pub MustComeFirst : SeqSpec → List Page → Call → Call → Type 0
+MustComeFirst spec book a b = (order : List Place) → IsLegalOrder spec book order
     → (q : ℕ) → StandsAt order q b → (p : ℕ) × (p < q) × StandsAt order p a
 
 -- An operation is read-only with this reply: it doesn't change any list at which it has the reply.
@@ -87,10 +87,10 @@ Forbids known cut list call = IsBelow cut (call_bound_of known call).predecessor
     ⊎ HasEarly known.ranks list (call_bound_of known call).limit
 
 -- What is known of a book is right for an object: each call that it forbids is infeasible there.
-abbrev pub ArePruningRules : List ℕ → (List ℕ → ℕ → List ℕ × ℕ) → List Page → Known → Type 0
-ArePruningRules init next book known = (cut list : List ℕ) (call : Call)
+abbrev pub ArePruningRules : SeqSpec → List Page → Known → Type 0
+ArePruningRules spec book known = (cut list : List ℕ) (call : Call)
     → Forbids known cut list call
-    → IsInfeasible init next book cut list call
+    → IsInfeasible spec book cut list call
 
 -- what is known without any bounds and ranks, which forbids nothing
 abbrev pub nothing_known : Known

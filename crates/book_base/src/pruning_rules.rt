@@ -1,6 +1,7 @@
 ghost use Rattle.std.specs.Prelude.{◌≡◌, ℕ, ◌<◌, ◌↔◌, Bool, List, [], ◌==◌, if◌then◌else◌, replicate, Contains, Some, IsTrue, IfOk, IfSome, IfNone, OnOk, OnErr};
 ghost use Rattle.book_base.specs.declared.call.Call.{Call};
 ghost use Rattle.book_base.specs.declared.TheConstants.{MAX_CALLERS, MAX_CALLS};
+ghost use Rattle.book_base.specs.SeqSpec.{SeqSpec};
 ghost use Rattle.book_base.specs.Book.{Page, IsCall};
 ghost use Rattle.book_base.specs.PruningRules.{nothing_known, no_call_bound, blank_call_bounds, call_bound_of, rank_of, HasCallBound, IsBelow, HasEarly, Forbids, ArePruningRules, IsInfeasible, MustComeFirst, held_back, limited, ranked};
 
@@ -58,8 +59,7 @@ impl PruningRules {
         // The answer has no bounds and no ranks.
         ensures none { result ≡ nothing_known }
         // The answer is right for each object and each book: it forbids nothing.
-        ensures right { (init : List ℕ) (next : List ℕ → ℕ → List ℕ × ℕ) (book : List Page)
-            → ArePruningRules init next book result }
+        ensures right { (spec : SeqSpec) (book : List Page) → ArePruningRules spec book result }
     {
         PruningRules {
             call_bounds: Vec::new(alloc),
@@ -76,8 +76,8 @@ impl PruningRules {
         ensures call_bounds { IfOk result
             (λ known. (call : Call) → IsCall book.now call → HasCallBound known call) }
         // The answer is right for each object and this book: it forbids nothing.
-        ensures right { IfOk result (λ known. (init : List ℕ) (next : List ℕ → ℕ → List ℕ × ℕ)
-            → ArePruningRules init next book.now known) }
+        ensures right { IfOk result
+            (λ known. (spec : SeqSpec) → ArePruningRules spec book.now known) }
     {
         let mut call_bounds = Vec::new(alloc);
         for caller in 0..book.callers() {
@@ -104,9 +104,8 @@ impl PruningRules {
         ensures call_bounds { (c : Call) → HasCallBound self.old c → HasCallBound self.new c }
         // What is known stays right where the other call must come before the call in each legal
         // order.
-        ensures right { (init : List ℕ) (next : List ℕ → ℕ → List ℕ × ℕ) (book : List Page)
-            → ArePruningRules init next book self.old → MustComeFirst init next book other call
-            → ArePruningRules init next book self.new }
+        ensures right { (spec : SeqSpec) (book : List Page) → ArePruningRules spec book self.old
+            → MustComeFirst spec book other call → ArePruningRules spec book self.new }
     {
         let call_bound = &mut self.call_bounds[call.caller as usize][call.number as usize];
         let i = other.caller as usize;
@@ -123,11 +122,9 @@ impl PruningRules {
         ensures call_bounds { (c : Call) → HasCallBound self.old c → HasCallBound self.new c }
         // What is known stays right where the call is infeasible at each list that has a word of a
         // rank below the limit.
-        ensures right { (init : List ℕ) (next : List ℕ → ℕ → List ℕ × ℕ) (book : List Page)
-            → ArePruningRules init next book self.old
+        ensures right { (spec : SeqSpec) (book : List Page) → ArePruningRules spec book self.old
             → ((cut list : List ℕ) → HasEarly self.old.ranks list limit
-            → IsInfeasible init next book cut list call)
-            → ArePruningRules init next book self.new }
+            → IsInfeasible spec book cut list call) → ArePruningRules spec book self.new }
     {
         let call_bound = &mut self.call_bounds[call.caller as usize][call.number as usize];
         call_bound.limit = call_bound.limit.max(limit);
@@ -144,12 +141,10 @@ impl PruningRules {
             ≡ (if other == word then Some rank else rank_of self.old.ranks other)) }
         // After an answer Ok what is known stays right where each call whose limit is above the
         // rank is infeasible at each list with the word.
-        ensures right { OnOk result ((init : List ℕ) (next : List ℕ → ℕ → List ℕ × ℕ)
-            (book : List Page) → ArePruningRules init next book self.old
-            → ((cut list : List ℕ) (call : Call) → Contains list word
-            → rank < (call_bound_of self.old call).limit
-            → IsInfeasible init next book cut list call)
-            → ArePruningRules init next book self.new) }
+        ensures right { OnOk result ((spec : SeqSpec) (book : List Page) → ArePruningRules spec book
+            self.old → ((cut list : List ℕ) (call : Call) → Contains list word
+            → rank < (call_bound_of self.old call).limit → IsInfeasible spec book cut list call)
+            → ArePruningRules spec book self.new) }
         // After want of memory nothing has changed.
         ensures err { OnErr result (self.new ≡ self.old) }
     {

@@ -1,6 +1,7 @@
 ghost use Rattle.std.specs.Prelude.{◌≡◌, ℕ, ◌+◌, ◌<◌, ◌≤◌, Bool, false, List, length, IfOk, IfSome, IsTrue};
 ghost use Rattle.book_base.specs.declared.TheConstants.{BAD};
 ghost use Rattle.book_base.specs.declared.sight.Sight.{Sight};
+ghost use Rattle.book_base.specs.SeqSpec.{SeqSpec};
 ghost use Rattle.book_base.specs.Book.{Page};
 ghost use Rattle.book_base.specs.Decision.{IsRightDecision};
 ghost use Rattle.book_base.specs.PruningRules.{ArePruningRules, Leaves};
@@ -23,11 +24,9 @@ pub trait SeqObject {
     /// Whether the object knows an operation word.
     ghost is_known: { Self → ℕ → Bool };
 
-    /// The list that the object begins with.
-    ghost init: { Self → List ℕ };
-
-    /// The list after an operation, and the reply to it.
-    ghost next: { Self → List ℕ → ℕ → List ℕ × ℕ };
+    /// What the object does: `init` is the list that it begins with, and `next` gives for a list
+    /// and an operation the list after the operation, and the reply.
+    ghost spec: { Self → SeqSpec };
 
     /// What a sight of a book says, where the object prepares one.
     ghost sees: { Self → List Page → Sight → Type 0 } = { λ _ _ _. Unit {0} };
@@ -40,7 +39,7 @@ pub trait SeqObject {
     fn reset(&self, state: &mut State)
         // The state has capacity for one word.
         requires { 1 ≤ state.old.room }
-        ensures { state.new ≡ record state.old { words = init self.now } };
+        ensures { state.new ≡ record state.old { words = (spec self.now).init } };
 
     /// Makes one operation: the list becomes the next one, and the answer is the reply. The
     /// capacity doesn't change.
@@ -50,9 +49,9 @@ pub trait SeqObject {
         // The list becomes the one that follows it by the operation, and the capacity doesn't
         // change.
         ensures list { state.new
-            ≡ record state.old { words = (next self.now state.old.words op).0 } }
+            ≡ record state.old { words = ((spec self.now).next state.old.words op).0 } }
         // The answer is the object's reply to the operation at the list before.
-        ensures reply { result ≡ (next self.now state.old.words op).1 };
+        ensures reply { result ≡ ((spec self.now).next state.old.words op).1 };
 
     /// What the object knows of a book before a search: each call that it forbids next, after a cut
     /// and at a list, is next in no legal order that reaches them. An object that leaves this out
@@ -60,7 +59,7 @@ pub trait SeqObject {
     fn find_pruning_rules(&self, alloc: Global, book: &Book) -> Result<PruningRules, NoMemory>
         // What is answered is right: each call that it forbids next, after a cut and at a list, is
         // infeasible there.
-        ensures { IfOk result (ArePruningRules (init self.now) (next self.now) book.now) }
+        ensures { IfOk result (ArePruningRules (spec self.now) book.now) }
     {
         Ok(PruningRules::none(alloc))
     }
@@ -69,7 +68,7 @@ pub trait SeqObject {
     /// it has the reply. An object that leaves this out knows of none.
     fn leaves(&self, op: OpWord, reply: u64) -> bool
         // The answer is `true` only where the operation changes no list at which it has this reply.
-        ensures { IsTrue result → Leaves (next self.now) op reply }
+        ensures { IsTrue result → Leaves (spec self.now).next op reply }
     {
         false
     }
@@ -105,7 +104,7 @@ pub trait SeqObject {
         requires wide { length cut.now ≡ length book.now }
         // Some order reaches the cut and the list, and whatever places continue it make a legal
         // order with it.
-        requires reached { IsReached (init self.now) (next self.now) book.now cut.now words.now }
+        requires reached { IsReached (spec self.now) book.now cut.now words.now }
         // Of all answered calls outside the cut the forced caller's first one has the least view.
         requires forced { IsForced book.now cut.now forced }
         // Exactly those callers are marked whose next calls after the cut may come next.
@@ -114,7 +113,7 @@ pub trait SeqObject {
         ensures fewer { IsMarkedWithin result marks }
         // Where places continue an order from the cut and the list, as many or fewer that begin
         // with the next call of a caller that the answer marks do too.
-        ensures suffice { MarksSuffice book.now (next self.now) cut.now words.now result }
+        ensures suffice { MarksSuffice book.now (spec self.now).next cut.now words.now result }
     {
         marks
     }
@@ -124,19 +123,19 @@ pub trait SeqObject {
     fn decide(&self, alloc: Global, book: &Book) -> Result<Decision, NoMemory>
         // An order in the answer is a legal one of the book, and the answer is `NoOrder` only where
         // the book has none.
-        ensures { IfOk result (IsRightDecision (init self.now) (next self.now) book.now) }
+        ensures { IfOk result (IsRightDecision (spec self.now) book.now) }
     {
         Ok(Decision::Unsaid)
     }
 
     /// The list begins with at most one word.
-    ghost begins_small: { (object : Self) → length (init object) ≤ 1 };
+    ghost begins_small: { (object : Self) → length (spec object).init ≤ 1 };
 
     /// An operation makes the list at most one word longer.
     ghost grows_by_one: { (object : Self) (list : List ℕ) (op : ℕ)
-        → length (next object list op).0 ≤ length list + 1 };
+        → length ((spec object).next list op).0 ≤ length list + 1 };
 
     /// An operation that the object doesn't know doesn't change the list, and its reply is `bad`.
     ghost unknown_is_bad: { (object : Self) (list : List ℕ) (op : ℕ) → is_known object op ≡ false
-        → next object list op ≡ (list, BAD) };
+        → (spec object).next list op ≡ (list, BAD) };
 }

@@ -54,34 +54,34 @@ keeps_each_operation book call valid h =
     (is_the_book_at book (answered book) valid).operations call h
 
 pub has_one_where_the_book_has : HasOneWhereTheBookHas
-has_one_where_the_book_has init next book valid =
+has_one_where_the_book_has spec book valid =
     let part = book_at (answered book) book in
     let at = is_the_book_at book (answered book) valid in (
-      λ (h : HasLegalOrder init next part). (
+      λ (h : HasLegalOrder spec part). (
         h.0,
-        whole_order_is_legal init next book (answered book) part h.0 valid at
+        whole_order_is_legal spec book (answered book) part h.0 valid at
             (record_of-all book part at) h.1,
       ),
-      λ (h : HasLegalOrder init next book).
-          let prefix = some_prefix_is_legal init next book (answered book) part h.0 at h.1 in
+      λ (h : HasLegalOrder spec book).
+          let prefix = some_prefix_is_legal spec book (answered book) part h.0 at h.1 in
           (take prefix.0 h.0, prefix.1),
     )
 
 pub some_prefix_of_larger_is_legal : SomePrefixIsLegal
-some_prefix_of_larger_is_legal init next book smaller larger order valid within legal =
+some_prefix_of_larger_is_legal spec book smaller larger order valid within legal =
     let part = book_at larger book in
-    let found = some_prefix_is_legal init next part smaller (book_at smaller part) order
+    let found = some_prefix_is_legal spec part smaller (book_at smaller part) order
     (is_the_book_at part smaller (stays_valid book larger valid)) legal in (
       found.0,
-      subst (λ (b : List Page). IsLegalOrder init next b (take found.0 order))
+      subst (λ (b : List Page). IsLegalOrder spec b (take found.0 order))
           (is_the_book_at_the_smaller book smaller larger valid within) found.1,
     )
 
 pub smaller_has_one : SmallerHasOne
-smaller_has_one init next book smaller larger valid within h =
-    let found = some_prefix_of_larger_is_legal init next book smaller larger h.0 valid within h.1 in
+smaller_has_one spec book smaller larger valid within h =
+    let found = some_prefix_of_larger_is_legal spec book smaller larger h.0 valid within h.1 in
     (take found.0 h.0, found.1)
 
 pub larger_has_none : LargerHasNone
-larger_has_none init next book smaller larger valid within none h =
-    none (smaller_has_one init next book smaller larger valid within h)
+larger_has_none spec book smaller larger valid within none h =
+    none (smaller_has_one spec book smaller larger valid within h)

@@ -11,6 +11,7 @@ use Rattle.std.proofs.lemmas.List.{take-map}
 use Rattle.book_base.specs.declared.call.Call.{Call}
 use Rattle.book_base.specs.declared.call.Record.{Record}
 use Rattle.book_base.specs.declared.call.Place.{Place}
+use Rattle.book_base.specs.SeqSpec.{SeqSpec}
 use Rattle.book_base.specs.Book.{Page, answers_of, IsCall, IsAnswered, operation_of, record_of, IsValid, Precedes, answered}
 use Rattle.book_base.specs.BookAt.{IsBookAt}
 use Rattle.book_base.specs.Sequential.{IsRunFrom}
@@ -75,11 +76,11 @@ is_answered_in part place = ltb place.number (answers_of part place.caller)
 -- A call that a legal order has at or before a call that is answered at the cut is a call of the
 -- book at the cut, since a call that no view of a record held by the cut holds is preceded by the
 -- answered one.
-call_of_part : (init : List ℕ) (next : List ℕ → ℕ → List ℕ × ℕ) (book : List Page) (cut : List ℕ)
-    (part : List Page) (order : List Place)
-    → IsBookAt book cut part → IsLegalOrder init next book order → (j k : ℕ) (a b : Call) → k ≤ j
-    → StandsAt order j a → IsAnswered part a → StandsAt order k b → IsCall part b
-call_of_part init next book cut part order at legal j k a b le stands known there =
+call_of_part : (spec : SeqSpec) (book : List Page) (cut : List ℕ) (part : List Page)
+    (order : List Place) → IsBookAt book cut part → IsLegalOrder spec book order
+    → (j k : ℕ) (a b : Call) → k ≤ j → StandsAt order j a → IsAnswered part a → StandsAt order k b
+    → IsCall part b
+call_of_part spec book cut part order at legal j k a b le stands known there =
     let found = answer_stands part a known in
     let was = record_from_part book cut part at a found.0 found.1 in
     elim (cases_lt b.number (get_or found.0.view b.caller 0)) [
@@ -94,15 +95,14 @@ call_of_part init next book cut part order at legal j k a b le stands known ther
 
 -- A legal order that ends after the last call that is answered in the book at a cut is a legal
 -- order of that book.
-pub ended_order_is_legal : (init : List ℕ) (next : List ℕ → ℕ → List ℕ × ℕ) (book : List Page)
-    (cut : List ℕ) (part : List Page) (order : List Place) (n : ℕ)
-    → IsBookAt book cut part → IsLegalOrder init next book order
-    → EndsAfterLast (is_answered_in part) order n → IsLegalOrder init next part (take n order)
-ended_order_is_legal init next book cut part order n at legal ends =
+pub ended_order_is_legal : (spec : SeqSpec) (book : List Page) (cut : List ℕ) (part : List Page)
+    (order : List Place) (n : ℕ) → IsBookAt book cut part → IsLegalOrder spec book order
+    → EndsAfterLast (is_answered_in part) order n → IsLegalOrder spec part (take n order)
+ended_order_is_legal spec book cut part order n at legal ends =
     let is_call : (k : ℕ) (call : Call) → StandsAt (take n order) k call → IsCall part call
     = λ (k : ℕ) (call : Call) (s : StandsAt (take n order) k call).
     let last = ends.last k (stands_below order n k call s) in
-    call_of_part init next book cut part order at legal last.0 k (call_at last.1) call last.2
+    call_of_part spec book cut part order at legal last.0 k (call_at last.1) call last.2
     (last.1, last.4, refl)
     (ltb-true last.1.number (answers_of part last.1.caller) last.5)
     (stands_in_whole order n k call s) in
@@ -110,9 +110,9 @@ ended_order_is_legal init next book cut part order n at legal ends =
     = steps_in_part book part (take n order)
     (λ (k : ℕ) (call : Call) (s : StandsAt (take n order) k call).
     at.operations call (is_call k call s)) in
-    let run : IsRunFrom next init (map (step_at book) (take n order))
-    = subst (IsRunFrom next init) (take-map (step_at book) n order)
-    (IsRunFrom-take next init n (map (step_at book) order) legal.run) in
+    let run : IsRunFrom spec.next spec.init (map (step_at book) (take n order))
+    = subst (IsRunFrom spec.next spec.init) (take-map (step_at book) n order)
+    (IsRunFrom-take spec.next spec.init n (map (step_at book) order) legal.run) in
     record {
       calls = is_call;
       once = λ j k call s t.
@@ -131,33 +131,31 @@ ended_order_is_legal init next book cut part order n at legal ends =
           let there : found.0 < n = ends.all found.0 it found.1 (lt-ltb call.number
           (answers_of part call.caller) (slice_get_within _ call.number r known)) in
           (found.0, slice_get-take_within n order found.0 there ∙ found.1);
-      run = subst (IsRunFrom next init) (sym same) run;
+      run = subst (IsRunFrom spec.next spec.init) (sym same) run;
       precedence = λ j k a b s t p.
           legal.precedence j k a b (stands_in_whole order n j a s) (stands_in_whole order n k b t)
           (precedes_from_part book cut part at a b p);
     }
 
 -- Some prefix of a legal order is a legal order of the book at a cut.
-pub some_prefix_is_legal : (init : List ℕ) (next : List ℕ → ℕ → List ℕ × ℕ) (book : List Page)
-    (cut : List ℕ) (part : List Page) (order : List Place)
-    → IsBookAt book cut part → IsLegalOrder init next book order → (n : ℕ)
-    × IsLegalOrder init next part (take n order)
-some_prefix_is_legal init next book cut part order at legal =
+pub some_prefix_is_legal : (spec : SeqSpec) (book : List Page) (cut : List ℕ) (part : List Page)
+    (order : List Place) → IsBookAt book cut part → IsLegalOrder spec book order → (n : ℕ)
+    × IsLegalOrder spec part (take n order)
+some_prefix_is_legal spec book cut part order at legal =
     let found = ends_after_last (is_answered_in part) order in
-    (found.0, ended_order_is_legal init next book cut part order found.0 at legal found.1)
+    (found.0, ended_order_is_legal spec book cut part order found.0 at legal found.1)
 
 -- A legal order of the book at a cut that holds all records is one of the book.
-pub whole_order_is_legal : (init : List ℕ) (next : List ℕ → ℕ → List ℕ × ℕ) (book : List Page)
-    (cut : List ℕ) (part : List Page) (order : List Place)
-    → IsValid book → IsBookAt book cut part
-    → ((call : Call) → record_of part call ≡ record_of book call)
-    → IsLegalOrder init next part order → IsLegalOrder init next book order
-whole_order_is_legal init next book cut part order valid at same legal = record {
+pub whole_order_is_legal : (spec : SeqSpec) (book : List Page) (cut : List ℕ) (part : List Page)
+    (order : List Place) → IsValid book → IsBookAt book cut part
+    → ((call : Call) → record_of part call ≡ record_of book call) → IsLegalOrder spec part order
+    → IsLegalOrder spec book order
+whole_order_is_legal spec book cut part order valid at same legal = record {
   calls = λ k call s. held_is_call book cut call valid ((at.calls call).0 (legal.calls k call s));
   once = legal.once;
   earlier = legal.earlier;
   answered = λ call r known. legal.answered call r (same call ∙ known);
-  run = subst (IsRunFrom next init) (steps_in_part book part order
+  run = subst (IsRunFrom spec.next spec.init) (steps_in_part book part order
       (λ k call s. at.operations call (legal.calls k call s))) legal.run;
   precedence = λ j k a b s t p. legal.precedence j k a b s t (elim p [
     | inl answered ↦ inl (subst (λ o. IsSomeAnd o (λ r. get_or r.view b.caller 0 ≤ b.number))

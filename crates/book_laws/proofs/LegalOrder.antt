@@ -8,6 +8,7 @@ use Rattle.list_laws.proofs.Options.{some_from_is_some_and}
 use Rattle.book_base.specs.declared.call.Call.{Call}
 use Rattle.book_base.specs.declared.call.Record.{Record}
 use Rattle.book_base.specs.declared.call.Place.{Place}
+use Rattle.book_base.specs.SeqSpec.{SeqSpec}
 use Rattle.book_base.specs.Cut.{Holds}
 use Rattle.book_base.specs.Book.{Page, page_of, IsCall, IsAnswered, record_of, Precedes}
 use Rattle.book_base.specs.Sequential.{IsRunFrom}
@@ -429,12 +430,11 @@ continues_from_legal_rest book next cut list (place ∷ rest) wide h =
 
 -- A legal order is a list of places that continue an order from the start: after the cut that holds
 -- no call, from the object's first list on.
-pub legal_order_from_continues : (book : List Page) (init : List ℕ) (next : List ℕ → ℕ → List ℕ × ℕ)
-    (cut : List ℕ) (order : List Place) → length book ≤ length cut
-    → ((i : ℕ) → get_or cut i 0 ≡ 0) → Continues book next cut init order
-    → IsLegalOrder init next book order
-legal_order_from_continues book init next cut order wide zeros h =
-    let whole = legal_rest_from_continues book next cut init order wide h in
+pub legal_order_from_continues : (book : List Page) (spec : SeqSpec) (cut : List ℕ)
+    (order : List Place) → length book ≤ length cut → ((i : ℕ) → get_or cut i 0 ≡ 0)
+    → Continues book spec.next cut spec.init order → IsLegalOrder spec book order
+legal_order_from_continues book spec cut order wide zeros h =
+    let whole = legal_rest_from_continues book spec.next cut spec.init order wide h in
     record {
       calls = whole.calls;
       once = whole.once;
@@ -445,12 +445,11 @@ legal_order_from_continues book init next cut order wide zeros h =
       precedence = whole.precedence;
     }
 
-pub continues_from_legal_order : (book : List Page) (init : List ℕ) (next : List ℕ → ℕ → List ℕ × ℕ)
-    (cut : List ℕ) (order : List Place) → length book ≤ length cut
-    → ((i : ℕ) → get_or cut i 0 ≡ 0) → IsLegalOrder init next book order
-    → Continues book next cut init order
-continues_from_legal_order book init next cut order wide zeros h =
-    continues_from_legal_rest book next cut init order wide (record {
+pub continues_from_legal_order : (book : List Page) (spec : SeqSpec) (cut : List ℕ)
+    (order : List Place) → length book ≤ length cut → ((i : ℕ) → get_or cut i 0 ≡ 0)
+    → IsLegalOrder spec book order → Continues book spec.next cut spec.init order
+continues_from_legal_order book spec cut order wide zeros h =
+    continues_from_legal_rest book spec.next cut spec.init order wide (record {
       calls = h.calls;
       outside = λ k call s. omega (arith, zeros call.caller);
       once = h.once;

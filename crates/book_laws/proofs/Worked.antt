@@ -11,7 +11,7 @@ use Rattle.book_base.specs.BookAt.{book_at}
 use Rattle.book_base.specs.Sequential.{IsRunFrom}
 use Rattle.book_base.specs.Order.{step_at, IsLegalOrder, HasLegalOrder}
 use Rattle.book_base.specs.Next.{next_call, MayStandNext}
-use Rattle.book_laws.specs.Cases.{line_next, answer, stand, overtaken, overtaken_seen, overtaken_early, overtaking, tenfold_next, mistaken}
+use Rattle.book_laws.specs.Cases.{line_next, line_spec, answer, stand, overtaken, overtaken_seen, overtaken_early, overtaking, tenfold_next, tenfold_spec, mistaken}
 use Rattle.book_laws.proofs.LegalOrder.{legal_order_from_continues}
 use Rattle.book_laws.proofs.Precedence.{may_come_next-from_first}
 use Rattle.book_laws.proofs.BookAtLaws.{is_the_book_at, stays_valid, larger_has_none}
@@ -141,8 +141,8 @@ zeros zero = refl
 zeros (suc zero) = refl
 zeros (suc (suc i)) = refl
 
-pub overtaking_is_legal : IsLegalOrder [] line_next overtaken_seen overtaking
-overtaking_is_legal = legal_order_from_continues overtaken_seen [] line_next (0 ∷ 0 ∷ []) overtaking
+pub overtaking_is_legal : IsLegalOrder line_spec overtaken_seen overtaking
+overtaking_is_legal = legal_order_from_continues overtaken_seen line_spec (0 ∷ 0 ∷ []) overtaking
     (omega arith) zeros (
       overtaking_first,
       (
@@ -156,7 +156,7 @@ overtaking_is_legal = legal_order_from_continues overtaken_seen [] line_next (0 
     )
 
 -- The third call of the order isn't in the book at the early cut.
-pub overtaking_is_too_long : IsLegalOrder [] line_next overtaken_early overtaking → ⊥
+pub overtaking_is_too_long : IsLegalOrder line_spec overtaken_early overtaking → ⊥
 overtaking_is_too_long h =
     omega (arith, h.calls 2 (record { caller = 0; number = 1 }) (stand 0 1 6, refl, refl))
 
@@ -168,7 +168,7 @@ no_second zero e =
     absurd (omega (arith, caller))
 no_second (suc k) e = none-some (stand 0 0 0) e
 
-pub one_is_too_short : IsLegalOrder [] line_next overtaken_early (take 1 overtaking) → ⊥
+pub one_is_too_short : IsLegalOrder line_spec overtaken_early (take 1 overtaking) → ⊥
 one_is_too_short h =
     no_second ((h.answered (record { caller = 0; number = 0 }) (answer 0 (1 ∷ 1 ∷ [])) refl).0)
     (h.answered (record { caller = 0; number = 0 }) (answer 0 (1 ∷ 1 ∷ [])) refl).1
@@ -189,9 +189,9 @@ early_lasts : (k : ℕ) → k < 2 → (m : ℕ) × (place : Place) × (k ≤ m) 
     × (ltb place.number (answers_of overtaken_early place.caller) ≡ true)
 early_lasts k h = (1, stand 0 0 0, omega arith, omega arith, refl, refl)
 
-pub overtaking_ends_early : IsLegalOrder [] line_next overtaken_early (take 2 overtaking)
+pub overtaking_ends_early : IsLegalOrder line_spec overtaken_early (take 2 overtaking)
 overtaking_ends_early =
-    ended_order_is_legal [] line_next overtaken_seen (1 ∷ 0 ∷ []) overtaken_early overtaking 2
+    ended_order_is_legal line_spec overtaken_seen (1 ∷ 0 ∷ []) overtaken_early overtaking 2
     (is_the_book_at overtaken_seen (1 ∷ 0 ∷ []) seen_is_valid) overtaking_is_legal
     (record { all = early_ends; last = early_lasts })
 
@@ -248,14 +248,14 @@ tenfold_replies book list (first ∷ rest) zero place run e =
 tenfold_replies book list (first ∷ rest) (suc k) place run e =
     tenfold_replies book list rest k place run.1 e
 
-pub mistaken_first : HasLegalOrder [] tenfold_next (book_at (1 ∷ 0 ∷ []) mistaken) → ⊥
+pub mistaken_first : HasLegalOrder tenfold_spec (book_at (1 ∷ 0 ∷ []) mistaken) → ⊥
 mistaken_first h =
     let found = h.1.answered (record { caller = 0; number = 0 }) (answer 51 (1 ∷ 0 ∷ [])) refl in
     let wrong : 10 * 5 ≡ 51 =
     tenfold_replies (book_at (1 ∷ 0 ∷ []) mistaken) [] h.0 found.0 (stand 0 0 51) h.1.run found.1 in
     absurd (omega (arith, wrong))
 
-pub mistaken_later : HasLegalOrder [] tenfold_next (book_at (1 ∷ 1 ∷ []) mistaken) → ⊥
+pub mistaken_later : HasLegalOrder tenfold_spec (book_at (1 ∷ 1 ∷ []) mistaken) → ⊥
 mistaken_later =
-    larger_has_none [] tenfold_next mistaken (1 ∷ 0 ∷ []) (1 ∷ 1 ∷ []) mistaken_is_valid
+    larger_has_none tenfold_spec mistaken (1 ∷ 0 ∷ []) (1 ∷ 1 ∷ []) mistaken_is_valid
     (within_two 1 0 1 1 (omega arith) (omega arith)) mistaken_first

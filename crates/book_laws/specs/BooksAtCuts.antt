@@ -2,6 +2,7 @@
 use Rattle.std.specs.Prelude.{◌≡◌, ℕ, ◌↔◌, List, length, Some}
 use Rattle.book_base.specs.declared.call.Call.{Call}
 use Rattle.book_base.specs.declared.call.Record.{Record}
+use Rattle.book_base.specs.SeqSpec.{SeqSpec}
 use Rattle.book_base.specs.Cut.{Holds, IsWithin}
 use Rattle.book_base.specs.Book.{Page, IsCall, operation_of, record_of, answered, IsValid}
 use Rattle.book_base.specs.BookAt.{IsBookAt, book_at}
@@ -56,6 +57,6 @@ KeepsEachOperation = (book : List Page) (call : Call) → IsValid book
 
 -- The book at the cut of all records of a book has a legal order exactly where the book has one.
 abbrev pub HasOneWhereTheBookHas : Type 0
-HasOneWhereTheBookHas = (init : List ℕ) (next : List ℕ → ℕ → List ℕ × ℕ) (book : List Page)
+HasOneWhereTheBookHas = (spec : SeqSpec) (book : List Page)
     → IsValid book
-    → HasLegalOrder init next (book_at (answered book) book) ↔ HasLegalOrder init next book
+    → HasLegalOrder spec (book_at (answered book) book) ↔ HasLegalOrder spec book

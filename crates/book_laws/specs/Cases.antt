@@ -2,6 +2,7 @@
 use Rattle.std.specs.Prelude.{ℕ, zero, suc, ◌*◌, List, [], ◌∷◌, ◌++◌}
 use Rattle.book_base.specs.declared.call.Record.{Record}
 use Rattle.book_base.specs.declared.call.Place.{Place}
+use Rattle.book_base.specs.SeqSpec.{SeqSpec}
 use Rattle.book_base.specs.Book.{Page}
 
 -- A queue of numbers above 0: the operation 0 takes the first one, or replies 0 where there is
@@ -10,6 +11,10 @@ abbrev pub line_next : List ℕ → ℕ → List ℕ × ℕ
 line_next [] zero = ([], 0)
 line_next (first ∷ rest) zero = (rest, first)
 line_next list (suc n) = (list ++ suc n ∷ [], 0)
+
+-- That queue, which begins empty.
+abbrev pub line_spec : SeqSpec
+line_spec = record { init = []; next = line_next }
 
 abbrev pub answer : ℕ → List ℕ → Record
 answer reply view = record { reply = reply; view = view }
@@ -44,6 +49,10 @@ overtaking = stand 1 0 0 ∷ stand 0 0 0 ∷ stand 0 1 6 ∷ []
 -- an object that replies ten times the operation, and keeps nothing
 abbrev pub tenfold_next : List ℕ → ℕ → List ℕ × ℕ
 tenfold_next list op = (list, 10 * op)
+
+-- That object, which begins with the empty list.
+abbrev pub tenfold_spec : SeqSpec
+tenfold_spec = record { init = []; next = tenfold_next }
 
 -- A book of the object that replies ten times the operation, in which caller 0 got a wrong reply,
 -- and caller 1 a right one afterwards.

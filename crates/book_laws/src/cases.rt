@@ -5,7 +5,7 @@ ghost use Rattle.book_base.specs.Book.{IsValid};
 ghost use Rattle.book_base.specs.BookAt.{book_at};
 ghost use Rattle.book_base.specs.Order.{IsLegalOrder, HasLegalOrder};
 ghost use Rattle.book_laws.specs.Greatest.{greatest_counts};
-ghost use Rattle.book_laws.specs.Cases.{line_next, caller_page, overtaken, overtaken_seen, overtaken_early, overtaking, tenfold_next, mistaken};
+ghost use Rattle.book_laws.specs.Cases.{line_spec, caller_page, overtaken, overtaken_seen, overtaken_early, overtaking, tenfold_spec, mistaken};
 
 /// The books at three cuts of one book: each has the calls that some view of a record within the
 /// cut holds, whoever's view that is, and whether or not they are answered there.
@@ -26,21 +26,21 @@ pub fn books_at_cuts()
 /// the last call.
 pub fn an_order_ends_early()
     // The whole order is legal for the book at all its records.
-    ensures whole { IsLegalOrder [] line_next overtaken_seen overtaking }
+    ensures whole { IsLegalOrder line_spec overtaken_seen overtaking }
     // The whole order isn't legal for the book at the earlier cut.
-    ensures too_long { ¬ IsLegalOrder [] line_next overtaken_early overtaking }
+    ensures too_long { ¬ IsLegalOrder line_spec overtaken_early overtaking }
     // The first two places of the order are legal for the book at the earlier cut.
-    ensures prefix { IsLegalOrder [] line_next overtaken_early (take 2 overtaking) }
+    ensures prefix { IsLegalOrder line_spec overtaken_early (take 2 overtaking) }
     // The first place of the order alone isn't legal for the book at the earlier cut.
-    ensures too_short { ¬ IsLegalOrder [] line_next overtaken_early (take 1 overtaking) }
+    ensures too_short { ¬ IsLegalOrder line_spec overtaken_early (take 1 overtaking) }
 {}
 
 /// A wrong reply is an error at the cut of its record alone, and so at the larger cut.
 pub fn an_error_stays()
     // The book at the cut of the wrong reply alone has no legal order.
-    ensures first { ¬ HasLegalOrder [] tenfold_next (book_at (1 ∷ 0 ∷ []) mistaken) }
+    ensures first { ¬ HasLegalOrder tenfold_spec (book_at (1 ∷ 0 ∷ []) mistaken) }
     // The book at the larger cut has no legal order.
-    ensures later { ¬ HasLegalOrder [] tenfold_next (book_at (1 ∷ 1 ∷ []) mistaken) }
+    ensures later { ¬ HasLegalOrder tenfold_spec (book_at (1 ∷ 1 ∷ []) mistaken) }
 {}
 
 /// The greatest counts of three cuts are those of the second, and those of no cut are zeros.

@@ -9,7 +9,7 @@ use Rattle.book_base.specs.Order.{HasLegalOrder}
 use Rattle.book_text.specs.BookRules.{IsFirstBookFault}
 use Rattle.book_text.proofs.Readings.{one_book, no_first_fault, one_first_fault}
 use Rattle.seq_objects.specs.declared.kind.Kind.{Kind}
-use Rattle.seq_objects.specs.Objects.{kind_init, kind_next}
+use Rattle.seq_objects.specs.Objects.{kind_spec}
 use Rattle.text_fields.specs.declared.version.Version.TheVariants.{Second}
 use Rattle.book_verdicts.specs.declared.book_verdict.BookVerdict.{BookVerdict}
 use Rattle.book_verdicts.specs.declared.book_verdict.BookVerdict.TheVariants.{Legal, Illegal}
@@ -42,9 +42,9 @@ unfolding IsLegalBook IsIllegalBook
 legal_or_illegal bytes legal illegal =
     let same = one_book Second bytes legal.0 illegal.0 legal.1 illegal.1 legal.2 illegal.2 in
     let by_kind = subst
-    (λ (kind : Kind). HasLegalOrder (kind_init kind) (kind_next kind) legal.1) same.0 legal.3 in
+    (λ (kind : Kind). HasLegalOrder (kind_spec kind) legal.1) same.0 legal.3 in
     illegal.3
-    (subst (λ (book : List Page). HasLegalOrder (kind_init illegal.0) (kind_next illegal.0) book)
+    (subst (λ (book : List Page). HasLegalOrder (kind_spec illegal.0) book)
     same.1 by_kind)
 
 -- a book's text has no first fault

@@ -9,7 +9,7 @@ use Rattle.book_base.specs.declared.fault.ReadFault.TheVariants.{Text, NoMemory}
 use Rattle.book_base.specs.Book.{Page}
 use Rattle.book_base.specs.Order.{IsLegalOrder}
 use Rattle.seq_objects.specs.declared.kind.Kind.{Kind}
-use Rattle.seq_objects.specs.Objects.{kind_init, kind_next}
+use Rattle.seq_objects.specs.Objects.{kind_spec}
 use Rattle.order_check.specs.declared.fault.OrderFault.{OrderFault}
 use Rattle.order_check.specs.Fault.{IsFirstFault}
 use Rattle.order_check.proofs.Faults.{legal_orders_fail_no_test, first_faults_are_one}
@@ -38,24 +38,22 @@ unfolding IsTextOfCertificate
 certificate_or_fault bytes fault h first = no_fault bytes h.0 h.1 h.2 fault h.3 first
 
 pub certificate_is_legal : (bytes : List ℕ) (kind : Kind) (book : List Page) (order : List Place)
-    → IsCertificateText bytes kind book order
-    → IsLegalOrder (kind_init kind) (kind_next kind) book order → IsLegalCertificate bytes
+    → IsCertificateText bytes kind book order → IsLegalOrder (kind_spec kind) book order
+    → IsLegalCertificate bytes
 unfolding IsLegalCertificate
 certificate_is_legal bytes kind book order told legal = (kind, book, order, told, legal)
 
 -- a list with a fault is no legal order
 pub certificate_is_faulty : (bytes : List ℕ) (kind : Kind) (book : List Page) (order : List Place)
     (fault : OrderFault) → IsCertificateText bytes kind book order
-    → IsFirstFault (kind_init kind) (kind_next kind) book order fault
-    → IsFaultyCertificate bytes fault
+    → IsFirstFault (kind_spec kind) book order fault → IsFaultyCertificate bytes fault
 unfolding IsFaultyCertificate
 certificate_is_faulty bytes kind book order fault told first = (
   kind,
   book,
   order,
   told,
-  (λ legal. legal_orders_fail_no_test (kind_init kind)
-      (kind_next kind) book order legal fault first.fails),
+  (λ legal. legal_orders_fail_no_test (kind_spec kind) book order legal fault first.fails),
   first,
 )
 
@@ -66,11 +64,11 @@ unfolding IsLegalCertificate IsFaultyCertificate
 legal_or_faulty bytes fault h k =
     let one = one_certificate bytes h.0 k.0 h.1 k.1 h.2 k.2 h.3 k.3 in
     let by_kind =
-    subst (λ (kind : Kind). IsLegalOrder (kind_init kind) (kind_next kind) h.1 h.2) one.kinds h.4 in
+    subst (λ (kind : Kind). IsLegalOrder (kind_spec kind) h.1 h.2) one.kinds h.4 in
     let by_book =
-    subst (λ (book : List Page). IsLegalOrder (kind_init k.0) (kind_next k.0) book h.2)
+    subst (λ (book : List Page). IsLegalOrder (kind_spec k.0) book h.2)
     one.books by_kind in
-    k.4 (subst (λ (order : List Place). IsLegalOrder (kind_init k.0) (kind_next k.0) k.1 order)
+    k.4 (subst (λ (order : List Place). IsLegalOrder (kind_spec k.0) k.1 order)
     one.orders by_book)
 
 -- a certificate's order has one first fault
@@ -80,14 +78,14 @@ unfolding IsFaultyCertificate
 one_order_fault bytes e f h k =
     let one = one_certificate bytes h.0 k.0 h.1 k.1 h.2 k.2 h.3 k.3 in
     let by_kind = subst
-    (λ (kind : Kind). IsFirstFault (kind_init kind) (kind_next kind) h.1 h.2 e) one.kinds h.5 in
+    (λ (kind : Kind). IsFirstFault (kind_spec kind) h.1 h.2 e) one.kinds h.5 in
     let by_book =
-    subst (λ (book : List Page). IsFirstFault (kind_init k.0) (kind_next k.0) book h.2 e)
+    subst (λ (book : List Page). IsFirstFault (kind_spec k.0) book h.2 e)
     one.books by_kind in
     let by_order =
-    subst (λ (order : List Place). IsFirstFault (kind_init k.0) (kind_next k.0) k.1 order e)
+    subst (λ (order : List Place). IsFirstFault (kind_spec k.0) k.1 order e)
     one.orders by_book in
-    first_faults_are_one (kind_init k.0) (kind_next k.0) k.1 k.2 e f by_order k.5
+    first_faults_are_one (kind_spec k.0) k.1 k.2 e f by_order k.5
 
 -- ---- the answers of `order`
 

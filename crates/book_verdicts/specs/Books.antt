@@ -6,7 +6,7 @@ use Rattle.book_base.specs.Order.{IsLegalOrder, HasLegalOrder}
 use Rattle.book_text.specs.BookRules.{IsBookText}
 use Rattle.certificate_text.specs.CertificateRules.{IsCertificateText}
 use Rattle.seq_objects.specs.declared.kind.Kind.{Kind}
-use Rattle.seq_objects.specs.Objects.{kind_init, kind_next}
+use Rattle.seq_objects.specs.Objects.{kind_spec}
 use Rattle.text_fields.specs.declared.version.Version.TheVariants.{Second}
 use Rattle.book_verdicts.specs.declared.book_verdict.BookVerdict.{BookVerdict}
 use Rattle.book_verdicts.specs.declared.book_verdict.BookVerdict.TheVariants.{Legal, Illegal}
@@ -22,12 +22,12 @@ IsTextOfBook bytes = (kind : Kind) × (book : List Page) × Tells bytes kind boo
 -- the bytes are the text of a book that has a legal order
 unfoldable pub IsLegalBook : List ℕ → Type 0
 IsLegalBook bytes = (kind : Kind) × (book : List Page) × Tells bytes kind book
-    × HasLegalOrder (kind_init kind) (kind_next kind) book
+    × HasLegalOrder (kind_spec kind) book
 
 -- the bytes are the text of a book that has no legal order
 unfoldable pub IsIllegalBook : List ℕ → Type 0
 IsIllegalBook bytes = (kind : Kind) × (book : List Page) × Tells bytes kind book
-    × ¬ (HasLegalOrder (kind_init kind) (kind_next kind) book)
+    × ¬ (HasLegalOrder (kind_spec kind) book)
 
 -- the verdict on the book that the bytes are the text of
 abbrev pub IsBookVerdict : List ℕ → BookVerdict → Type 0
@@ -40,4 +40,4 @@ unfoldable pub Certifies : List ℕ → List ℕ → Type 0
 Certifies bytes text = (kind : Kind) × (book : List Page) × (order : List Place)
     × Tells bytes kind book
     × IsCertificateText text kind book order
-    × IsLegalOrder (kind_init kind) (kind_next kind) book order
+    × IsLegalOrder (kind_spec kind) book order

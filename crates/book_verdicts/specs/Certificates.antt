@@ -8,7 +8,7 @@ use Rattle.certificate_text.specs.CertificateRules.{IsCertificateText}
 use Rattle.order_check.specs.declared.fault.OrderFault.{OrderFault}
 use Rattle.order_check.specs.Fault.{IsFirstFault}
 use Rattle.seq_objects.specs.declared.kind.Kind.{Kind}
-use Rattle.seq_objects.specs.Objects.{kind_init, kind_next}
+use Rattle.seq_objects.specs.Objects.{kind_spec}
 use Rattle.book_verdicts.specs.declared.order_verdict.OrderVerdict.{OrderVerdict}
 use Rattle.book_verdicts.specs.declared.order_verdict.OrderVerdict.TheVariants.{Legal, Faulty}
 
@@ -21,15 +21,15 @@ IsTextOfCertificate bytes = (kind : Kind) × (book : List Page) × (order : List
 unfoldable pub IsLegalCertificate : List ℕ → Type 0
 IsLegalCertificate bytes = (kind : Kind) × (book : List Page) × (order : List Place)
     × IsCertificateText bytes kind book order
-    × IsLegalOrder (kind_init kind) (kind_next kind) book order
+    × IsLegalOrder (kind_spec kind) book order
 
 -- the bytes are the text of a certificate whose list of places is no legal order of its book, and
 -- this is its first fault
 unfoldable pub IsFaultyCertificate : List ℕ → OrderFault → Type 0
 IsFaultyCertificate bytes fault = (kind : Kind) × (book : List Page) × (order : List Place)
     × IsCertificateText bytes kind book order
-    × ¬ (IsLegalOrder (kind_init kind) (kind_next kind) book order)
-    × IsFirstFault (kind_init kind) (kind_next kind) book order fault
+    × ¬ (IsLegalOrder (kind_spec kind) book order)
+    × IsFirstFault (kind_spec kind) book order fault
 
 -- the bytes are the text of a certificate whose list of places is no legal order of its book
 abbrev pub IsIllegalCertificate : List ℕ → Type 0

@@ -24,7 +24,7 @@ use Rattle.seq_objects.specs.Words as words
 use Rattle.seq_objects.specs.Words.{entries, entry_of, is_operation_of, is_known_word}
 use Rattle.seq_objects.specs.Replies.{reply_value}
 use Rattle.seq_objects.specs.Readings.{value_of, shown_value}
-use Rattle.seq_objects.specs.Objects.{kind_next}
+use Rattle.seq_objects.specs.Objects.{kind_next, kind_spec}
 use Rattle.seq_objects.proofs.Reading.{shown_item}
 use Rattle.seq_objects.proofs.Lengths.{order_is_short}
 use Rattle.object_laws.specs.Runs.{does}
@@ -115,26 +115,26 @@ counts_rise steps j k a b v w short run at_a at_b takes_a takes_b shows_a shows_
     )
 
 steps_are_short : (book : List Page) (order : List Place) → IsSmall book
-    → IsLegalOrder (0 ∷ []) (kind_next kinds.Counter) book order
+    → IsLegalOrder (kind_spec kinds.Counter) book order
     → length (steps_of book order) ≤ MAX_CALLERS * MAX_CALLS
 steps_are_short book order small legal = omega (
   arith,
   length-map order (step_at book),
-  order_is_short (0 ∷ []) (kind_next kinds.Counter) book order small legal,
+  order_is_short (kind_spec kinds.Counter) book order small legal,
 )
 
 -- A counter's book where a later call replies a lower count has no legal order.
 pub counted_down : (book : List Page) (v w : ℕ) (one other : Call) → IsSmall book → w < v
     → deal_of counter_reading book one ≡ deals.Took v
     → deal_of counter_reading book other ≡ deals.Took w → Precedes book one other
-    → ¬ HasLegalOrder (0 ∷ []) (kind_next kinds.Counter) book
+    → ¬ HasLegalOrder (kind_spec kinds.Counter) book
 counted_down book v w one other small less takes_v takes_w precedes h =
-    let next = kind_next kinds.Counter in
+    let spec = kind_spec kinds.Counter in
     let order = h.0 in
     let legal = h.1 in
-    let a = answered_step counter_reading (0 ∷ []) next book order legal one (Some v)
+    let a = answered_step counter_reading spec book order legal one (Some v)
     (takes_by_deal counter_reading book one v takes_v) in
-    let b = answered_step counter_reading (0 ∷ []) next book order legal other (Some w)
+    let b = answered_step counter_reading spec book order legal other (Some w)
     (takes_by_deal counter_reading book other w takes_w) in
     let up = counts_rise (steps_of book order) a.0 b.0 a.1 b.1 v w
     (steps_are_short book order small legal) legal.run a.3 b.3 a.4 b.4 a.5 b.5
@@ -145,16 +145,16 @@ counted_down book v w one other small less takes_v takes_w precedes h =
 pub counted_twice : (book : List Page) (v w : ℕ) (one other : Call) → IsSmall book → v ≡ w
     → one ≢ other → deal_of counter_reading book one ≡ deals.Took v
     → deal_of counter_reading book other ≡ deals.Took w
-    → ¬ HasLegalOrder (0 ∷ []) (kind_next kinds.Counter) book
+    → ¬ HasLegalOrder (kind_spec kinds.Counter) book
 counted_twice book v w one other small same apart takes_v takes_w h =
-    let next = kind_next kinds.Counter in
+    let spec = kind_spec kinds.Counter in
     let order = h.0 in
     let legal = h.1 in
     let steps = steps_of book order in
     let short = steps_are_short book order small legal in
-    let a = answered_step counter_reading (0 ∷ []) next book order legal one (Some v)
+    let a = answered_step counter_reading spec book order legal one (Some v)
     (takes_by_deal counter_reading book one v takes_v) in
-    let b = answered_step counter_reading (0 ∷ []) next book order legal other (Some w)
+    let b = answered_step counter_reading spec book order legal other (Some w)
     (takes_by_deal counter_reading book other w takes_w) in
     elim (cases_order a.0 b.0) [
       | inl here ↦
@@ -179,13 +179,13 @@ counted_twice book v w one other small same apart takes_v takes_w h =
 -- legal order.
 pub counted_unseen : (book : List Page) (v : ℕ) (one : Call) → IsSmall book
     → deal_of counter_reading book one ≡ deals.Took v → SeesAtMost book one v
-    → ¬ HasLegalOrder (0 ∷ []) (kind_next kinds.Counter) book
+    → ¬ HasLegalOrder (kind_spec kinds.Counter) book
 counted_unseen book v one small takes few h =
-    let next = kind_next kinds.Counter in
+    let spec = kind_spec kinds.Counter in
     let order = h.0 in
     let legal = h.1 in
     let steps = steps_of book order in
-    let a = answered_step counter_reading (0 ∷ []) next book order legal one (Some v)
+    let a = answered_step counter_reading spec book order legal one (Some v)
     (takes_by_deal counter_reading book one v takes) in
     let inside = slice_get_within steps a.0 a.1 a.3 in
     let r = some_from_is_some_and (record_of book one) (λ s. sum s.view ≤ v) few in
@@ -194,7 +194,7 @@ counted_unseen book v one small takes few h =
     absurd (omega (
       arith,
       most,
-      sees_what_stands_before (0 ∷ []) next book order legal one r.0 r.1 a.0 a.2,
+      sees_what_stands_before spec book order legal one r.0 r.1 a.0 a.2,
       count_at steps a.0 a.1 v (steps_are_short book order small legal) legal.run a.3
           (is_inc a.1.0 a.4) a.5,
       count_by-le-length (does words.inc) (take a.0 steps),

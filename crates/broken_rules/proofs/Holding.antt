@@ -2,6 +2,7 @@
 use Rattle.std.proofs.Common.{◌≡◌, ◌⊎◌, ℕ, suc, ◌<◌, ◌≤◌, List, [], take, Some, None, ap, inl, inr, arith}
 use Rattle.std.proofs.lemmas.Option.{slice_get_within}
 use Rattle.book_base.specs.declared.call.Call.{Call}
+use Rattle.book_base.specs.SeqSpec.{SeqSpec}
 use Rattle.book_base.specs.Book.{Page, page_of, IsCall, Precedes}
 use Rattle.book_base.specs.Order.{HasLegalOrder}
 use Rattle.book_base.proofs.ReachingLemmas.{preceding_comes_first}
@@ -16,25 +17,26 @@ use Rattle.container_pruning.proofs.Dealing.{puts_by_deal, deal_of_put, takes_by
 use Rattle.broken_rules.proofs.Searching.{cases_call}
 use Rattle.broken_rules.proofs.Standing.{taker_of_step, putter_of_step}
 
-module _ (reading : Reading) (init : List ℕ) (next : List ℕ → ℕ → List ℕ × ℕ) (book : List Page)
-    (is : IsContainer reading next) (none : reading.values init ≡ []) where
+module _ (reading : Reading) (spec : SeqSpec) (book : List Page)
+    (is : IsContainer reading spec.next) (none : reading.values spec.init ≡ []) where
   -- A value that is taken is put in by a call that comes before: not each of its puts comes after
   -- the take.
   pub taken_unput : (v : ℕ) (taker : Call) → deal_of reading book taker ≡ deals.Took v
       → ((call : Call) → IsCall book call → deal_of reading book call ≡ deals.Put v
-      → Precedes book taker call) → ¬ HasLegalOrder init next book
+      → Precedes book taker call) → ¬ HasLegalOrder spec book
   taken_unput v taker takes follow h =
       let order = h.0 in
       let legal = h.1 in
       let steps = steps_of book order in
-      let m = answered_step reading init next book order legal taker (Some v)
+      let m = answered_step reading spec book order legal taker (Some v)
       (takes_by_deal reading book taker v takes) in
       let more = how_often-more (taken_by reading) v steps m.0 (suc m.0) m.1 m.3
       (takes_by reading m.1 v m.4 m.5) (omega arith) in
       let found = how_often-found (put_by reading) v steps (suc m.0)
-      (omega (arith, more, held_after reading next is v init steps legal.run none (suc m.0))) in
+      (omega
+      (arith, more, held_after reading spec.next is v spec.init steps legal.run none (suc m.0))) in
       let putter =
-      putter_of_step reading init next book order legal found.0 v found.1 found.3 found.4 in
+      putter_of_step reading spec book order legal found.0 v found.1 found.3 found.4 in
       let late : m.0 < found.0 = legal.precedence m.0 found.0 taker putter.0 m.2 putter.1
       (follow putter.0 putter.2 putter.3) in
       absurd (omega (arith, late, found.2))
@@ -44,7 +46,7 @@ module _ (reading : Reading) (init : List ℕ) (next : List ℕ → ℕ → List
       → deal_of reading book taker ≡ deals.Took v
       → ((call : Call) → IsCall book call → deal_of reading book call ≡ deals.Put v → call ≡ put)
       → (((call : Call) → IsCall book call → deal_of reading book call ≡ deals.Took v
-      → call ≡ taker) → ⊥) → ¬ HasLegalOrder init next book
+      → call ≡ taker) → ⊥) → ¬ HasLegalOrder spec book
   taken_twice v put taker puts takes only another h =
       let alone : PutsInAlone reading book put v
       = (
@@ -55,7 +57,7 @@ module _ (reading : Reading) (init : List ℕ) (next : List ℕ → ℕ → List
       another (λ call made takes_too. elim (cases_call call taker) [
         | inl same ↦ same
         | inr apart ↦
-            absurd (taken_once reading init next book is none v call taker put apart (takes_by_deal
+            absurd (taken_once reading spec book is none v call taker put apart (takes_by_deal
             reading book call v takes_too) (takes_by_deal reading book taker v takes) alone h)
       ])
 
@@ -65,29 +67,30 @@ module _ (reading : Reading) (init : List ℕ) (next : List ℕ → ℕ → List
       → deal_of reading book empty ≡ deals.FoundNothing → Precedes book put empty
       → ((call : Call) → IsCall book call → (deal_of reading book call ≡ deals.Took v)
       ⊎ (deal_of reading book call ≡ deals.OpenTake) → Precedes book empty call)
-      → ¬ HasLegalOrder init next book
+      → ¬ HasLegalOrder spec book
   found_nothing v put empty puts finds precedes follow h =
       let order = h.0 in
       let legal = h.1 in
       let steps = steps_of book order in
-      let e = answered_step reading init next book order legal empty None
+      let e = answered_step reading spec book order legal empty None
       (nothing_by_deal reading book empty finds) in
-      let q = preceding_comes_first init next book put empty precedes order legal e.0 e.2 in
+      let q = preceding_comes_first spec book put empty precedes order legal e.0 e.2 in
       let step =
       putting_step reading book order put v q.0 (puts_by_deal reading book put v puts) q.2 in
-      let nothing = (take_at reading next is init steps legal.run e.0 e.1 None e.3 e.4 e.5).0 in
+      let nothing =
+      (take_at reading spec.next is spec.init steps legal.run e.0 e.1 None e.3 e.4 e.5).0 in
       let more = how_often-more (put_by reading) v steps q.0 e.0 step.0 step.1
       (puts_by reading step.0 v step.2) q.1 in
       let early : 1 ≤ how_often (taken_by reading) v (take e.0 steps)
       = omega (
         arith,
-        held_after reading next is v init steps legal.run none e.0,
+        held_after reading spec.next is v spec.init steps legal.run none e.0,
         ap (times v) nothing,
         more,
       ) in
       let found = how_often-found (taken_by reading) v steps e.0 early in
       let taker =
-      taker_of_step reading init next book order legal found.0 v found.1 found.3 found.4 in
+      taker_of_step reading spec book order legal found.0 v found.1 found.3 found.4 in
       let late : e.0 < found.0 =
       legal.precedence e.0 found.0 empty taker.0 e.2 taker.1 (follow taker.0 taker.2 taker.3) in
       absurd (omega (arith, late, found.2))

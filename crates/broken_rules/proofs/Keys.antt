@@ -6,6 +6,7 @@ use Rattle.list_laws.proofs.Options.{cases_Option}
 use Rattle.book_base.specs.declared.call.Call.{Call}
 use Rattle.book_base.specs.declared.call.Place.{Place}
 use Rattle.book_base.specs.declared.call.Record.{Record}
+use Rattle.book_base.specs.SeqSpec.{spec_from}
 use Rattle.book_base.specs.Book.{Page, IsCall, operation_of, record_of, Precedes}
 use Rattle.book_base.specs.Order.{call_at, StandsAt, step_at, IsLegalOrder, HasLegalOrder}
 use Rattle.book_base.specs.PruningRules.{list_after_run}
@@ -50,7 +51,7 @@ module _ (kind : Kind) (key : ℕ → Option ℕ) (part : ℕ → List ℕ → L
       ∙ is.lacks word k same
 
   -- until a put of a key comes in a legal order, no item has the key
-  lacks_key : (order : List Place) → IsLegalOrder [] next book order
+  lacks_key : (order : List Place) → IsLegalOrder (spec_from [] next) book order
       → (k m : ℕ) → ((j : ℕ) (call : Call) → StandsAt order j call → IsCall book call
       → deal_by_key kind book call ≡ deals.Put k → m < j)
       → (n : ℕ) → n ≤ m → n ≤ length (steps_of book order)
@@ -89,7 +90,8 @@ module _ (kind : Kind) (key : ℕ → Option ℕ) (part : ℕ → List ℕ → L
                     | inl none ↦ ap (has_found kind word) none
                     | inr answer ↦
                         ap (has_found kind word) answer.1
-                        ∙ (ap (finds_key kind word) (reply_of_place [] next book order legal n
+                        ∙ (ap (finds_key kind word)
+                        (reply_of_place (spec_from [] next) book order legal n
                         place.0 place.1 answer.0 answer.1) ∙ lacking)
                   ] in
                   let keyed : key_of_word kind word ≡ Some k =
@@ -106,7 +108,7 @@ module _ (kind : Kind) (key : ℕ → Option ℕ) (part : ℕ → List ℕ → L
   -- A key that is found is put in by a call that comes before: not each of its puts comes after.
   pub found_unput : (k : ℕ) (finder : Call) → deal_by_key kind book finder ≡ deals.Took k
       → ((call : Call) → IsCall book call → deal_by_key kind book call ≡ deals.Put k
-      → Precedes book finder call) → ¬ HasLegalOrder [] next book
+      → Precedes book finder call) → ¬ HasLegalOrder (spec_from [] next) book
   found_unput k finder finds follow h =
       let order = h.0 in
       let legal = h.1 in

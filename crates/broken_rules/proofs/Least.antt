@@ -21,7 +21,7 @@ use Rattle.seq_objects.specs.Items.{first_taken, place_for}
 use Rattle.seq_objects.specs.PqueueSteps.{pqueue_operation, pqueue_after}
 use Rattle.seq_objects.specs.Readings.{value_of, shown_value}
 use Rattle.seq_objects.specs.PqueueReading.{pqueue_deed, pqueue_reading}
-use Rattle.seq_objects.specs.Objects.{kind_next}
+use Rattle.seq_objects.specs.Objects.{kind_next, kind_spec}
 use Rattle.seq_objects.proofs.Reading.{shown_item}
 use Rattle.object_laws.specs.Removals as removals
 use Rattle.object_laws.proofs.Rising.{after_insert, after_min, after_other, mins_give_the_least}
@@ -193,19 +193,18 @@ min_is_least steps m step v w run at takes shows more =
 -- after.
 pub lesser_left : (book : List Page) (v w : ℕ) (put taker : Call) → v < w
     → deal_of pqueue_reading book put ≡ deals.Put v
-    → deal_of pqueue_reading book taker ≡ deals.Took w
-    → Precedes book put taker
+    → deal_of pqueue_reading book taker ≡ deals.Took w → Precedes book put taker
     → ((call : Call) → IsCall book call → (deal_of pqueue_reading book call ≡ deals.Took v)
     ⊎ (deal_of pqueue_reading book call ≡ deals.OpenTake) → Precedes book taker call)
-    → ¬ HasLegalOrder [] (kind_next kinds.Pqueue) book
+    → ¬ HasLegalOrder (kind_spec kinds.Pqueue) book
 lesser_left book v w put taker less puts takes precedes follow h =
-    let kind = kind_next kinds.Pqueue in
+    let spec = kind_spec kinds.Pqueue in
     let order = h.0 in
     let legal = h.1 in
     let steps = steps_of book order in
-    let m = answered_step pqueue_reading [] kind book order legal taker (Some w)
+    let m = answered_step pqueue_reading spec book order legal taker (Some w)
     (takes_by_deal pqueue_reading book taker w takes) in
-    let q = preceding_comes_first [] kind book put taker precedes order legal m.0 m.2 in
+    let q = preceding_comes_first spec book put taker precedes order legal m.0 m.2 in
     let step = putting_step pqueue_reading book order put v q.0
     (puts_by_deal pqueue_reading book put v puts) q.2 in
     let in_before : 1 ≤ how_often (put_by pqueue_reading) v (take m.0 steps)
@@ -220,7 +219,7 @@ lesser_left book v w put taker less puts takes precedes follow h =
       | inr some ↦
           let found = how_often-found (taken_by pqueue_reading) v steps m.0 some in
           let other =
-          taker_of_step pqueue_reading [] kind book order legal found.0 v found.1 found.3 found.4 in
+          taker_of_step pqueue_reading spec book order legal found.0 v found.1 found.3 found.4 in
           let late : m.0 < found.0 =
           legal.precedence m.0 found.0 taker other.0 m.2 other.1 (follow other.0 other.2 other.3) in
           absurd (omega (arith, late, found.2))

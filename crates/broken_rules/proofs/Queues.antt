@@ -4,6 +4,7 @@ use Rattle.std.proofs.lemmas.Bool.{cases_lt}
 use Rattle.std.proofs.lemmas.Option.{slice_get_within}
 use Rattle.list_laws.proofs.Prefixes.{slice_get-append_within}
 use Rattle.book_base.specs.declared.call.Call.{Call}
+use Rattle.book_base.specs.SeqSpec.{SeqSpec}
 use Rattle.book_base.specs.Book.{Page, IsCall, Precedes}
 use Rattle.book_base.specs.Sequential.{IsRunFrom}
 use Rattle.book_base.specs.Order.{HasLegalOrder}
@@ -68,31 +69,30 @@ queue_prefix reading next is list steps run empty b m step_m at_m is_m =
 
 -- A value that is put in before each put of another one is taken before that one: not each of its
 -- takes comes after that one's.
-pub passed_over : (reading : Reading) (init : List ℕ) (next : List ℕ → ℕ → List ℕ × ℕ)
-    (book : List Page) → IsQueue reading next → reading.values init ≡ []
-    → (v w : ℕ) (put taker : Call) → deal_of reading book put ≡ deals.Put v
-    → deal_of reading book taker ≡ deals.Took w
+pub passed_over : (reading : Reading) (spec : SeqSpec) (book : List Page)
+    → IsQueue reading spec.next → reading.values spec.init ≡ [] → (v w : ℕ) (put taker : Call)
+    → deal_of reading book put ≡ deals.Put v → deal_of reading book taker ≡ deals.Took w
     → ((call : Call) → IsCall book call → deal_of reading book call ≡ deals.Put w
     → Precedes book put call)
     → ((call : Call) → IsCall book call → (deal_of reading book call ≡ deals.Took v)
     ⊎ (deal_of reading book call ≡ deals.OpenTake) → Precedes book taker call)
-    → ¬ HasLegalOrder init next book
-passed_over reading init next book is none v w put taker puts takes later follow h =
+    → ¬ HasLegalOrder spec book
+passed_over reading spec book is none v w put taker puts takes later follow h =
     let order = h.0 in
     let legal = h.1 in
     let steps = steps_of book order in
-    let m = answered_step reading init next book order legal taker (Some w)
+    let m = answered_step reading spec book order legal taker (Some w)
     (takes_by_deal reading book taker w takes) in
-    let prefix = queue_prefix reading next is init steps legal.run none w m.0 m.1 m.3
+    let prefix = queue_prefix reading spec.next is spec.init steps legal.run none w m.0 m.1 m.3
     (takes_by reading m.1 w m.4 m.5) in
     let putter =
-    putter_of_step reading init next book order legal prefix.0 w prefix.1 prefix.2 prefix.3 in
-    let q = preceding_comes_first init next book put putter.0
+    putter_of_step reading spec book order legal prefix.0 w prefix.1 prefix.2 prefix.3 in
+    let q = preceding_comes_first spec book put putter.0
     (later putter.0 putter.2 putter.3) order legal prefix.0 putter.1 in
     let step =
     putting_step reading book order put v q.0 (puts_by_deal reading book put v puts) q.2 in
     let out = prefix.4 v q.0 step.0 q.1 step.1 (puts_by reading step.0 v step.2) in
-    let other = taker_of_step reading init next book order legal out.0 v out.1 out.3 out.4 in
+    let other = taker_of_step reading spec book order legal out.0 v out.1 out.3 out.4 in
     let late : m.0 < out.0 =
     legal.precedence m.0 out.0 taker other.0 m.2 other.1 (follow other.0 other.2 other.3) in
     absurd (omega (arith, late, out.2))

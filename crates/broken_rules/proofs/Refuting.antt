@@ -16,7 +16,7 @@ use Rattle.seq_objects.specs.Readings.{queue_reading, stack_reading}
 use Rattle.seq_objects.specs.PqueueReading.{pqueue_reading}
 use Rattle.seq_objects.specs.RegisterReading.{held_in, register_reading}
 use Rattle.seq_objects.specs.Keys.{set_key, set_part, map_key, map_part}
-use Rattle.seq_objects.specs.Objects.{kind_init, kind_next}
+use Rattle.seq_objects.specs.Objects.{kind_init, kind_next, kind_spec}
 use Rattle.seq_objects.proofs.Reading.{queue_is_read, stack_is_read}
 use Rattle.seq_objects.proofs.HoldsLast.{register_holds_last}
 use Rattle.broken_rules.specs.declared.rule.BrokenRule.{BrokenRule}
@@ -121,12 +121,12 @@ moved kind other book broken same breaks = subst (λ (k : Kind). Breaks k book b
 module _ (book : List Page) (small : IsSmall book) (first second : Call) where
   refuted : (rule : Rule) (kind : Kind)
       → Breaks kind book (record { rule = rule; first = first; second = second })
-      → ¬ HasLegalOrder (kind_init kind) (kind_next kind) book
+      → ¬ HasLegalOrder (kind_spec kind) book
   refuted named.TakenUnput kind breaks =
       let holds = containers kind breaks.kept in
       let read = did_by_reading kind book breaks.kept in
       let d : Deal = did kind book first in
-      taken_unput (reading_of kind) (kind_init kind) (kind_next kind) book holds.0 holds.1
+      taken_unput (reading_of kind) (kind_spec kind) book holds.0 holds.1
       (value_by d) first (sym (read first) ∙ take_is d breaks.fit)
       (λ call made puts. breaks.puts call made (read call ∙ puts))
   refuted named.TakenTwice kind breaks =
@@ -137,7 +137,7 @@ module _ (book : List Page) (small : IsSmall book) (first second : Call) where
       let parts = and_parts (is_put d && is_take e) (value_by d == value_by e) breaks.fit in
       let two = two_parts d e parts.0 in
       let same : value_by d ≡ value_by e = eqb-true (value_by d) (value_by e) parts.1 in
-      taken_twice (reading_of kind) (kind_init kind) (kind_next kind) book holds.0 holds.1
+      taken_twice (reading_of kind) (kind_spec kind) book holds.0 holds.1
       (value_by e) first second
       (sym (read first) ∙ subst (λ (v : ℕ). d ≡ deals.Put v) same two.0)
       (sym (read second) ∙ two.1)
@@ -151,7 +151,7 @@ module _ (book : List Page) (small : IsSmall book) (first second : Call) where
       let d : Deal = did kind book first in
       let e : Deal = did kind book second in
       let parts = and_parts (is_put d) (is_nothing e) breaks.fit in
-      found_nothing (reading_of kind) (kind_init kind) (kind_next kind) book holds.0 holds.1
+      found_nothing (reading_of kind) (kind_spec kind) book holds.0 holds.1
       (value_by d) first second (sym (read first) ∙ put_of d parts.0)
       (sym (read second) ∙ nothing_is e parts.1) breaks.related
       (λ call made takes. breaks.takes call made (elim takes [
@@ -165,8 +165,8 @@ module _ (book : List Page) (small : IsSmall book) (first second : Call) where
       let d : Deal = did kinds.Queue book first in
       let e : Deal = did kinds.Queue book second in
       let two = two_parts d e here.fit in
-      subst (λ (k : Kind). ¬ HasLegalOrder (kind_init k) (kind_next k) book) (sym is)
-      (passed_over queue_reading [] (kind_next kinds.Queue) book queue_is refl (value_by d)
+      subst (λ (k : Kind). ¬ HasLegalOrder (kind_spec k) book) (sym is)
+      (passed_over queue_reading (kind_spec kinds.Queue) book queue_is refl (value_by d)
       (value_by e) first second two.0 two.1 here.puts here.takes)
   refuted named.TakenFromUnder kind breaks =
       let is : kind ≡ kinds.Stack = only_stack kind breaks.kept in
@@ -175,8 +175,8 @@ module _ (book : List Page) (small : IsSmall book) (first second : Call) where
       let d : Deal = did kinds.Stack book first in
       let e : Deal = did kinds.Stack book second in
       let two = two_parts d e here.fit in
-      subst (λ (k : Kind). ¬ HasLegalOrder (kind_init k) (kind_next k) book) (sym is)
-      (taken_from_under stack_reading [] (kind_next kinds.Stack) book stack_is (value_by d)
+      subst (λ (k : Kind). ¬ HasLegalOrder (kind_spec k) book) (sym is)
+      (taken_from_under stack_reading (kind_spec kinds.Stack) book stack_is (value_by d)
       (value_by e) first second two.0 two.1 here.related here.puts here.takes)
   refuted named.LesserLeft kind breaks =
       let is : kind ≡ kinds.Pqueue = only_pqueue kind breaks.kept in
@@ -186,7 +186,7 @@ module _ (book : List Page) (small : IsSmall book) (first second : Call) where
       let e : Deal = did kinds.Pqueue book second in
       let parts = and_parts (is_put d && is_take e) (nat_lt (value_by d) (value_by e)) here.fit in
       let two = two_parts d e parts.0 in
-      subst (λ (k : Kind). ¬ HasLegalOrder (kind_init k) (kind_next k) book) (sym is)
+      subst (λ (k : Kind). ¬ HasLegalOrder (kind_spec k) book) (sym is)
       (lesser_left book (value_by d) (value_by e) first second
       (ltb-true (value_by d) (value_by e) parts.1) two.0 two.1 here.related here.takes)
   refuted named.CountedUnseen kind breaks =
@@ -194,7 +194,7 @@ module _ (book : List Page) (small : IsSmall book) (first second : Call) where
       let here = moved kind kinds.Counter book
       (record { rule = named.CountedUnseen; first = first; second = second }) is breaks in
       let d : Deal = did kinds.Counter book first in
-      subst (λ (k : Kind). ¬ HasLegalOrder (kind_init k) (kind_next k) book) (sym is)
+      subst (λ (k : Kind). ¬ HasLegalOrder (kind_spec k) book) (sym is)
       (counted_unseen book (value_by d) first small (take_is d here.fit) here.related.1)
   refuted named.CountedTwice kind breaks =
       let is : kind ≡ kinds.Counter = only_counter kind breaks.kept in
@@ -204,7 +204,7 @@ module _ (book : List Page) (small : IsSmall book) (first second : Call) where
       let e : Deal = did kinds.Counter book second in
       let parts = and_parts (is_take d && is_take e) (value_by d == value_by e) here.fit in
       let two = two_takes d e parts.0 in
-      subst (λ (k : Kind). ¬ HasLegalOrder (kind_init k) (kind_next k) book) (sym is)
+      subst (λ (k : Kind). ¬ HasLegalOrder (kind_spec k) book) (sym is)
       (counted_twice book (value_by d) (value_by e) first second small
       (eqb-true (value_by d) (value_by e) parts.1) here.related two.0 two.1)
   refuted named.CountedDown kind breaks =
@@ -215,7 +215,7 @@ module _ (book : List Page) (small : IsSmall book) (first second : Call) where
       let e : Deal = did kinds.Counter book second in
       let parts = and_parts (is_take d && is_take e) (nat_lt (value_by e) (value_by d)) here.fit in
       let two = two_takes d e parts.0 in
-      subst (λ (k : Kind). ¬ HasLegalOrder (kind_init k) (kind_next k) book) (sym is)
+      subst (λ (k : Kind). ¬ HasLegalOrder (kind_spec k) book) (sym is)
       (counted_down book (value_by d) (value_by e) first second small
       (ltb-true (value_by e) (value_by d) parts.1) two.0 two.1 here.related)
   refuted named.ReadUnwritten kind breaks =
@@ -224,7 +224,7 @@ module _ (book : List Page) (small : IsSmall book) (first second : Call) where
       (record { rule = named.ReadUnwritten; first = first; second = second }) is breaks in
       let d : Deal = did kinds.Register book first in
       let parts = and_parts (is_take d) (not (value_by d == 0)) here.fit in
-      subst (λ (k : Kind). ¬ HasLegalOrder (kind_init k) (kind_next k) book) (sym is)
+      subst (λ (k : Kind). ¬ HasLegalOrder (kind_spec k) book) (sym is)
       (read_unwritten register_reading held_in (0 ∷ []) (kind_next kinds.Register) book register_is
       (value_by d) first
       (eqb-false (value_by d) 0 (not-true (value_by d == 0) parts.1)) (take_is d parts.0) here.puts)
@@ -235,7 +235,7 @@ module _ (book : List Page) (small : IsSmall book) (first second : Call) where
       let d : Deal = did kinds.Register book first in
       let e : Deal = did kinds.Register book second in
       let two = two_parts d e here.fit in
-      subst (λ (k : Kind). ¬ HasLegalOrder (kind_init k) (kind_next k) book) (sym is)
+      subst (λ (k : Kind). ¬ HasLegalOrder (kind_spec k) book) (sym is)
       (read_overwritten register_reading held_in (0 ∷ []) (kind_next kinds.Register) book
       register_is (value_by d) (value_by e) first second two.0 two.1 here.related here.puts)
   refuted named.FoundUnput kind breaks = elim (set_or_map kind breaks.kept) [
@@ -243,14 +243,14 @@ module _ (book : List Page) (small : IsSmall book) (first second : Call) where
         let here = moved kind kinds.IntSet book
         (record { rule = named.FoundUnput; first = first; second = second }) is breaks in
         let d : Deal = did kinds.IntSet book first in
-        subst (λ (k : Kind). ¬ HasLegalOrder (kind_init k) (kind_next k) book) (sym is)
+        subst (λ (k : Kind). ¬ HasLegalOrder (kind_spec k) book) (sym is)
         (found_unput kinds.IntSet set_key set_part (kind_next kinds.IntSet) book
         set_finds_what_is_put (value_by d) first (take_is d here.fit) here.puts)
     | inr is ↦
         let here = moved kind kinds.Map book
         (record { rule = named.FoundUnput; first = first; second = second }) is breaks in
         let d : Deal = did kinds.Map book first in
-        subst (λ (k : Kind). ¬ HasLegalOrder (kind_init k) (kind_next k) book) (sym is)
+        subst (λ (k : Kind). ¬ HasLegalOrder (kind_spec k) book) (sym is)
         (found_unput kinds.Map map_key map_part (kind_next kinds.Map) book
         map_finds_what_is_put (value_by d) first (take_is d here.fit) here.puts)
   ]

@@ -10,6 +10,7 @@ use Rattle.list_laws.proofs.Pigeonhole.{pigeonhole}
 use Rattle.book_base.specs.declared.call.Call.{Call}
 use Rattle.book_base.specs.declared.call.Place.{Place}
 use Rattle.book_base.specs.declared.call.Record.{Record}
+use Rattle.book_base.specs.SeqSpec.{SeqSpec}
 use Rattle.book_base.specs.Cut.{Holds}
 use Rattle.book_base.specs.Book.{Page, record_of, Precedes}
 use Rattle.book_base.specs.Order.{call_at, StandsAt, IsLegalOrder}
@@ -70,11 +71,10 @@ IsNumbered order view k code = (call : Call) × StandsAt order k call × Holds v
     × (sum (take call.caller view) + call.number ≡ code)
 
 -- At most as many other calls come before a call in a legal order as its view holds.
-pub sees_what_stands_before : (init : List ℕ) (next : List ℕ → ℕ → List ℕ × ℕ) (book : List Page)
-    (order : List Place) → IsLegalOrder init next book order
-    → (call : Call) (r : Record) → record_of book call ≡ Some r → (m : ℕ) → StandsAt order m call
-    → m < sum r.view
-sees_what_stands_before init next book order legal one r answered m stands =
+pub sees_what_stands_before : (spec : SeqSpec) (book : List Page) (order : List Place)
+    → IsLegalOrder spec book order → (call : Call) (r : Record) → record_of book call ≡ Some r
+    → (m : ℕ) → StandsAt order m call → m < sum r.view
+sees_what_stands_before spec book order legal one r answered m stands =
     let view : List ℕ = r.view in
     let here : m < length order = slice_get_within order m stands.0 stands.1 in
     let most : suc m ≤ sum view = pigeonhole (IsNumbered order view) (suc m) (sum view)

@@ -3,6 +3,7 @@ use Rattle.std.proofs.Common.{◌≡◌, ◌⊎◌, ◌∙◌, ℕ, zero, suc, �
 use Rattle.std.proofs.lemmas.Bool.{eq-eqb}
 use Rattle.std.proofs.lemmas.Option.{slice_get-get_or, slice_get_within}
 use Rattle.book_base.specs.declared.call.Call.{Call}
+use Rattle.book_base.specs.SeqSpec.{SeqSpec}
 use Rattle.book_base.specs.Book.{Page, IsCall, Precedes}
 use Rattle.book_base.specs.Sequential.{IsRunFrom}
 use Rattle.book_base.specs.Order.{HasLegalOrder}
@@ -95,28 +96,27 @@ top_is w v (u ∷ above) below after e none = let same : u ≡ w = cc in
 
 -- A value that is put in before a take of another one is taken before this take, where that other
 -- value isn't put in between: not each of its takes comes after.
-pub taken_from_under : (reading : Reading) (init : List ℕ) (next : List ℕ → ℕ → List ℕ × ℕ)
-    (book : List Page) → IsStack reading next
-    → (v w : ℕ) (put taker : Call) → deal_of reading book put ≡ deals.Put v
-    → deal_of reading book taker ≡ deals.Took w → Precedes book put taker
-    → ((call : Call) → IsCall book call → deal_of reading book call ≡ deals.Put w
-    → Precedes book call put ⊎ Precedes book taker call)
+pub taken_from_under : (reading : Reading) (spec : SeqSpec) (book : List Page)
+    → IsStack reading spec.next → (v w : ℕ) (put taker : Call)
+    → deal_of reading book put ≡ deals.Put v → deal_of reading book taker ≡ deals.Took w
+    → Precedes book put taker → ((call : Call) → IsCall book call
+    → deal_of reading book call ≡ deals.Put w → Precedes book call put ⊎ Precedes book taker call)
     → ((call : Call) → IsCall book call → (deal_of reading book call ≡ deals.Took v)
     ⊎ (deal_of reading book call ≡ deals.OpenTake) → Precedes book taker call)
-    → ¬ HasLegalOrder init next book
-taken_from_under reading init next book is v w put taker puts takes precedes outside follow h =
+    → ¬ HasLegalOrder spec book
+taken_from_under reading spec book is v w put taker puts takes precedes outside follow h =
     let order = h.0 in
     let legal = h.1 in
     let steps = steps_of book order in
-    let m = answered_step reading init next book order legal taker (Some w)
+    let m = answered_step reading spec book order legal taker (Some w)
     (takes_by_deal reading book taker w takes) in
-    let q = preceding_comes_first init next book put taker precedes order legal m.0 m.2 in
+    let q = preceding_comes_first spec book put taker precedes order legal m.0 m.2 in
     let step_q =
     putting_step reading book order put v q.0 (puts_by_deal reading book put v puts) q.2 in
     let no_put : (k : ℕ) (step : ℕ × ℕ) → q.0 ≤ k → k ≤ m.0 → slice_get steps k ≡ Some step
     → put_by reading step ≡ Some w → ⊥
     = λ k step low high at is_put.
-    (let putter = putter_of_step reading init next book order legal k w step at is_put in
+    (let putter = putter_of_step reading spec book order legal k w step at is_put in
     elim (outside putter.0 putter.2 putter.3) [
       | inl before ↦ (let lt : k < q.0 = legal.precedence k q.0 putter.0 put putter.1 q.2 before in
           absurd (omega (arith, lt, low)))
@@ -126,31 +126,33 @@ taken_from_under reading init next book is v w put taker puts takes precedes out
     let no_take : (k : ℕ) (step : ℕ × ℕ) → k ≤ m.0 → slice_get steps k ≡ Some step
     → taken_by reading step ≡ Some v → ⊥
     = λ k step high at takes_v.
-    (let other = taker_of_step reading init next book order legal k v step at takes_v in
+    (let other = taker_of_step reading spec book order legal k v step at takes_v in
     let lt : m.0 < k =
     legal.precedence m.0 k taker other.0 m.2 other.1 (follow other.0 other.2 other.3) in
     absurd (omega (arith, lt, high))) in
-    let below : List ℕ = reading.values (list_after_run next init (take q.0 steps)) in
-    let top : reading.values (list_after_run next init (take (suc q.0) steps)) ≡ v ∷ below
-    = ap reading.values (step_of_run next init steps q.0 step_q.0 legal.run step_q.1).1
-    ∙ is.put (list_after_run next init (take q.0 steps)) step_q.0.0 v step_q.2 in
+    let below : List ℕ = reading.values (list_after_run spec.next spec.init (take q.0 steps)) in
+    let top : reading.values (list_after_run spec.next spec.init (take (suc q.0) steps)) ≡ v ∷ below
+    = ap reading.values (step_of_run spec.next spec.init steps q.0 step_q.0 legal.run step_q.1).1
+    ∙ is.put (list_after_run spec.next spec.init (take q.0 steps)) step_q.0.0 v step_q.2 in
     let gap : ℕ = m.0 - suc q.0 in
     let whole : suc q.0 + gap ≡ m.0 = omega (arith, q.1) in
     let inside : m.0 < length steps = slice_get_within steps m.0 m.1 m.3 in
-    let later = stays_covered reading next is init steps legal.run w v below (suc q.0) gap top
+    let later =
+    stays_covered reading spec.next is spec.init steps legal.run w v below (suc q.0) gap top
     (omega (arith, whole, inside))
     (λ k step low lt at is_put. no_put k step (omega (arith, low)) (omega (arith, lt, whole)) at
     is_put) (λ k step low lt at takes_v. no_take k step (omega (arith, lt, whole)) at takes_v) in
-    let here : List ℕ = list_after_run next init (take m.0 steps) in
+    let here : List ℕ = list_after_run spec.next spec.init (take m.0 steps) in
     let now : reading.values here ≡ later.0 ++ v ∷ below = ap
-    (λ (n : ℕ). reading.values (list_after_run next init (take n steps))) (sym whole) ∙ later.1 in
-    let shows : reading.shown (next here m.1.0).1 ≡ Some w =
-    ap reading.shown (step_of_run next init steps m.0 m.1 legal.run m.3).0 ∙ m.5 in
-    let gives : reading.values here ≡ w ∷ reading.values (next here m.1.0).0
+    (λ (n : ℕ). reading.values (list_after_run spec.next spec.init (take n steps))) (sym whole)
+    ∙ later.1 in
+    let shows : reading.shown (spec.next here m.1.0).1 ≡ Some w =
+    ap reading.shown (step_of_run spec.next spec.init steps m.0 m.1 legal.run m.3).0 ∙ m.5 in
+    let gives : reading.values here ≡ w ∷ reading.values (spec.next here m.1.0).0
     = subst
-    (λ (o : Option ℕ). GivesFirst (reading.values here) o (reading.values (next here m.1.0).0))
+    (λ (o : Option ℕ). GivesFirst (reading.values here) o (reading.values (spec.next here m.1.0).0))
     shows (is.take here m.1.0 m.4) in
     let same : v ≡ w =
-    top_is w v later.0 below (reading.values (next here m.1.0).0) (sym now ∙ gives) later.2 in
+    top_is w v later.0 below (reading.values (spec.next here m.1.0).0) (sym now ∙ gives) later.2 in
     no_put q.0 step_q.0 (omega arith) (omega (arith, q.1)) step_q.1
     (puts_by reading step_q.0 v step_q.2 ∙ ap (λ (n : ℕ). Some n) same)

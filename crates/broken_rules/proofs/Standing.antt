@@ -5,6 +5,7 @@ use Rattle.list_laws.proofs.Options.{cases_Option}
 use Rattle.book_base.specs.declared.call.Call.{Call}
 use Rattle.book_base.specs.declared.call.Place.{Place}
 use Rattle.book_base.specs.declared.call.Record.{Record}
+use Rattle.book_base.specs.SeqSpec.{SeqSpec}
 use Rattle.book_base.specs.Book.{Page, IsCall, operation_of, record_of}
 use Rattle.book_base.specs.Order.{call_at, StandsAt, IsLegalOrder}
 use Rattle.history_rules.specs.Container.{Effect, Puts, Takes, Neither, Reading, value_taken, put_by, taken_by}
@@ -21,11 +22,10 @@ taken_from_value Takes shown v e = (refl, e)
 taken_from_value Neither shown v e = absurd (none-some v e)
 
 -- The place of an answered call in a legal order has the recorded reply.
-pub reply_of_place : (init : List ℕ) (next : List ℕ → ℕ → List ℕ × ℕ) (book : List Page)
-    (order : List Place) → IsLegalOrder init next book order
-    → (k : ℕ) (place : Place) → slice_get order k ≡ Some place
+pub reply_of_place : (spec : SeqSpec) (book : List Page) (order : List Place)
+    → IsLegalOrder spec book order → (k : ℕ) (place : Place) → slice_get order k ≡ Some place
     → (r : Record) → record_of book (call_at place) ≡ Some r → r.reply ≡ place.reply
-reply_of_place init next book order legal k place at r answered =
+reply_of_place spec book order legal k place at r answered =
     let call : Call = call_at place in
     let it : Place = record { caller = call.caller; number = call.number; reply = r.reply } in
     let found = legal.answered call r answered in
@@ -37,13 +37,12 @@ reply_of_place init next book order legal k place at r answered =
 
 -- A step that takes out a value is the operation of a call that takes it, or of a take without an
 -- answer.
-pub taker_of_step : (reading : Reading) (init : List ℕ) (next : List ℕ → ℕ → List ℕ × ℕ)
-    (book : List Page) (order : List Place) → IsLegalOrder init next book order
-    → (k v : ℕ) (step : ℕ × ℕ) → slice_get (steps_of book order) k ≡ Some step
-    → taken_by reading step ≡ Some v
-    → (call : Call) × StandsAt order k call × IsCall book call
+pub taker_of_step : (reading : Reading) (spec : SeqSpec) (book : List Page) (order : List Place)
+    → IsLegalOrder spec book order → (k v : ℕ) (step : ℕ × ℕ)
+    → slice_get (steps_of book order) k ≡ Some step → taken_by reading step ≡ Some v → (call : Call)
+    × StandsAt order k call × IsCall book call
     × ((deal_of reading book call ≡ deals.Took v) ⊎ (deal_of reading book call ≡ deals.OpenTake))
-taker_of_step reading init next book order legal k v step e is =
+taker_of_step reading spec book order legal k v step e is =
     let place = place_of_step book order k step e in
     let call : Call = call_at place.0 in
     let stands : StandsAt order k call = (place.0, place.1, refl) in
@@ -58,7 +57,7 @@ taker_of_step reading init next book order legal k v step e is =
       | inl none ↦ (call, stands, made, inr (deal ∙ ap (recorded_deal reading) none))
       | inr answer ↦
           let reply : answer.0.reply ≡ step.1 =
-          reply_of_place init next book order legal k place.0 place.1 answer.0 answer.1
+          reply_of_place spec book order legal k place.0 place.1 answer.0 answer.1
           ∙ ap (λ (s : ℕ × ℕ). s.1) place.2 in
           let shown : reading.shown answer.0.reply ≡ Some v = ap reading.shown reply ∙ parts.1 in (
             call,
@@ -69,14 +68,12 @@ taker_of_step reading init next book order legal k v step e is =
     ]
 
 -- A step that puts in a value is the operation of a call that puts in this value.
-pub putter_of_step : (reading : Reading) (init : List ℕ) (next : List ℕ → ℕ → List ℕ × ℕ)
-    (book : List Page) (order : List Place) → IsLegalOrder init next book order
-    → (k v : ℕ) (step : ℕ × ℕ) → slice_get (steps_of book order) k ≡ Some step
-    → put_by reading step ≡ Some v
-    → (call : Call) × StandsAt order k call × IsCall book call
-    × (deal_of reading book call ≡ deals.Put v)
-putter_of_step reading init next book order legal k v step e is =
-    let putter = call_of_put reading init next book order legal k v step e is in (
+pub putter_of_step : (reading : Reading) (spec : SeqSpec) (book : List Page) (order : List Place)
+    → IsLegalOrder spec book order → (k v : ℕ) (step : ℕ × ℕ)
+    → slice_get (steps_of book order) k ≡ Some step → put_by reading step ≡ Some v → (call : Call)
+    × StandsAt order k call × IsCall book call × (deal_of reading book call ≡ deals.Put v)
+putter_of_step reading spec book order legal k v step e is =
+    let putter = call_of_put reading spec book order legal k v step e is in (
       putter.0,
       putter.1,
       legal.calls k putter.0 putter.1,

@@ -4,6 +4,7 @@ use Rattle.std.proofs.lemmas.Bool.{cases_lt}
 use Rattle.std.proofs.lemmas.Option.{same_Some, none-some, slice_get-get_or, slice_get_within}
 use Rattle.list_laws.proofs.Options.{cases_Option}
 use Rattle.book_base.specs.declared.call.Call.{Call}
+use Rattle.book_base.specs.SeqSpec.{SeqSpec}
 use Rattle.book_base.specs.Book.{Page, IsCall, Precedes}
 use Rattle.book_base.specs.Sequential.{IsRunFrom}
 use Rattle.book_base.specs.Order.{HasLegalOrder}
@@ -97,30 +98,31 @@ last_written reading held next is list steps run (suc n) inside =
           )
     ]
 
-module _ (reading : Reading) (held : List ℕ → ℕ) (init : List ℕ) (next : List ℕ → ℕ → List ℕ × ℕ)
-    (book : List Page) (is : HoldsLast reading held next) where
+module _ (reading : Reading) (held : List ℕ → ℕ) (spec : SeqSpec) (book : List Page)
+    (is : HoldsLast reading held spec.next) where
   -- A value that is read, and isn't the first one, is written before: not each of its writes comes
   -- after.
-  pub read_unwritten : (v : ℕ) (reader : Call) → (v ≡ held init → ⊥)
-      → deal_of reading book reader ≡ deals.Took v
-      → ((call : Call) → IsCall book call → deal_of reading book call ≡ deals.Put v
-      → Precedes book reader call) → ¬ HasLegalOrder init next book
+  pub read_unwritten : (v : ℕ) (reader : Call) → (v ≡ held spec.init → ⊥)
+      → deal_of reading book reader ≡ deals.Took v → ((call : Call) → IsCall book call
+      → deal_of reading book call ≡ deals.Put v → Precedes book reader call)
+      → ¬ HasLegalOrder spec book
   read_unwritten v reader new reads follow h =
       let order = h.0 in
       let legal = h.1 in
       let steps = steps_of book order in
-      let m = answered_step reading init next book order legal reader (Some v)
+      let m = answered_step reading spec book order legal reader (Some v)
       (takes_by_deal reading book reader v reads) in
-      let here : List ℕ = list_after_run next init (take m.0 steps) in
-      let shows : reading.shown (next here m.1.0).1 ≡ Some v =
-      ap reading.shown (step_of_run next init steps m.0 m.1 legal.run m.3).0 ∙ m.5 in
+      let here : List ℕ = list_after_run spec.next spec.init (take m.0 steps) in
+      let shows : reading.shown (spec.next here m.1.0).1 ≡ Some v =
+      ap reading.shown (step_of_run spec.next spec.init steps m.0 m.1 legal.run m.3).0 ∙ m.5 in
       let held_v : held here ≡ v =
       same_Some (held here) v (sym (is.shows here m.1.0 m.4) ∙ shows) in
       let inside = slice_get_within steps m.0 m.1 m.3 in
-      elim (last_written reading held next is init steps legal.run m.0 (omega (arith, inside))) [
+      elim (last_written reading held spec.next is spec.init steps legal.run m.0
+      (omega (arith, inside))) [
         | inl first ↦ new (sym held_v ∙ first.0)
         | inr later ↦
-            let writer = putter_of_step reading init next book order legal later.0 v later.1 later.3
+            let writer = putter_of_step reading spec book order legal later.0 v later.1 later.3
             (later.4 ∙ ap (λ (n : ℕ). Some n) held_v) in
             let late : m.0 < later.0 = legal.precedence m.0 later.0 reader writer.0 m.2 writer.1
             (follow writer.0 writer.2 writer.3) in
@@ -132,28 +134,28 @@ module _ (reading : Reading) (held : List ℕ → ℕ) (init : List ℕ) (next :
   pub read_overwritten : (v w : ℕ) (writer reader : Call) → deal_of reading book writer
       ≡ deals.Put v → deal_of reading book reader ≡ deals.Took w → Precedes book writer reader
       → ((call : Call) → IsCall book call → deal_of reading book call ≡ deals.Put w
-      → Precedes book call writer ⊎ Precedes book reader call)
-      → ¬ HasLegalOrder init next book
+      → Precedes book call writer ⊎ Precedes book reader call) → ¬ HasLegalOrder spec book
   read_overwritten v w writer reader writes reads precedes outside h =
       let order = h.0 in
       let legal = h.1 in
       let steps = steps_of book order in
-      let m = answered_step reading init next book order legal reader (Some w)
+      let m = answered_step reading spec book order legal reader (Some w)
       (takes_by_deal reading book reader w reads) in
-      let q = preceding_comes_first init next book writer reader precedes order legal m.0 m.2 in
+      let q = preceding_comes_first spec book writer reader precedes order legal m.0 m.2 in
       let step = putting_step reading book order writer v q.0
       (puts_by_deal reading book writer v writes) q.2 in
       let put_q : put_by reading step.0 ≡ Some v = puts_by reading step.0 v step.2 in
-      let here : List ℕ = list_after_run next init (take m.0 steps) in
-      let shows : reading.shown (next here m.1.0).1 ≡ Some w =
-      ap reading.shown (step_of_run next init steps m.0 m.1 legal.run m.3).0 ∙ m.5 in
+      let here : List ℕ = list_after_run spec.next spec.init (take m.0 steps) in
+      let shows : reading.shown (spec.next here m.1.0).1 ≡ Some w =
+      ap reading.shown (step_of_run spec.next spec.init steps m.0 m.1 legal.run m.3).0 ∙ m.5 in
       let held_w : held here ≡ w =
       same_Some (held here) w (sym (is.shows here m.1.0 m.4) ∙ shows) in
       let inside = slice_get_within steps m.0 m.1 m.3 in
-      elim (last_written reading held next is init steps legal.run m.0 (omega (arith, inside))) [
+      elim (last_written reading held spec.next is spec.init steps legal.run m.0
+      (omega (arith, inside))) [
         | inl first ↦ first.1 q.0 step.0 v (omega arith) q.1 step.1 put_q
         | inr later ↦
-            let last = putter_of_step reading init next book order legal later.0 w later.1 later.3
+            let last = putter_of_step reading spec book order legal later.0 w later.1 later.3
             (later.4 ∙ ap (λ (n : ℕ). Some n) held_w) in
             elim (outside last.0 last.2 last.3) [
               | inl before ↦

@@ -6,7 +6,7 @@ use Rattle.book_base.specs.Order.{HasLegalOrder}
 use Rattle.container_pruning.specs.declared.deal.Deal.{Deal}
 use Rattle.seq_objects.specs.declared.kind.Kind.{Kind}
 use Rattle.seq_objects.specs.declared.kind.Kind.TheVariants as kinds
-use Rattle.seq_objects.specs.Objects.{kind_init, kind_next}
+use Rattle.seq_objects.specs.Objects.{kind_spec}
 use Rattle.broken_rules.specs.declared.demand.Demand.{Demand}
 use Rattle.broken_rules.specs.declared.demand.Demand.TheVariants as demands
 use Rattle.broken_rules.specs.declared.rule.Relation.{Relation}
@@ -176,7 +176,7 @@ pub record Breaks (kind : Kind) (book : List Page) (broken : BrokenRule) : Type 
 abbrev pub WhatBreaksIsIllegal : Type 0
 WhatBreaksIsIllegal = (kind : Kind) (book : List Page) (broken : BrokenRule) → IsSmall book
     → Breaks kind book broken
-    → ¬ HasLegalOrder (kind_init kind) (kind_next kind) book
+    → ¬ HasLegalOrder (kind_spec kind) book
 
 -- All rules, in the order in which they are tried.
 abbrev pub all_rules : List Rule

@@ -4,7 +4,7 @@ ghost use Rattle.std.specs.Prelude.{◌≡◌, ℕ, ◌<◌, true, length, slice
 ghost use Rattle.book_base.specs.declared.call.Call.{Call};
 ghost use Rattle.book_base.specs.Book.{calls_of, IsCall};
 ghost use Rattle.book_base.specs.Order.{HasLegalOrder};
-ghost use Rattle.seq_objects.specs.Objects.{kind_init, kind_next};
+ghost use Rattle.seq_objects.specs.Objects.{kind_spec};
 ghost use Rattle.broken_rules.specs.declared.rule.BrokenRule.{BrokenRule};
 ghost use Rattle.broken_rules.specs.declared.rule.Rule.{Rule};
 ghost use Rattle.broken_rules.specs.Rules.{is_of_one_call, Breaks};
@@ -40,8 +40,7 @@ pub fn broken_rule(kind: Kind, book: &Book) -> Option<BrokenRule>
     // The book breaks the rule that is answered, by the calls that are answered.
     ensures broken { IfSome result (λ broken. Breaks kind book.now broken) }
     // A book of which a rule is answered has no legal order.
-    ensures illegal { IfSome result (λ _.
-        ¬ HasLegalOrder (kind_init kind) (kind_next kind) book.now) }
+    ensures illegal { IfSome result (λ _. ¬ HasLegalOrder (kind_spec kind) book.now) }
     // Where none is answered, the book breaks no rule.
     ensures none { IfNone result ((broken : BrokenRule) → Breaks kind book.now broken → ⊥) }
 {

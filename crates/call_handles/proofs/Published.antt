@@ -2,6 +2,7 @@
 -- after the other.
 use Rattle.std.proofs.Common.{◌≡◌, ◌∙◌, ℕ, false, List, Option, None, Some, Result, Ok, Err, IfOk, IfErr, length, slice_index, refl, sym, ap, subst}
 use Rattle.book_base.specs.declared.call.Record.{Record}
+use Rattle.book_base.specs.SeqSpec.{SeqSpec}
 use Rattle.world_core.specs.Shape.{Meaning}
 use Rattle.world_core.specs.Local.{Local}
 use Rattle.row_table.specs.declared.caller.Caller.{Caller}
@@ -145,19 +146,17 @@ module _ {P : Type 0} (meaning : P → ℕ → ℕ → Meaning) (r : Rows P) (ca
       }
 
   -- a judgement whose outcome is right, and right by its caller's peeks, is as `IsJudgedAs` says
-  judged_with : (init : List ℕ) (next : List ℕ → ℕ → List ℕ × ℕ) (before after : ℕ)
-      (standing : Option KeptOrder) (c : Caller P) (judged : Judged)
-      → IsStill meaning r (caller_seen s) c
+  judged_with : (spec : SeqSpec) (before after : ℕ) (standing : Option KeptOrder) (c : Caller P)
+      (judged : Judged) → IsStill meaning r (caller_seen s) c
       → HasOnlyPeeked (local_with (caller_seen s)) (local_with c) before after
       → record_judged judged ≡ record_seen s → cut_judged judged ≡ cut_seen s
-      → HoldsOwn (cut_judged judged) c
-      → stance_of c ≡ stance_judged judged
-      → IsOutcome judged standing (IsRightByPeeks init next r.callers (local_with c))
-      → IsOutcome judged standing (IsRightOf init next meaning r c)
-      → IsOutcome judged standing (IsJudgedAs meaning r init next call reply c)
-  judged_with init next before after None c
+      → HoldsOwn (cut_judged judged) c → stance_of c ≡ stance_judged judged
+      → IsOutcome judged standing (IsRightByPeeks spec r.callers (local_with c))
+      → IsOutcome judged standing (IsRightOf spec meaning r c)
+      → IsOutcome judged standing (IsJudgedAs meaning r spec call reply c)
+  judged_with spec before after None c
       (Delivered said view seen) still peeks told cut own stance by_peeks verdict = absurd by_peeks
-  judged_with init next before after (Some stands) c
+  judged_with spec before after (Some stands) c
       (Delivered said view seen) still peeks told cut own stance by_peeks verdict =
       record {
         published = peeked c
@@ -166,7 +165,7 @@ module _ {P : Type 0} (meaning : P → ℕ → ℕ → Meaning) (r : Rows P) (ca
         by_peeks = by_peeks;
         verdict = verdict;
       }
-  judged_with init next before after standing c
+  judged_with spec before after standing c
       (Illegal said view seen book) still peeks told cut own stance by_peeks verdict =
       record {
         published = peeked c
@@ -177,22 +176,22 @@ module _ {P : Type 0} (meaning : P → ℕ → ℕ → Meaning) (r : Rows P) (ca
       }
 
   -- a judgement is as `IsJudgedAs` says, where one was made and its outcome is right
-  pub judged_as : (init : List ℕ) (next : List ℕ → ℕ → List ℕ × ℕ) (before after : ℕ)
-      (standing : Option KeptOrder) (result : Result (Caller P × Judged) (Unjudged P))
+  pub judged_as : (spec : SeqSpec) (before after : ℕ) (standing : Option KeptOrder)
+      (result : Result (Caller P × Judged) (Unjudged P))
       → IfOk result (λ x. IsStill meaning r (caller_seen s) x.0)
       → IfOk result (λ x. HasOnlyPeeked (local_with (caller_seen s)) (local_with x.0) before after)
       → IfOk result (λ x. record_judged x.1 ≡ record_seen s)
       → IfOk result (λ x. cut_judged x.1 ≡ cut_seen s)
       → IfOk result (λ x. HoldsOwn (cut_judged x.1) x.0)
-      → IfOk result (λ x. stance_of x.0 ≡ stance_judged x.1) → IfOk result
-      (λ x. IsOutcome x.1 standing (IsRightByPeeks init next r.callers (local_with x.0)))
-      → IfOk result (λ x. IsOutcome x.1 standing (IsRightOf init next meaning r x.0))
-      → IfOk result (λ x. IsOutcome x.1 standing (IsJudgedAs meaning r init next call reply x.0))
-  judged_as init next before after standing
+      → IfOk result (λ x. stance_of x.0 ≡ stance_judged x.1)
+      → IfOk result (λ x. IsOutcome x.1 standing (IsRightByPeeks spec r.callers (local_with x.0)))
+      → IfOk result (λ x. IsOutcome x.1 standing (IsRightOf spec meaning r x.0))
+      → IfOk result (λ x. IsOutcome x.1 standing (IsJudgedAs meaning r spec call reply x.0))
+  judged_as spec before after standing
       (Ok x) still peeks told cut own stance by_peeks verdict =
-      judged_with init next before after standing x.0 x.1 still peeks told cut own stance
+      judged_with spec before after standing x.0 x.1 still peeks told cut own stance
       by_peeks verdict
-  judged_as init next before after standing
+  judged_as spec before after standing
       (Err u) still peeks told cut own stance by_peeks verdict = tt
 
   -- where a call isn't judged, its caller has published its record and has its seen cut

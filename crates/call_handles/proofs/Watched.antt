@@ -1,11 +1,12 @@
 -- The witness of a monitor, and what its round says of the calls of all callers.
 use Rattle.std.proofs.Common.{◌≡◌, ℕ, ◌<◌, List, Option, None, Some, IfSome, sym, subst}
+use Rattle.book_base.specs.SeqSpec.{SeqSpec}
 use Rattle.book_base.specs.Order.{HasLegalOrder}
 use Rattle.world_core.specs.declared.program.Outside.{Outside}
 use Rattle.world_core.specs.Shape.{Shape}
 use Rattle.world_core.specs.Local.{Local}
 use Rattle.world_core.specs.Calls.{AreTogether, local_at}
-use Rattle.seq_objects.specs.Objects.{kind_init, kind_next}
+use Rattle.seq_objects.specs.Objects.{kind_spec}
 use Rattle.row_table.specs.declared.rows.Rows.{Rows}
 use Rattle.row_table.specs.Callers.{shape_of, who_of}
 use Rattle.drv_wrapper.specs.Growth.{Grows}
@@ -32,41 +33,39 @@ has_own P own w is h = subst (λ (o : Option Witness). IfSome o P) (sym is) h
 pub has_none : (P : Witness → Type 0) (own : Option Witness) → own ≡ None → IfSome own P
 has_none P own is = subst (λ (o : Option Witness). IfSome o P) (sym is) tt
 
-module _ (init : List ℕ) (next : List ℕ → ℕ → List ℕ × ℕ) where
+module _ (spec : SeqSpec) where
   -- a witness that a round found has no legal order
   pub none_after : (n : ℕ) (l m : Local) (own : Option Witness) (made : Round)
-      → HasFound init next n l m own made → IfSome own (λ w. ¬ HasLegalOrder init next w.book)
-  none_after n l m own (Legal cut) h = has_none (λ w. ¬ HasLegalOrder init next w.book) own h.2
+      → HasFound spec n l m own made → IfSome own (λ w. ¬ HasLegalOrder spec w.book)
+  none_after n l m own (Legal cut) h = has_none (λ w. ¬ HasLegalOrder spec w.book) own h.2
   none_after n l m own (Illegal cut) h =
       let (once, w, is, at, illegal) = h in
-      has_own (λ v. ¬ HasLegalOrder init next v.book) own w is illegal.none
+      has_own (λ v. ¬ HasLegalOrder spec v.book) own w is illegal.none
 
   unmoved : (l : Local) → Grows l l
   unmoved l = record { looked = λ x h. h; peeked = λ x h. h; cuts = λ place given h. h }
 
   -- a round is right for the calls of all callers
   right_in_worlds : (s : Shape) (i : ℕ) (l m : Local) (own : Option Witness) (made : Round)
-      → i < s.callers → HasFound init next s.callers l m own made
-      → (locals : List Local) → AreTogether s locals → local_at locals i ≡ m
-      → IsRightRound init next locals own made
+      → i < s.callers → HasFound spec s.callers l m own made → (locals : List Local)
+      → AreTogether s locals → local_at locals i ≡ m → IsRightRound spec locals own made
   right_in_worlds s i l m own made low found locals t same =
-      rounds_are_right init next s locals i l m own made t low
+      rounds_are_right spec s locals i l m own made t low
       (subst (λ (x : Local). Grows m x) (sym same) (unmoved m)) found
 
 -- what a round of a handle's monitor found is right
 pub right_of_round : (h : MonitorHandle) (m : Monitor Outside) (r : Rows Outside) (made : Round)
     → r ≡ rows_watched h → IsMonitorOf every_reply r m
-    → HasFound (kind_init h.kind) (kind_next h.kind) r.callers (local_of h.monitor) (local_of m)
-    (own_of m) made → IsRightOfRound h m made
+    → HasFound spec r.callers (local_of h.monitor) (local_of m) (own_of m) made
+    → IsRightOfRound h m made
 right_of_round h m r made is of found =
-    let init = kind_init h.kind in
-    let next = kind_next h.kind in
+    let spec = kind_spec h.kind in
     let here = subst (λ (x : Rows Outside). IsMonitorOf every_reply x m) is of in
     let at = subst (λ (x : Rows Outside).
-    HasFound init next x.callers (local_of h.monitor) (local_of m) (own_of m) made) is found in
+    HasFound spec x.callers (local_of h.monitor) (local_of m) (own_of m) made) is found in
     record {
       found = at;
       worlds =
-          right_in_worlds init next (shape_of every_reply (rows_watched h)) (who_of (caller_of m))
+          right_in_worlds spec (shape_of every_reply (rows_watched h)) (who_of (caller_of m))
           (local_of h.monitor) (local_of m) (own_of m) made here.resting.caller.seat.who at;
     }

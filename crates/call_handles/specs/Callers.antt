@@ -8,7 +8,7 @@ use Rattle.world_core.specs.Shape.{Meaning}
 use Rattle.world_core.specs.Programs.{outside}
 use Rattle.world_core.specs.declared.program.Outside.{Outside}
 use Rattle.seq_objects.specs.declared.kind.Kind.{Kind}
-use Rattle.seq_objects.specs.Objects.{kind_init, kind_next}
+use Rattle.seq_objects.specs.Objects.{kind_spec}
 use Rattle.book_text.specs.BookRules.{IsBookText}
 use Rattle.text_fields.specs.declared.version.Version.TheVariants.{Second}
 use Rattle.row_table.specs.declared.caller.Caller.{Caller}
@@ -64,13 +64,13 @@ IsSoundAt r kind gathered (Idle c) = IsCallerOf every_reply r c × IsFree c
 IsSoundAt r kind gathered (Announced call) = IsCallerOf every_reply r (caller_announced call)
     × IsGatheredBy (announced_local call) gathered
 IsSoundAt r kind gathered (Wrong w) = IsCallerOf every_reply r w.caller
-    × ¬ HasLegalOrder (kind_init kind) (kind_next kind) w.book
+    × ¬ HasLegalOrder (kind_spec kind) w.book
 IsSoundAt r kind gathered (Unjudged c) = IsCallerOf every_reply r c
 
 -- The kept order of a handle stands, for the handle's kind, in its kept book.
 abbrev pub KeepsStanding : KeptByHandle → Type 0
 KeepsStanding kept =
-    OrderStandsIn (kind_init kept.kind) (kind_next kept.kind) kept.gathered kept.standing
+    OrderStandsIn (kind_spec kept.kind) kept.gathered kept.standing
 
 -- The parts of a handle belong together.
 abbrev pub IsSoundCaller : CallerHandle → Type 0
@@ -113,10 +113,10 @@ abbrev pub AnswersFor : Rows Outside → Kind → announced.Announced Outside �
     → CallAnswer → Type 0
 AnswersFor r kind call reply stage answer.Delivered =
     (c : Caller Outside) × (found : Outcome) × (stage ≡ Idle c) × (is_illegal found ≡ false)
-    × IsJudgedAs every_reply r (kind_init kind) (kind_next kind) call reply c found
+    × IsJudgedAs every_reply r (kind_spec kind) call reply c found
 AnswersFor r kind call reply stage answer.Illegal =
     (w : wrong.Wrong) × (stage ≡ Wrong w)
-    × IsJudgedAs every_reply r (kind_init kind) (kind_next kind) call reply w.caller (outcome_of w)
+    × IsJudgedAs every_reply r (kind_spec kind) call reply w.caller (outcome_of w)
 AnswersFor r kind call reply stage answer.Unjudged =
     (c : Caller Outside) × (told : Record) × (seen : List ℕ) × (stage ≡ Unjudged c)
     × IsPublishedBy every_reply r call reply c told seen
@@ -141,4 +141,4 @@ HasPublished reply h k =
 abbrev pub IsWitnessOf : CallerHandle → List ℕ → Type 0
 IsWitnessOf h bytes =
     (w : wrong.Wrong) × (h.stage ≡ Wrong w) × IsBookText Second bytes (kind_of h) w.book
-    × ¬ HasLegalOrder (kind_init (kind_of h)) (kind_next (kind_of h)) w.book
+    × ¬ HasLegalOrder (kind_spec (kind_of h)) w.book

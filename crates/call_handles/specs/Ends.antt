@@ -1,6 +1,7 @@
 -- How a call that was announced ends, once its reply is handed in.
 use Rattle.std.specs.Prelude.{◌≡◌, ℕ, List}
 use Rattle.book_base.specs.declared.call.Record.{Record}
+use Rattle.book_base.specs.SeqSpec.{SeqSpec}
 use Rattle.world_core.specs.Shape.{Meaning}
 use Rattle.row_table.specs.declared.caller.Caller.{Caller}
 use Rattle.row_table.specs.declared.rows.Rows.{Rows}
@@ -46,9 +47,9 @@ module _ {P : Type 0} (meaning : P → ℕ → ℕ → Meaning) (r : Rows P) whe
 
   -- The call was judged, and this is its right outcome: by what its caller has peeked, and for the
   -- book of all callers' calls at the seen cut, in whatever reachable world has the caller's local.
-  pub record IsJudgedAs (init : List ℕ) (next : List ℕ → ℕ → List ℕ × ℕ) (call : Announced P)
-      (reply : ℕ) (c : Caller P) (outcome : Outcome) : Type 0 where
+  pub record IsJudgedAs (spec : SeqSpec) (call : Announced P) (reply : ℕ) (c : Caller P)
+      (outcome : Outcome) : Type 0 where
     pub published : IsPublishedBy call reply c (record_in outcome) (cut_in outcome)
     pub stance : stance_of c ≡ stance_after outcome
-    pub by_peeks : IsRightByPeeks init next r.callers (local_with c) outcome
-    pub verdict : IsRightOf init next meaning r c outcome
+    pub by_peeks : IsRightByPeeks spec r.callers (local_with c) outcome
+    pub verdict : IsRightOf spec meaning r c outcome

@@ -8,7 +8,7 @@ use Rattle.world_core.specs.declared.program.Outside.{Outside}
 use Rattle.world_core.specs.Local.{Local}
 use Rattle.world_core.specs.Calls.{AreTogether, local_at}
 use Rattle.seq_objects.specs.declared.kind.Kind.{Kind}
-use Rattle.seq_objects.specs.Objects.{kind_init, kind_next}
+use Rattle.seq_objects.specs.Objects.{kind_spec}
 use Rattle.book_text.specs.BookRules.{IsBookText}
 use Rattle.text_fields.specs.declared.version.Version.TheVariants.{Second}
 use Rattle.row_table.specs.declared.rows.Rows.{Rows}
@@ -39,7 +39,7 @@ monitor_in h = h.monitor
 
 -- A book of the handle's kind has a legal order.
 abbrev pub IsLegalFor : MonitorHandle → List Page → Type 0
-IsLegalFor h book = HasLegalOrder (kind_init h.kind) (kind_next h.kind) book
+IsLegalFor h book = HasLegalOrder (kind_spec h.kind) book
 
 -- The parts of a monitor's handle belong together: the monitor is one of its rows and of its board,
 -- the kept order stands in the book that the monitor keeps, and the book of a witness has no legal
@@ -47,7 +47,7 @@ IsLegalFor h book = HasLegalOrder (kind_init h.kind) (kind_next h.kind) book
 pub record IsSoundMonitor (h : MonitorHandle) : Type 0 where
   pub of : IsMonitorOf every_reply (rows_watched h) h.monitor
   pub on : IsOn h.board h.monitor
-  pub stands : OrderStandsIn (kind_init h.kind) (kind_next h.kind) (kept_by h.monitor) h.standing
+  pub stands : OrderStandsIn (kind_spec h.kind) (kept_by h.monitor) h.standing
   pub none : IfSome (own_of h.monitor) (λ w. ¬ IsLegalFor h w.book)
 
 -- The two handles are of one table, and judge by one kind.
@@ -66,11 +66,11 @@ HasFoundWrong h = (w : Witness) × (own_of h.monitor ≡ Some w)
 -- caller has peeked, and for the book of all callers' calls at the round's cut, in whatever
 -- reachable world has the local that this caller has then.
 pub record IsRightOfRound (h : MonitorHandle) (m : Monitor Outside) (made : Round) : Type 0 where
-  pub found : HasFound (kind_init h.kind) (kind_next h.kind) (rows_watched h).callers
-      (local_of h.monitor) (local_of m) (own_of m) made
+  pub found : HasFound (kind_spec h.kind) (rows_watched h).callers (local_of h.monitor) (local_of m)
+      (own_of m) made
   pub worlds : (locals : List Local) → AreTogether (shape_of every_reply (rows_watched h)) locals
       → local_at locals (who_of (caller_of m)) ≡ local_of m
-      → IsRightRound (kind_init h.kind) (kind_next h.kind) locals (own_of m) made
+      → IsRightRound (kind_spec h.kind) locals (own_of m) made
 
 -- What a judgement of the monitor says: that a round was made at a cut where the published records
 -- have a legal order; that one was made where they have none, with their book as the witness; or

@@ -37,17 +37,13 @@ pub(crate) fn finish<L: Ledger>(
     requires rows { IsCallerOf ⟦<Outside as Program>⟧.meaning rows.now
         (caller_announced announced) }
     requires gathered { IsGatheredBy (announced_local announced) gathered.old }
-    requires stands { OrderStandsIn (⟦<Kind as SeqObject>⟧.init kind)
-        (⟦<Kind as SeqObject>⟧.next kind)
-        gathered.old standing.old }
-    ensures judged { IfOk result (λ r. IsOutcome r.1 standing.new
-        (IsJudgedAs ⟦<Outside as Program>⟧.meaning rows.now
-        (⟦<Kind as SeqObject>⟧.init kind) (⟦<Kind as SeqObject>⟧.next kind) announced reply r.0)) }
+    requires stands { OrderStandsIn (⟦<Kind as SeqObject>⟧.spec kind) gathered.old standing.old }
+    ensures judged { IfOk result
+        (λ r. IsOutcome r.1 standing.new (IsJudgedAs ⟦<Outside as Program>⟧.meaning rows.now
+        (⟦<Kind as SeqObject>⟧.spec kind) announced reply r.0)) }
     ensures idle { IfOk result (λ r. IsIdle (local_with r.0)) }
     ensures kept { IfOk result (λ r. IsGatheredBy (local_with r.0) gathered.new) }
-    ensures stands { OrderStandsIn (⟦<Kind as SeqObject>⟧.init kind)
-        (⟦<Kind as SeqObject>⟧.next kind)
-        gathered.new standing.new }
+    ensures stands { OrderStandsIn (⟦<Kind as SeqObject>⟧.spec kind) gathered.new standing.new }
     ensures unjudged { IfErr result (λ u.
         IsPublishedBy ⟦<Outside as Program>⟧.meaning rows.now announced reply
         u.caller (record_unjudged u) u.seen) }

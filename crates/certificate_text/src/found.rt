@@ -16,8 +16,7 @@ pub fn has_accepted_order<S: SeqObject>(
     book: &Book,
 ) -> Result<bool, NoMemory>
     // The answer is `true` exactly where the book has a legal order, want of memory aside.
-    ensures { IfOk result (λ found.
-        IsTrue found ↔ HasLegalOrder (S.init object.now) (S.next object.now) book.now) }
+    ensures { IfOk result (λ found. IsTrue found ↔ HasLegalOrder (S.spec object.now) book.now) }
 {
     match check(alloc, object, book)? {
         Verdict::Legal(order) => Ok(check_order(alloc, object, book, &order)?.is_ok()),

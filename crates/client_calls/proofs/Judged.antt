@@ -2,6 +2,7 @@
 use Rattle.std.proofs.Common.{◌≡◌, refl, inl, inr, sym, subst, ap, ℕ, true, List, [], ◌∷◌}
 use Rattle.std.proofs.lemmas.List.{append-nil}
 use Rattle.book_base.specs.declared.call.Record.{Record}
+use Rattle.book_base.specs.SeqSpec.{SeqSpec}
 use Rattle.world_core.specs.Local.{Local, Phase, Announcing, Asking, Viewing, Publishing, Judging, Staged, IsIdle}
 use Rattle.world_core.specs.Event.{is_unstaged}
 use Rattle.row_table.specs.declared.stance.Stance.{Stance}
@@ -17,7 +18,7 @@ use Rattle.enforcer.specs.Recorded.{is_announcing}
 use Rattle.enforcer.specs.Lines.{IsVerdictOn, stance_after_line}
 use Rattle.client_calls.specs.declared.ended.Ended.{Ended}
 use Rattle.client_calls.specs.declared.ended.Ended.TheVariants.{GoesOn, Halts}
-use Rattle.client_calls.specs.Ends.{Sequential, SaysJudged}
+use Rattle.client_calls.specs.Ends.{SaysJudged}
 use Rattle.client_calls.specs.Endings.{caller_ended, StandsAfter, FitsError, SaysOf, IsEndedBy}
 
 announcing_is : (phase : Phase) → is_announcing phase ≡ true → phase ≡ Announcing
@@ -70,22 +71,21 @@ module _ {P : Type 0} where
   fits_error c (Error r cut) e is = subst (λ (x : Ended P). FitsError x) (sym is) (λ op. refl)
 
   -- the line says what was judged
-  pub says_judged : (object : Sequential) (n : ℕ) (c : Caller P) (end : LineEnd) (e : Ended P)
+  pub says_judged : (object : SeqSpec) (n : ℕ) (c : Caller P) (end : LineEnd) (e : Ended P)
       (r : Record) (cut : List ℕ) → IsEndedBy c end e → IsVerdictOn r cut end
-      → IsJudgedBy object.init object.next n (local_with c) end
-      → SaysOf (SaysJudged object n) r cut e
+      → IsJudgedBy object n (local_with c) end → SaysOf (SaysJudged object n) r cut e
   says_judged object n c end e r cut is (inl same) judged =
       let ended : e ≡ GoesOn c (Delivered r cut) =
       subst (λ (x : LineEnd). IsEndedBy c x e) same is in
       subst (λ (x : Ended P). SaysOf (SaysJudged object n) r cut x) (sym ended) (
         refl,
         refl,
-        subst (λ (x : LineEnd). IsJudgedBy object.init object.next n (local_with c) x) same judged,
+        subst (λ (x : LineEnd). IsJudgedBy object n (local_with c) x) same judged,
       )
   says_judged object n c end e r cut is (inr same) judged =
       let ended : e ≡ Halts c (Error r cut) = subst (λ (x : LineEnd). IsEndedBy c x e) same is in
       subst (λ (x : Ended P). SaysOf (SaysJudged object n) r cut x) (sym ended) (
         refl,
         refl,
-        subst (λ (x : LineEnd). IsJudgedBy object.init object.next n (local_with c) x) same judged,
+        subst (λ (x : LineEnd). IsJudgedBy object n (local_with c) x) same judged,
       )

@@ -3,6 +3,7 @@
 use Rattle.std.proofs.Common.{◌≡◌, ◌∙◌, refl, sym, subst, ap, ℕ, List, length}
 use Rattle.std.specs.Prelude.{Option}
 use Rattle.book_base.specs.declared.call.Record.{Record}
+use Rattle.book_base.specs.SeqSpec.{SeqSpec}
 use Rattle.world_core.specs.Shape.{Meaning}
 use Rattle.world_core.specs.Local.{Local, Object_step}
 use Rattle.world_core.specs.CallSteps.{all_steps_of}
@@ -19,7 +20,6 @@ use Rattle.enforcer.specs.declared.published_call.Published.{Published}
 use Rattle.client_calls.specs.declared.stand.CallerState.{CallerState}
 use Rattle.client_calls.specs.declared.stand.CallerState.TheVariants as at
 use Rattle.client_calls.specs.declared.sheet.Sheet.{Sheet}
-use Rattle.client_calls.specs.Ends.{Sequential}
 use Rattle.client_calls.specs.Asking.{Fits, PassCount, FitsCaller}
 use Rattle.client_calls.specs.Stands.{caller_at, local_at_stand, phases_at, GoesOnFrom}
 use Rattle.client_calls.specs.Course.{HasCome, Counts}
@@ -78,7 +78,7 @@ module _ {P E : Type 0} (s t : CallerState P) (h k : Sheet E) (stand_is : s ≡ 
       ∙ ap (λ (z : CallerState P). phases_at (length k.lines.items) z) stand_is ∙ is
 
   pub come_with : (meaning : P → ℕ → ℕ → Meaning) (r : Rows P)
-      (says : Sequential → ℕ → Local → Record → List ℕ → LineEnd → Type 0) (object : E → Sequential)
+      (says : SeqSpec → ℕ → Local → Record → List ℕ → LineEnd → Type 0) (object : E → SeqSpec)
       → HasCome meaning r (says (object k.ending)) k.who k.operations.now t k.lines.items
       → HasCome meaning r (says (object h.ending)) h.who h.operations.now s h.lines.items
   come_with meaning r says object come =
@@ -109,7 +109,7 @@ module _ {P E : Type 0} (s t : CallerState P) (h k : Sheet E) (stand_is : s ≡ 
       (subst (λ (x : Sheet E). ∥ IsGatheredBy (local_at_stand t) x.gathered ∥₁) (sym sheet_is) kept)
 
 -- What stands of an order by one sheet stands by an equal one.
-pub standing_with : {E : Type 0} (h k : Sheet E) → h ≡ k → (object : E → Sequential)
+pub standing_with : {E : Type 0} (h k : Sheet E) → h ≡ k → (object : E → SeqSpec)
     → KeepsStanding (object k.ending) k → KeepsStanding (object h.ending) h
 standing_with {E} h k is object stands =
     subst (λ (x : Sheet E). KeepsStanding (object x.ending) x) (sym is) stands

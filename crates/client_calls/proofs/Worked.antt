@@ -2,6 +2,7 @@
 use Rattle.std.proofs.Common.{◌≡◌, ap, ap₂, refl, ℕ, List, [], ◌∷◌, map}
 use Rattle.std.specs.List.{All}
 use Rattle.std.proofs.lemmas.List.Elements.{All-nil, All-cons}
+use Rattle.book_base.specs.SeqSpec.{SeqSpec}
 use Rattle.world_core.specs.Local.{Local}
 use Rattle.world_core.specs.Calls.{Reached, Is_announced, Has_record, Has_seen, Made, calls_in}
 use Rattle.report_lines.specs.declared.line.LineEnd.{LineEnd}
@@ -9,12 +10,12 @@ use Rattle.report_lines.specs.declared.line.LineEnd.TheVariants.{Pending, Unchec
 use Rattle.report_lines.specs.declared.line.Line.{Line}
 use Rattle.report_lines.specs.Lines.{made_of, reached_of}
 use Rattle.report_lines.specs.Workers.{IsJudgedBy}
-use Rattle.client_calls.specs.Ends.{Sequential, SaysJudged, EndsAs, AreLinesOfCalls}
+use Rattle.client_calls.specs.Ends.{SaysJudged, EndsAs, AreLinesOfCalls}
 use Rattle.client_calls.specs.Working.{JudgingClientsHaveWorked}
 
-module _ (object : Sequential) (n : ℕ) (l : Local) where
+module _ (object : SeqSpec) (n : ℕ) (l : Local) where
   abbrev Judged : LineEnd → Type 0
-  Judged end = IsJudgedBy object.init object.next n l end
+  Judged end = IsJudgedBy object n l end
 
   reached_is : (reached : Reached) (end : LineEnd) → EndsAs (SaysJudged object n l) reached end
       → reached_of end ≡ reached

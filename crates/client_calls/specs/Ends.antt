@@ -2,6 +2,7 @@
 use Rattle.std.specs.Prelude.{◌≡◌, ℕ, List, []}
 use Rattle.std.specs.List.{AllZip}
 use Rattle.book_base.specs.declared.call.Record.{Record}
+use Rattle.book_base.specs.SeqSpec.{SeqSpec}
 use Rattle.world_core.specs.Local.{Local}
 use Rattle.world_core.specs.Calls.{Reached, Is_announced, Has_record, Has_seen, Made, calls_in}
 use Rattle.report_lines.specs.declared.line.LineEnd.{LineEnd}
@@ -11,27 +12,22 @@ use Rattle.report_lines.specs.Phases.{HasMade}
 use Rattle.report_lines.specs.Allotments.{phases_of, KeepsTo}
 use Rattle.report_lines.specs.Workers.{IsJudgedBy}
 
--- A sequential object: the list that it begins with, and the list and the reply after an operation.
-pub record Sequential : Type 0 where
-  pub init : List ℕ
-  pub next : List ℕ → ℕ → List ℕ × ℕ
-
 -- No object: it answers 0 to everything.
-abbrev pub silent : Sequential
+abbrev pub silent : SeqSpec
 silent = record { init = []; next = λ list operation. (list, 0) }
 
 -- The line of a call that was judged by a sequential object: delivered or an error, with this
 -- record and this seen cut, by a book that the caller of n gathered there.
-abbrev pub SaysJudged : Sequential → ℕ → Local → Record → List ℕ → LineEnd → Type 0
+abbrev pub SaysJudged : SeqSpec → ℕ → Local → Record → List ℕ → LineEnd → Type 0
 SaysJudged object n l r cut Pending = ⊥
 SaysJudged object n l r cut (Unchecked r') = ⊥
 SaysJudged object n l r cut (Delivered r' cut') = (r' ≡ r) × (cut' ≡ cut)
-    × IsJudgedBy object.init object.next n l (Delivered r' cut')
+    × IsJudgedBy object n l (Delivered r' cut')
 SaysJudged object n l r cut (Error r' cut') = (r' ≡ r) × (cut' ≡ cut)
-    × IsJudgedBy object.init object.next n l (Error r' cut')
+    × IsJudgedBy object n l (Error r' cut')
 
 -- The line of a call that nobody judges: unchecked, with this record.
-abbrev pub SaysDeferred : Sequential → ℕ → Local → Record → List ℕ → LineEnd → Type 0
+abbrev pub SaysDeferred : SeqSpec → ℕ → Local → Record → List ℕ → LineEnd → Type 0
 SaysDeferred object n l r cut end = end ≡ Unchecked r
 
 -- The end of a line says how far its call has come; where the call has seen a cut, the end is as

@@ -1,5 +1,6 @@
 ghost use Rattle.std.specs.Prelude.{◌≡◌, ℕ, List};
 ghost use Rattle.book_base.specs.declared.call.Record.{Record};
+ghost use Rattle.book_base.specs.SeqSpec.{SeqSpec};
 ghost use Rattle.world_core.specs.Local.{Local};
 ghost use Rattle.report_lines.specs.declared.line.LineEnd.{LineEnd};
 ghost use Rattle.report_lines.specs.Phases.{progress_of};
@@ -7,9 +8,8 @@ ghost use Rattle.row_table.specs.Callers.{local_with, IsCallerOf, IsStill};
 ghost use Rattle.row_gather.specs.Gathered.{IsGatheredBy};
 ghost use Rattle.drv_wrapper.specs.Growth.{Grows};
 ghost use Rattle.enforcer.specs.States.{caller_seen, cut_seen};
-ghost use Rattle.client_calls.specs.Ends.{Sequential};
 ghost use Rattle.client_calls.specs.Endings.{record_seen, caller_ended, local_ended, StandsAfter, FitsError, SaysOf};
-ghost use Rattle.client_calls.specs.Keeping.{StandsBy};
+ghost use Rattle.enforcer.specs.Lines.{OrderStandsIn};
 
 use crate::ended::Ended;
 use enforcer::{Gathered, Seen};
@@ -21,11 +21,11 @@ use world_core::Program;
 /// How the calls of a client end, once a cut was seen for them: with a judgement, or without one.
 pub trait Ending {
     /// The sequential object that the ending judges by, where it judges.
-    ghost object: { Self → Sequential };
+    ghost object: { Self → SeqSpec };
 
     /// What the end of a line says, by the sequential object, for a number of callers: of a
     /// caller's local, and of the record and the seen cut of the call.
-    ghost says: { Sequential → ℕ → Local → Record → List ℕ → LineEnd → Type 0 };
+    ghost says: { SeqSpec → ℕ → Local → Record → List ℕ → LineEnd → Type 0 };
 
     /// Ends a call for which a cut was seen. The caller's progress stays, and it is halted after an
     /// error, and where memory is wanted.
@@ -45,7 +45,7 @@ pub trait Ending {
         // The caller has peeked each word of the book that was gathered before, where there is one.
         requires gathered { IsGatheredBy (local_with (caller_seen seen)) gathered.old }
         // The kept order stands for the object in the book that was gathered before.
-        requires standing { StandsBy (object self.old) gathered.old standing.old }
+        requires standing { OrderStandsIn (object self.old) gathered.old standing.old }
         // The sequential object of the ending stays.
         ensures object { object self.new ≡ object self.old }
         // The caller is still one of these rows, with the same number.
@@ -68,7 +68,7 @@ pub trait Ending {
         // The caller has peeked each word of the book that is gathered now, where there is one.
         ensures kept { IsGatheredBy (local_ended result) gathered.new }
         // The order that is kept now stands for the object in the book that is gathered now.
-        ensures standing { StandsBy (object self.new) gathered.new standing.new };
+        ensures standing { OrderStandsIn (object self.new) gathered.new standing.new };
 
     /// An ending of this kind for another caller.
     fn another(&self) -> Self
@@ -76,6 +76,6 @@ pub trait Ending {
         ensures { object result ≡ object self.now };
 
     /// What the end of a line says stays true as the caller makes further steps.
-    ghost stays: { (o : Sequential) (n : ℕ) (l m : Local) (r : Record) (cut : List ℕ)
-        (end : LineEnd) → Grows l m → says o n l r cut end → says o n m r cut end };
+    ghost stays: { (o : SeqSpec) (n : ℕ) (l m : Local) (r : Record) (cut : List ℕ) (end : LineEnd)
+        → Grows l m → says o n l r cut end → says o n m r cut end };
 }

@@ -33,7 +33,7 @@ fn ended_by<P: Program>(caller: Caller<P>, end: LineEnd) -> Ended<P>
 }
 
 impl<S: SeqObject> Ending for Judging<'_, S> {
-    ghost object = { λ judging. record { init = S.init judging.sequential.now; next = S.next judging.sequential.now } };
+    ghost object = { λ judging. S.spec judging.sequential.now };
 
     ghost says = { SaysJudged };
 

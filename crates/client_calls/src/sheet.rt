@@ -4,7 +4,7 @@ ghost use Rattle.row_gather.specs.Gathered.{IsGatheredBy};
 ghost use Rattle.enforcer.specs.States.{caller_published};
 ghost use Rattle.client_calls.specs.Endings.{Ends, IsNoted};
 ghost use Rattle.client_calls.specs.Stands.{local_at_stand};
-ghost use Rattle.client_calls.specs.Keeping.{StandsBy};
+ghost use Rattle.enforcer.specs.Lines.{OrderStandsIn};
 
 use crate::ended::Ended;
 use crate::ending::Ending;
@@ -76,7 +76,7 @@ impl<'a, E: Ending> Sheet<'a, E> {
         requires rows { IsCallerOf P.meaning rows.now (caller_published published) }
         requires gathered { IsGatheredBy (local_with (caller_published published))
             self.old.gathered }
-        requires standing { StandsBy (E.object self.old.ending) self.old.gathered
+        requires standing { OrderStandsIn (E.object self.old.ending) self.old.gathered
             self.old.standing }
         requires room { vec_len self.old.lines < vec_capacity self.old.lines }
         ensures ends { Ends P.meaning rows.now (E.says (E.object self.new.ending)) published op
@@ -86,7 +86,8 @@ impl<'a, E: Ending> Sheet<'a, E> {
             × (self.new.operations.now ≡ self.old.operations.now) }
         ensures object { E.object self.new.ending ≡ E.object self.old.ending }
         ensures kept { IsGatheredBy (local_at_stand result) self.new.gathered }
-        ensures standing { StandsBy (E.object self.new.ending) self.new.gathered self.new.standing }
+        ensures standing { OrderStandsIn (E.object self.new.ending) self.new.gathered
+            self.new.standing }
     {
         let seen = seen(published, rows, steps);
         let ended = self

@@ -314,16 +314,17 @@ none-held reading init test n empty =
 -- Where more takes of some values have taken effect by a moment than puts of them may have by then,
 -- no container that begins empty has a legal order of a book with this table.
 pub takes_follow_puts : TakesFollowPuts
-takes_follow_puts reading book table values m few ahead init next is container empty has =
+takes_follow_puts reading book table values m few ahead spec is container empty has =
     let wide : length book ≤ length (start book) = wide-start book in
     omega (
       arith,
       ahead,
       left-start (is_counted counted.DueTakes values m) table (length book),
       left-start (is_counted counted.EarlyPuts values m) table (length book),
-      none-held reading init (listed values) (suc (sum values)) empty,
-      takes-behind reading book next table values m is container few (start book) init has.0 wide
-          (continues_from_legal_order book init next (start book) has.0 wide
+      none-held reading spec.init (listed values) (suc (sum values)) empty,
+      takes-behind reading book spec.next table values m is container few
+          (start book) spec.init has.0 wide
+          (continues_from_legal_order book spec (start book) has.0 wide
           (λ i. get_or-replicate_default (length book) i 0) has.1),
     )
 
@@ -331,19 +332,20 @@ takes_follow_puts reading book table values m few ahead init next is container e
 -- some values have taken effect than takes may have taken out by the moment of the take's own view,
 -- or by a later one, no container that begins empty has a legal order of a book with this table.
 pub finds_leave_nothing : FindsLeaveNothing
-finds_leave_nothing reading book table find r values m n found known before low few ahead init
-    next is container empty has =
+finds_leave_nothing reading book table find r values m n found known before low few ahead spec is
+    container empty has =
     let wide : length book ≤ length (start book) = wide-start book in
     omega (
       arith,
       ahead,
       left-start (is_counted counted.DuePuts values m) table (length book),
       left-start (is_counted counted.EarlyTakes values n) table (length book),
-      none-held reading init (listed values) (suc (sum values)) empty,
-      finds-behind reading book next table find r values m n is container found known before low
-          few (start book) init has.0 wide
+      none-held reading spec.init (listed values) (suc (sum values)) empty,
+      finds-behind reading book spec.next table find r values m n is container found
+          known before low
+          few (start book) spec.init has.0 wide
           (omega (arith, get_or-replicate_default {X = ℕ} (length book) find.caller 0))
-          (continues_from_legal_order book init next (start book) has.0 wide
+          (continues_from_legal_order book spec (start book) has.0 wide
           (λ i. get_or-replicate_default (length book) i 0) has.1),
     )
 
@@ -361,10 +363,10 @@ takes-refute table values m few ahead reading book =
 pub find-refutes : (table : Table) (place m : ℕ) (values : List ℕ) (t : TimedCall)
     → slice_get table.finds.items place ≡ Some t → m < t.span.first → t.span.last < NEVER
     → m < NEVER → PutsAhead table values m t.span.last → IsRefuted table
-find-refutes table place m values t at before few_t few ahead reading book init next is container
+find-refutes table place m values t at before few_t few ahead reading book spec is container
     empty has =
     let right = is.finds.right place t at in
     let there = answered-last reading book t right.0 few_t in
     finds_leave_nothing reading book table t.call there.0 values m t.span.last right.1 there.1
     (λ held. omega (arith, before, (right.0.span.least m held).0)) (omega (arith, there.2)) few
-    ahead init next is container empty has
+    ahead spec is container empty has

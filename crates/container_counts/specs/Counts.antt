@@ -1,6 +1,7 @@
 -- Counts of a table's calls that put in or take out one of some values, up to a moment.
 use Rattle.std.specs.Prelude.{◌≡◌, ℕ, ◌<◌, Bool, true, false, nat_eq, nat_le, List, [], count_by, if◌then◌else◌}
 use Rattle.std.specs.List.{list_any, sum_by}
+use Rattle.book_base.specs.SeqSpec.{SeqSpec}
 use Rattle.book_base.specs.Book.{Page}
 use Rattle.book_base.specs.Order.{HasLegalOrder}
 use Rattle.history_rules.specs.Container.{Reading, IsContainer}
@@ -73,9 +74,9 @@ TakesAhead table values m n = count_in (is_counted counted.EarlyPuts values m) t
 
 -- Where the book has this table, no container that begins empty has a legal order of it.
 abbrev pub ContainerHasNoOrder : Reading → Table → List Page → Type 0
-ContainerHasNoOrder reading table book = (init : List ℕ) (next : List ℕ → ℕ → List ℕ × ℕ)
-    → IsTable reading book table → IsContainer reading next → reading.values init ≡ []
-    → HasLegalOrder init next book → ⊥
+ContainerHasNoOrder reading table book = (spec : SeqSpec)
+    → IsTable reading book table → IsContainer reading spec.next → reading.values spec.init ≡ []
+    → HasLegalOrder spec book → ⊥
 
 -- Whatever book has this table, and however it is read, no container that begins empty has a legal
 -- order of it.

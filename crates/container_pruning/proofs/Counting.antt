@@ -4,6 +4,7 @@ use Rattle.std.proofs.lemmas.Bool.{cases_lt, cases_eq, cases_Bool, cond-true, co
 use Rattle.std.proofs.lemmas.Option.{same_Some, slice_get_within}
 use Rattle.std.proofs.lemmas.List.{get_or_past, length-set}
 use Rattle.list_laws.proofs.Options.{some_from_is_some_and}
+use Rattle.book_base.specs.SeqSpec.{SeqSpec}
 use Rattle.book_base.specs.Cut.{IsWithin}
 use Rattle.book_base.specs.declared.call.Record.{Record}
 use Rattle.book_base.specs.declared.call.Call.{Call}
@@ -438,13 +439,13 @@ early_by_count reading book uses a is early o e =
     (sym found.1) (omega (arith, within o.caller, late)))
 
 -- where a value is taken more often than it is put in, the book has no legal order
-pub none_by_count : (reading : Reading) (init : List ℕ) (next : List ℕ → ℕ → List ℕ × ℕ)
-    (book : List Page) (uses : Uses) (v : ℕ) → AreUsesOf reading book (length book) 0 uses
+pub none_by_count : (reading : Reading) (spec : SeqSpec) (book : List Page) (uses : Uses) (v : ℕ)
+    → AreUsesOf reading book (length book) 0 uses
     → (use_of uses.by_value.entries v).puts < (use_of uses.by_value.entries v).takes
-    → IsContainer reading next → reading.values init ≡ [] → ¬ HasLegalOrder init next book
-none_by_count reading init next book uses v is more container empty =
+    → IsContainer reading spec.next → reading.values spec.init ≡ [] → ¬ HasLegalOrder spec book
+none_by_count reading spec book uses v is more container empty =
     let each = is.each v in
-    taken_no_more_than_put reading init next book container empty v each.takers each.putters
+    taken_no_more_than_put reading spec book container empty v each.takers each.putters
     each.different
     (λ k call at. takes_by_deal reading book call v (each.only_takers k call at).1)
     (λ call puts. let e = deal_of_put reading book call v puts in

@@ -9,6 +9,7 @@ use Rattle.list_laws.proofs.Prefixes.{slice_get-take_within, slice_get-take_belo
 use Rattle.book_base.specs.declared.call.Call.{Call}
 use Rattle.book_base.specs.declared.call.Place.{Place}
 use Rattle.book_base.specs.declared.call.Record.{Record}
+use Rattle.book_base.specs.SeqSpec.{SeqSpec}
 use Rattle.book_base.specs.Cut.{Holds}
 use Rattle.book_base.specs.Book.{Page, IsCall, IsAnswered, record_of}
 use Rattle.book_base.specs.Order.{call_at, StandsAt, step_at, IsLegalOrder, HasLegalOrder}
@@ -21,12 +22,11 @@ use Rattle.container_pruning.specs.Stuck.{IsBlocked}
 use Rattle.container_pruning.proofs.Counting.{call_of}
 
 -- the cut and the list that a prefix of an order reaches
-pub record IsReached (init : List ℕ) (next : List ℕ → ℕ → List ℕ × ℕ) (book : List Page)
-    (prefix : List Place) : Type 0 where
+pub record IsReached (spec : SeqSpec) (book : List Page) (prefix : List Place) : Type 0 where
   pub cut : List ℕ
   pub list : List ℕ
   pub wide : length cut ≡ length book
-  pub reaches : Reaches init next book prefix cut list
+  pub reaches : Reaches spec book prefix cut list
 
 -- a call of a prefix of an order is in the order, at the same place
 stands_in_prefix : (order : List Place) (n k : ℕ) (call : Call) → StandsAt (take n order) k call
@@ -39,12 +39,11 @@ stands_so_early : (order : List Place) (n k : ℕ) (call : Call) → k < n → S
 stands_so_early order n k call lt s = (s.0, slice_get-take_within n order k lt ∙ s.1, s.2)
 
 -- the next place of an order has its caller's next number
-next_number : (init : List ℕ) (next : List ℕ → ℕ → List ℕ × ℕ) (book : List Page)
-    (order : List Place) → IsLegalOrder init next book order → (n : ℕ) (place : Place)
-    → slice_get order n ≡ Some place
-    → (cut list : List ℕ) → Reaches init next book (take n order) cut list
+next_number : (spec : SeqSpec) (book : List Page) (order : List Place)
+    → IsLegalOrder spec book order → (n : ℕ) (place : Place) → slice_get order n ≡ Some place
+    → (cut list : List ℕ) → Reaches spec book (take n order) cut list
     → place.number ≡ get_or cut place.caller 0
-next_number init next book order legal n place at cut list reaches =
+next_number spec book order legal n place at cut list reaches =
     let call : Call = call_at place in
     let here : StandsAt order n call = (place, at, refl) in
     let no_more : get_or cut place.caller 0 ≤ place.number =
@@ -68,17 +67,16 @@ next_number init next book order legal n place at cut list reaches =
     ]
 
 -- each prefix of a legal order reaches some cut
-pub prefix_reaches : (init : List ℕ) (next : List ℕ → ℕ → List ℕ × ℕ) (book : List Page)
-    (order : List Place) → IsLegalOrder init next book order → (n : ℕ) → n ≤ length order
-    → IsReached init next book (take n order)
-prefix_reaches init next book order legal zero within = record {
+pub prefix_reaches : (spec : SeqSpec) (book : List Page) (order : List Place)
+    → IsLegalOrder spec book order → (n : ℕ) → n ≤ length order → IsReached spec book (take n order)
+prefix_reaches spec book order legal zero within = record {
   cut = replicate (length book) 0;
-  list = init;
+  list = spec.init;
   wide = length-replicate (length book) 0;
-  reaches = no_places_reach_the_start init next book (length book);
+  reaches = no_places_reach_the_start spec book (length book);
 }
-prefix_reaches init next book order legal (suc n) within =
-    let before = prefix_reaches init next book order legal n (omega arith) in
+prefix_reaches spec book order legal (suc n) within =
+    let before = prefix_reaches spec book order legal n (omega arith) in
     let inside : n < length order = omega arith in
     let place : Place = get_or order n (record { caller = 0; number = 0; reply = 0 }) in
     let at : slice_get order n ≡ Some place =
@@ -86,18 +84,19 @@ prefix_reaches init next book order legal (suc n) within =
     let there : IsCall book (call_at place) = legal.calls n (call_at place) (place, at, refl) in
     let caller : place.caller < length before.cut =
     omega (arith, before.wide, caller_from_call book place.caller place.number there) in
-    let on = one_more_place_reaches_on init next book
+    let on = one_more_place_reaches_on spec book
     (take n order) before.cut before.list place before.reaches caller
-    (next_number init next book order legal n place at before.cut before.list before.reaches) in
+    (next_number spec book order legal n place at before.cut before.list before.reaches) in
     let more : take n order ++ place ∷ [] ≡ take (suc n) order =
     sym (take_more order n (record { caller = 0; number = 0; reply = 0 }) inside)
     ∙ ap (λ (m : ℕ). take m order) {x = n + 1} {y = suc n} (omega arith) in
     record {
       cut = set before.cut place.caller (place.number + 1);
-      list = (next before.list (step_at book place).0).0;
+      list = (spec.next before.list (step_at book place).0).0;
       wide = length-set before.cut place.caller (place.number + 1) ∙ before.wide;
-      reaches = subst (λ (prefix : List Place). Reaches init next book prefix (set before.cut
-          place.caller (place.number + 1)) (next before.list (step_at book place).0).0) more on;
+      reaches = subst (λ (prefix : List Place). Reaches spec book prefix (set before.cut
+          place.caller (place.number + 1)) (spec.next before.list (step_at book place).0).0) more
+          on;
     }
 
 -- an order is a prefix, a place, and what follows
@@ -117,13 +116,12 @@ IsEnd book known cut = (i : ℕ) → IsCall book (next_call cut i)
 
 -- where each caller's next call after a cut is blocked, no legal order has a first place outside
 -- the cut
-none_outside : (init : List ℕ) (next : List ℕ → ℕ → List ℕ × ℕ) (book : List Page) (known : Known)
-    (cut : List ℕ) (order : List Place) → ArePruningRules init next book known
-    → IsEnd book known cut
-    → IsLegalOrder init next book order → (p : ℕ) (place : Place) → slice_get order p ≡ Some place
+none_outside : (spec : SeqSpec) (book : List Page) (known : Known) (cut : List ℕ)
+    (order : List Place) → ArePruningRules spec book known → IsEnd book known cut
+    → IsLegalOrder spec book order → (p : ℕ) (place : Place) → slice_get order p ≡ Some place
     → ((k : ℕ) (call : Call) → k < p → StandsAt order k call → Holds cut call)
     → (¬ Holds cut (call_at place)) → ⊥
-none_outside init next book known cut order right ends legal p place at before outside =
+none_outside spec book known cut order right ends legal p place at before outside =
     let call : Call = call_at place in
     let here : StandsAt order p call = (place, at, refl) in
     let number : place.number ≡ get_or cut place.caller 0 =
@@ -143,7 +141,7 @@ none_outside init next book known cut order right ends legal p place at before o
     (sym is_next) (ends place.caller (subst (IsCall book) is_next (legal.calls p call here))) in
     elim blocked [
       | inl below ↦
-          let prefix = prefix_reaches init next book order legal p
+          let prefix = prefix_reaches spec book order legal p
           (omega (arith, slice_get_within order p place at)) in
           let less : (j : ℕ) → get_or prefix.cut j 0 ≤ get_or cut j 0 =
           λ j. elim (cases_lt (get_or cut j 0) (get_or prefix.cut j 0)) [
@@ -156,7 +154,7 @@ none_outside init next book known cut order right ends legal p place at before o
           ] in
           right prefix.cut prefix.list call (inl (below.0, omega (arith, below.1, less below.0)))
           (take p order) (drop (suc p) order) place.reply prefix.reaches
-          (subst (λ (o : List Place). IsLegalOrder init next book o)
+          (subst (λ (o : List Place). IsLegalOrder spec book o)
           (split_at order p place at) legal)
       | inr unmet ↦ elim unmet.1 [
         | inl seen ↦
@@ -172,23 +170,21 @@ none_outside init next book known cut order right ends legal p place at before o
     ]
 
 -- where each caller's next call after a cut is blocked, the cut holds all calls of a legal order
-all_inside : (init : List ℕ) (next : List ℕ → ℕ → List ℕ × ℕ) (book : List Page) (known : Known)
-    (cut : List ℕ) (order : List Place) → ArePruningRules init next book known
-    → IsEnd book known cut
-    → IsLegalOrder init next book order → (p k : ℕ) (call : Call) → k < p → StandsAt order k call
-    → Holds cut call
-all_inside init next book known cut order right ends legal zero k call lt stands =
+all_inside : (spec : SeqSpec) (book : List Page) (known : Known) (cut : List ℕ) (order : List Place)
+    → ArePruningRules spec book known → IsEnd book known cut → IsLegalOrder spec book order
+    → (p k : ℕ) (call : Call) → k < p → StandsAt order k call → Holds cut call
+all_inside spec book known cut order right ends legal zero k call lt stands =
     absurd (omega arith)
-all_inside init next book known cut order right ends legal (suc p) k call lt stands =
+all_inside spec book known cut order right ends legal (suc p) k call lt stands =
     elim (cases_lt k p) [
-      | inl less ↦ all_inside init next book known cut order right ends legal p k call less stands
+      | inl less ↦ all_inside spec book known cut order right ends legal p k call less stands
       | inr le ↦ elim (cases_lt call.number (get_or cut call.caller 0)) [
         | inl held ↦ held
         | inr out ↦
             let same : k ≡ p = omega arith in
-            absurd (none_outside init next book known cut order right ends legal k stands.0 stands.1
+            absurd (none_outside spec book known cut order right ends legal k stands.0 stands.1
             (λ j other less at.
-            all_inside init next book known cut order right ends legal p j other (omega arith) at)
+            all_inside spec book known cut order right ends legal p j other (omega arith) at)
             (λ held. absurd (omega (
               arith,
               out,
@@ -201,13 +197,13 @@ all_inside init next book known cut order right ends legal (suc p) k call lt sta
 
 -- where each caller's next call after a cut is blocked, a book with an answered call outside the
 -- cut has no legal order
-pub ends_too_early : (init : List ℕ) (next : List ℕ → ℕ → List ℕ × ℕ) (book : List Page)
-    (known : Known) (cut : List ℕ) → ArePruningRules init next book known → IsEnd book known cut
-    → ((call : Call) × IsAnswered book call × (¬ Holds cut call)) → ¬ HasLegalOrder init next book
-ends_too_early init next book known cut right ends missed h =
+pub ends_too_early : (spec : SeqSpec) (book : List Page) (known : Known) (cut : List ℕ)
+    → ArePruningRules spec book known → IsEnd book known cut
+    → ((call : Call) × IsAnswered book call × (¬ Holds cut call)) → ¬ HasLegalOrder spec book
+ends_too_early spec book known cut right ends missed h =
     let order = h.0 in
     let legal = h.1 in
     let answer = answer_stands book missed.0 missed.1 in
     let stands = legal.answered missed.0 answer.0 answer.1 in
-    missed.2 (all_inside init next book known cut order right ends legal
+    missed.2 (all_inside spec book known cut order right ends legal
     (suc stands.0) stands.0 missed.0 (omega arith) (_, stands.1, refl))

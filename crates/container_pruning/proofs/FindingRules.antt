@@ -11,6 +11,7 @@ use Rattle.book_base.specs.declared.call.Call.{Call}
 use Rattle.book_base.specs.declared.call.Record.{Record}
 use Rattle.book_base.specs.declared.pruning_rules.CallBound.{CallBound}
 use Rattle.book_base.specs.declared.TheConstants.{MAX_CALLERS}
+use Rattle.book_base.specs.SeqSpec.{SeqSpec}
 use Rattle.book_base.specs.Cut.{IsWithin}
 use Rattle.book_base.specs.Book.{Page, IsValid, calls_of, record_of, Precedes}
 use Rattle.book_base.specs.Order.{HasLegalOrder}
@@ -39,9 +40,9 @@ use Rattle.container_pruning.specs.FoundRules.{HoldsItsWords}
 -- ---- a book without a legal order
 
 -- whatever is known of a book without a legal order is right
-pub none_is_found : (init : List ℕ) (next : List ℕ → ℕ → List ℕ × ℕ) (book : List Page)
-    (known : Known) → ¬ HasLegalOrder init next book → ArePruningRules init next book known
-none_is_found init next book known none cut list call forbids before rest reply reaches legal =
+pub none_is_found : (spec : SeqSpec) (book : List Page) (known : Known) → ¬ HasLegalOrder spec book
+    → ArePruningRules spec book known
+none_is_found spec book known none cut list call forbids before rest reply reaches legal =
     none (_, legal)
 
 -- ---- bounds that forbid nothing, whatever the ranks
@@ -63,11 +64,11 @@ blank_call_bound book ranks call =
           call.caller [] (omega (arith, length-map book call_bounds_for)))
     ]
 
-blank_forbids_none : (init : List ℕ) (next : List ℕ → ℕ → List ℕ × ℕ) (book : List Page)
+blank_forbids_none : (spec : SeqSpec) (book : List Page)
     (ranks : List (ℕ × ℕ))
-    → ArePruningRules init next book
+    → ArePruningRules spec book
     (record { call_bounds = blank_call_bounds book; ranks = ranks })
-blank_forbids_none init next book ranks cut list call forbids =
+blank_forbids_none spec book ranks cut list call forbids =
     let at : IsBelow cut no_call_bound.predecessor_bound ⊎ HasEarly ranks list no_call_bound.limit =
     subst (λ (call_bound : CallBound). IsBelow cut call_bound.predecessor_bound
     ⊎ HasEarly ranks list call_bound.limit)
@@ -77,51 +78,48 @@ blank_forbids_none init next book ranks cut list call forbids =
       | inr early ↦ absurd (none_early ranks list early)
     ]
 
-pub blank_is_found : (init : List ℕ) (next : List ℕ → ℕ → List ℕ × ℕ) (book : List Page)
-    (known : Known) → known.call_bounds ≡ blank_call_bounds book
-    → ArePruningRules init next book known
-blank_is_found init next book known blank =
+pub blank_is_found : (spec : SeqSpec) (book : List Page) (known : Known)
+    → known.call_bounds ≡ blank_call_bounds book → ArePruningRules spec book known
+blank_is_found spec book known blank =
     subst (λ (call_bounds : _).
-    ArePruningRules init next book (record { call_bounds = call_bounds; ranks = known.ranks }))
-    (sym blank) (blank_forbids_none init next book known.ranks)
+    ArePruningRules spec book (record { call_bounds = call_bounds; ranks = known.ranks }))
+    (sym blank) (blank_forbids_none spec book known.ranks)
 
 -- ---- the calls that links name
 
-pub leads_before_put : (reading : Reading) (init : List ℕ) (next : List ℕ → ℕ → List ℕ × ℕ)
-    (book : List Page) (discipline : Discipline) (links : Links)
-    → AreLinks reading book discipline links
-    → IsContainer reading next → (discipline ≡ Queue → IsQueue reading next)
-    → reading.values init ≡ []
-    → (a b first put : Call) → Precedes book a b → (link_at links a).before ≡ Some first
-    → (link_at links b).after ≡ Some put → MustComeFirst init next book first put
-leads_before_put reading init next book discipline links is container queue none a b first put
+pub leads_before_put : (reading : Reading) (spec : SeqSpec) (book : List Page)
+    (discipline : Discipline) (links : Links) → AreLinks reading book discipline links
+    → IsContainer reading spec.next → (discipline ≡ Queue → IsQueue reading spec.next)
+    → reading.values spec.init ≡ [] → (a b first put : Call) → Precedes book a b
+    → (link_at links a).before ≡ Some first → (link_at links b).after ≡ Some put
+    → MustComeFirst spec book first put
+leads_before_put reading spec book discipline links is container queue none a b first put
     precedes before after =
     let taken = (is.each b).after put after in
     elim ((is.each a).before first before) [
       | inl nothing ↦
-          subst (λ (c : Call). MustComeFirst init next book c put) (sym nothing.1)
-          (empty_before_put reading init next book container none taken.0 a b put nothing.0 taken.1
+          subst (λ (c : Call). MustComeFirst spec book c put) (sym nothing.1)
+          (empty_before_put reading spec book container none taken.0 a b put nothing.0 taken.1
           precedes taken.2)
-      | inr led ↦ puts_in_order reading init next book
+      | inr led ↦ puts_in_order reading spec book
           (queue led.0) none led.1.0 taken.0 a b first put led.1.1 taken.1 precedes led.1.2 taken.2
     ]
 
-pub leads_before_kept : (reading : Reading) (init : List ℕ) (next : List ℕ → ℕ → List ℕ × ℕ)
-    (book : List Page) (discipline : Discipline) (links : Links)
-    → AreLinks reading book discipline links
-    → IsContainer reading next → (discipline ≡ Queue → IsQueue reading next)
-    → reading.values init ≡ []
-    → (a first put : Call) → PrecedesOpenTakes reading book a → (link_at links a).before
-    ≡ Some first → (link_at links put).is_kept ≡ true → MustComeFirst init next book first put
-leads_before_kept reading init next book discipline links is container queue none a first put early
+pub leads_before_kept : (reading : Reading) (spec : SeqSpec) (book : List Page)
+    (discipline : Discipline) (links : Links) → AreLinks reading book discipline links
+    → IsContainer reading spec.next → (discipline ≡ Queue → IsQueue reading spec.next)
+    → reading.values spec.init ≡ [] → (a first put : Call) → PrecedesOpenTakes reading book a
+    → (link_at links a).before ≡ Some first → (link_at links put).is_kept ≡ true
+    → MustComeFirst spec book first put
+leads_before_kept reading spec book discipline links is container queue none a first put early
     before kept =
     let stays = (is.each put).kept kept in
     elim ((is.each a).before first before) [
       | inl nothing ↦
-          subst (λ (c : Call). MustComeFirst init next book c put) (sym nothing.1)
-          (empty_before_open reading init next book container none stays.0 a put early nothing.0
+          subst (λ (c : Call). MustComeFirst spec book c put) (sym nothing.1)
+          (empty_before_open reading spec book container none stays.0 a put early nothing.0
           stays.1 stays.2)
-      | inr led ↦ taken_before_open reading init next book
+      | inr led ↦ taken_before_open reading spec book
           (queue led.0) none led.1.0 stays.0 a first put early led.1.1 led.1.2 stays.1 stays.2
     ]
 
@@ -132,27 +130,26 @@ none_early_without ranks list limit empty early =
     let nothing : HasEarly [] list limit =
     subst (λ (rs : List (ℕ × ℕ)). HasEarly rs list limit) empty early in nothing.2
 
-pub followed_without_ranks : (reading : Reading) (init : List ℕ) (next : List ℕ → ℕ → List ℕ × ℕ)
-    (book : List Page) (discipline : Discipline) (links : Links) (ranks : List (ℕ × ℕ))
-    → AreLinks reading book discipline links
-    → IsContainer reading next → (discipline ≡ Queue → IsQueue reading next)
-    → reading.values init ≡ [] → ranks ≡ [] → AreFollowed init next book links ranks
-followed_without_ranks reading init next book discipline links ranks is container queue none empty =
+pub followed_without_ranks : (reading : Reading) (spec : SeqSpec) (book : List Page)
+    (discipline : Discipline) (links : Links) (ranks : List (ℕ × ℕ))
+    → AreLinks reading book discipline links → IsContainer reading spec.next
+    → (discipline ≡ Queue → IsQueue reading spec.next)
+    → reading.values spec.init ≡ [] → ranks ≡ [] → AreFollowed spec book links ranks
+followed_without_ranks reading spec book discipline links ranks is container queue none empty =
     record {
-      order = leads_before_put reading init next book discipline links is container queue none;
+      order = leads_before_put reading spec book discipline links is container queue none;
       covers = λ a b put precedes after cut list early.
           absurd (none_early_without ranks list (link_at links a).reach empty early);
     }
 
-pub kept_without_ranks : (reading : Reading) (init : List ℕ) (next : List ℕ → ℕ → List ℕ × ℕ)
-    (book : List Page) (discipline : Discipline) (links : Links) (uses : Uses)
-    (ranks : List (ℕ × ℕ))
+pub kept_without_ranks : (reading : Reading) (spec : SeqSpec) (book : List Page)
+    (discipline : Discipline) (links : Links) (uses : Uses) (ranks : List (ℕ × ℕ))
     → AreLinks reading book discipline links → AreUsesOf reading book (length book) 0 uses
-    → IsContainer reading next → (discipline ≡ Queue → IsQueue reading next)
-    → reading.values init ≡ [] → ranks ≡ [] → AreKept init next book links uses.open_from ranks
-kept_without_ranks reading init next book discipline links uses ranks is counted container queue
+    → IsContainer reading spec.next → (discipline ≡ Queue → IsQueue reading spec.next)
+    → reading.values spec.init ≡ [] → ranks ≡ [] → AreKept spec book links uses.open_from ranks
+kept_without_ranks reading spec book discipline links uses ranks is counted container queue
     none empty = record {
-      order = λ a first put early. leads_before_kept reading init next book discipline links is
+      order = λ a first put early. leads_before_kept reading spec book discipline links is
           container queue none a first put (early_by_count reading book uses a counted early);
       covers = λ a put is_early kept cut list early.
           absurd (none_early_without ranks list (link_at links a).reach empty early);
@@ -220,14 +217,13 @@ take_record : (reading : Reading) (book : List Page) (call : Call) (v : ℕ)
     × (reach_of book call ≡ sum r.view + 1)
 take_record reading book call v takes = (takes.1, takes.3, ap reach_by takes.3)
 
-pub followed_by_stack : (reading : Reading) (init : List ℕ) (next : List ℕ → ℕ → List ℕ × ℕ)
-    (book : List Page) (links : Links) (ranks : List (ℕ × ℕ)) → IsValid book
-    → AreLinks reading book Stack links
-    → AreRanks reading book ranks → IsStack reading next → HoldsItsWords reading
-    → reading.values init ≡ [] → AreFollowed init next book links ranks
-followed_by_stack reading init next book links ranks valid is are stack holds none = record {
-  order = leads_before_put reading init next book Stack links is
-      (stack_is_container reading next stack) (λ e. absurd cc) none;
+pub followed_by_stack : (reading : Reading) (spec : SeqSpec) (book : List Page) (links : Links)
+    (ranks : List (ℕ × ℕ)) → IsValid book → AreLinks reading book Stack links
+    → AreRanks reading book ranks → IsStack reading spec.next → HoldsItsWords reading
+    → reading.values spec.init ≡ [] → AreFollowed spec book links ranks
+followed_by_stack reading spec book links ranks valid is are stack holds none = record {
+  order = leads_before_put reading spec book Stack links is
+      (stack_is_container reading spec.next stack) (λ e. absurd cc) none;
   covers = λ a b put precedes after cut list early.
       let word = early_is_taken reading book ranks list (link_at links a).reach are early in
       let x : ℕ = word.0 in
@@ -242,7 +238,7 @@ followed_by_stack reading init next book links ranks valid is are stack holds no
             omega (arith, word.4, reach, ranked.rank_is, take.2, r.2) in
             let before : Precedes book ranked.take b =
             precedes_below book valid a b ranked.take r.0 take.0 r.1 take.1 few precedes in
-            put_is_covered reading init next book stack none x taken.0 ranked.take b ranked.put put
+            put_is_covered reading spec book stack none x taken.0 ranked.take b ranked.put put
             ranked.takes taken.1 before ranked.alone taken.2 cut list
             (holds list x ranked.takes.1.reply word.2 ranked.takes.5)
       ];
@@ -258,16 +254,15 @@ early_below book valid open_from a c r s at_a at_c few early =
     subst (λ (o : Option Record). IsSomeAnd o (λ s. IsWithin s.view open_from)) (sym at_c)
     (λ i. omega (arith, within i, view_below book valid a c r s at_a at_c few i))
 
-pub kept_by_stack : (reading : Reading) (init : List ℕ) (next : List ℕ → ℕ → List ℕ × ℕ)
-    (book : List Page) (links : Links) (uses : Uses) (ranks : List (ℕ × ℕ)) → IsValid book
-    → AreLinks reading book Stack links
+pub kept_by_stack : (reading : Reading) (spec : SeqSpec) (book : List Page) (links : Links)
+    (uses : Uses) (ranks : List (ℕ × ℕ)) → IsValid book → AreLinks reading book Stack links
     → AreUsesOf reading book (length book) 0 uses → AreRanks reading book ranks
-    → IsStack reading next → HoldsItsWords reading
-    → reading.values init ≡ [] → AreKept init next book links uses.open_from ranks
-kept_by_stack reading init next book links uses ranks valid is counted are stack holds none =
+    → IsStack reading spec.next → HoldsItsWords reading
+    → reading.values spec.init ≡ [] → AreKept spec book links uses.open_from ranks
+kept_by_stack reading spec book links uses ranks valid is counted are stack holds none =
     record {
-      order = λ a first put early. leads_before_kept reading init next book Stack links is
-          (stack_is_container reading next stack) (λ e. absurd cc) none a first put
+      order = λ a first put early. leads_before_kept reading spec book Stack links is
+          (stack_is_container reading spec.next stack) (λ e. absurd cc) none a first put
           (early_by_count reading book uses a counted early);
       covers = λ a put is_early kept cut list early.
           let word = early_is_taken reading book ranks list (link_at links a).reach are early in
@@ -282,7 +277,7 @@ kept_by_stack reading init next book links uses ranks valid is counted are stack
                 omega (arith, word.4, reach, ranked.rank_is, take.2, r.2) in
                 let before = early_by_count reading book uses ranked.take counted (early_below book
                 valid uses.open_from a ranked.take r.0 take.0 r.1 take.1 few is_early) in
-                open_covers_none reading init next book stack none word.0 stays.0
+                open_covers_none reading spec book stack none word.0 stays.0
                 ranked.take ranked.put
                 put before ranked.takes ranked.alone stays.1 stays.2 cut list
                 (holds list word.0 ranked.takes.1.reply word.2 ranked.takes.5)

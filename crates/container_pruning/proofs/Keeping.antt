@@ -8,6 +8,7 @@ use Rattle.list_laws.proofs.Places.{slice_get-take}
 use Rattle.list_laws.proofs.Prefixes.{slice_get-take_within, slice_get-take_below}
 use Rattle.book_base.specs.declared.call.Call.{Call}
 use Rattle.book_base.specs.declared.call.Place.{Place}
+use Rattle.book_base.specs.SeqSpec.{SeqSpec}
 use Rattle.book_base.specs.Book.{Page, operation_of, record_of, Precedes}
 use Rattle.book_base.specs.Order.{call_at, StandsAt, IsLegalOrder}
 use Rattle.book_base.specs.PruningRules.{MustComeFirst}
@@ -29,13 +30,11 @@ takes_from_value Takes shown v e = (refl, e)
 takes_from_value Neither shown v e = absurd (none-some v e)
 
 -- A step that takes out a value is one of an answered call that does, or of an unanswered take.
-pub taker_of_step : (reading : Reading) (init : List ℕ) (next : List ℕ → ℕ → List ℕ × ℕ)
-    (book : List Page) (order : List Place) → IsLegalOrder init next book order
-    → (k v : ℕ) (step : ℕ × ℕ) → slice_get (steps_of book order) k ≡ Some step
-    → taken_by reading step ≡ Some v
-    → (call : Call) × StandsAt order k call
+pub taker_of_step : (reading : Reading) (spec : SeqSpec) (book : List Page) (order : List Place)
+    → IsLegalOrder spec book order → (k v : ℕ) (step : ℕ × ℕ) → slice_get (steps_of book order) k
+    ≡ Some step → taken_by reading step ≡ Some v → (call : Call) × StandsAt order k call
     × (TakesOut reading book call v ⊎ (deal_of reading book call ≡ deals.OpenTake))
-taker_of_step reading init next book order legal k v step e is =
+taker_of_step reading spec book order legal k v step e is =
     let place = place_of_step book order k step e in
     let call : Call = call_at place.0 in
     let stands : StandsAt order k call = (place.0, place.1, refl) in
@@ -70,14 +69,12 @@ PrecedesOpenTakes reading book a = (o : Call) → deal_of reading book o ≡ dea
 
 -- No step up to that of a call that precedes each unanswered take takes out a value that no
 -- answered call takes.
-pub none_takes_kept : (reading : Reading) (init : List ℕ) (next : List ℕ → ℕ → List ℕ × ℕ)
-    (book : List Page) (order : List Place) → IsLegalOrder init next book order
-    → (a : Call) (v : ℕ) → PrecedesOpenTakes reading book a → IsNeverTaken reading book v → (p : ℕ)
-    → StandsAt order p a
-    → (k : ℕ) (step : ℕ × ℕ) → k ≤ p → slice_get (steps_of book order) k ≡ Some step
-    → taken_by reading step ≡ Some v → ⊥
-none_takes_kept reading init next book order legal a v early never p stands k step le at takes =
-    let taker = taker_of_step reading init next book order legal k v step at takes in
+pub none_takes_kept : (reading : Reading) (spec : SeqSpec) (book : List Page) (order : List Place)
+    → IsLegalOrder spec book order → (a : Call) (v : ℕ) → PrecedesOpenTakes reading book a
+    → IsNeverTaken reading book v → (p : ℕ) → StandsAt order p a → (k : ℕ) (step : ℕ × ℕ) → k ≤ p
+    → slice_get (steps_of book order) k ≡ Some step → taken_by reading step ≡ Some v → ⊥
+none_takes_kept reading spec book order legal a v early never p stands k step le at takes =
+    let taker = taker_of_step reading spec book order legal k v step at takes in
     elim taker.2 [
       | inl answered ↦ never taker.0 answered
       | inr unanswered ↦ let lt : p < k =
@@ -86,32 +83,32 @@ none_takes_kept reading init next book order legal a v early never p stands k st
 
 -- In any container, a take that found nothing and precedes each unanswered take comes before the
 -- put of a value that no answered call takes.
-pub empty_before_open : (reading : Reading) (init : List ℕ) (next : List ℕ → ℕ → List ℕ × ℕ)
-    (book : List Page) → IsContainer reading next → reading.values init ≡ []
-    → (v : ℕ) (empty put_v : Call) → PrecedesOpenTakes reading book empty
-    → FindsNothing reading book empty → PutsIn reading book put_v v → IsNeverTaken reading book v
-    → MustComeFirst init next book empty put_v
-empty_before_open reading init next book is none v empty put_v early finds puts never order
+pub empty_before_open : (reading : Reading) (spec : SeqSpec) (book : List Page)
+    → IsContainer reading spec.next → reading.values spec.init ≡ [] → (v : ℕ) (empty put_v : Call)
+    → PrecedesOpenTakes reading book empty → FindsNothing reading book empty
+    → PutsIn reading book put_v v → IsNeverTaken reading book v
+    → MustComeFirst spec book empty put_v
+empty_before_open reading spec book is none v empty put_v early finds puts never order
     legal q stands =
     let steps = steps_of book order in
-    let e = answered_step reading init next book order legal empty None finds in
+    let e = answered_step reading spec book order legal empty None finds in
     let put = putting_step reading book order put_v v q puts stands in
     elim (cases_lt e.0 q) [
       | inl before ↦ (e.0, before, e.2)
       | inr le ↦ elim (cases_lt q e.0) [
         | inl after ↦
             let nothing =
-            (take_at reading next is init steps legal.run e.0 e.1 None e.3 e.4 e.5).0 in
+            (take_at reading spec.next is spec.init steps legal.run e.0 e.1 None e.3 e.4 e.5).0 in
             let taken : 1 ≤ how_often (taken_by reading) v (take e.0 steps) =
             omega (
               arith,
-              held_after reading next is v init steps legal.run none e.0,
+              held_after reading spec.next is v spec.init steps legal.run none e.0,
               ap (times v) nothing,
               how_often-more (put_by reading) v steps q e.0 put.0 put.1
                   (puts_by reading put.0 v put.2) after,
             ) in
             let found = how_often-found (taken_by reading) v steps e.0 taken in
-            absurd (none_takes_kept reading init next book order legal empty v early never e.0 e.2
+            absurd (none_takes_kept reading spec book order legal empty v early never e.0 e.2
             found.0 found.1 (omega (arith, found.2)) found.3 found.4)
         | inr ge ↦
             absurd (deeds_apart reading steps q e.0 put.0 e.1 v put.1 e.3 put.2 e.4 (omega arith))
@@ -120,42 +117,45 @@ empty_before_open reading init next book is none v empty put_v early finds puts 
 
 -- In a queue, where the take of x precedes each unanswered take, the put of x comes before the put
 -- of a value that no answered call takes.
-pub taken_before_open : (reading : Reading) (init : List ℕ) (next : List ℕ → ℕ → List ℕ × ℕ)
-    (book : List Page) → IsQueue reading next → reading.values init ≡ []
-    → (x v : ℕ) (take_x put_x put_v : Call) → PrecedesOpenTakes reading book take_x
-    → TakesOut reading book take_x x → PutsInAlone reading book put_x x
-    → PutsIn reading book put_v v → IsNeverTaken reading book v
-    → MustComeFirst init next book put_x put_v
-taken_before_open reading init next book is none x v take_x put_x put_v early takes_x alone_x puts_v
+pub taken_before_open : (reading : Reading) (spec : SeqSpec) (book : List Page)
+    → IsQueue reading spec.next
+    → reading.values spec.init ≡ [] → (x v : ℕ) (take_x put_x put_v : Call)
+    → PrecedesOpenTakes reading book take_x → TakesOut reading book take_x x
+    → PutsInAlone reading book put_x x → PutsIn reading book put_v v → IsNeverTaken reading book v
+    → MustComeFirst spec book put_x put_v
+taken_before_open reading spec book is none x v take_x put_x put_v early takes_x alone_x puts_v
     never order legal q stands =
     let steps = steps_of book order in
-    let a = answered_step reading init next book order legal take_x (Some x) takes_x in
+    let a = answered_step reading spec book order legal take_x (Some x) takes_x in
     let put = putting_step reading book order put_v v q puts_v stands in
     let taken = takes_by reading a.1 x a.4 a.5 in
     let n : ℕ = suc a.0 in
     elim (cases_lt q n) [
       | inl within ↦
-          let found = put_before_kept reading next is init (take n steps)
-          (IsRunFrom-take next init n steps legal.run) none x v a.0 q a.1 put.0
+          let found = put_before_kept reading spec.next is spec.init (take n steps)
+          (IsRunFrom-take spec.next spec.init n steps legal.run) none x v a.0 q a.1 put.0
           (slice_get-take_within n steps a.0 (omega arith) ∙ a.3) taken
           (slice_get-take_within n steps q within ∙ put.1) (puts_by reading put.0 v put.2)
-          (λ k step at takes. none_takes_kept reading init next book order legal take_x v early
+          (λ k step at takes. none_takes_kept reading spec book order legal take_x v early
           never a.0 a.2 k step (omega (arith, slice_get-take_below n steps k step at))
           (slice_get-take n steps k step at) takes) in (
             found.0,
             found.2,
-            put_alone reading init next book order legal put_x x alone_x found.0 found.1
+            put_alone reading spec book order legal put_x x alone_x found.0 found.1
                 (slice_get-take n steps found.0 found.1 found.3) found.4,
           )
       | inr late ↦
-          let container = queue_is_container reading next is in
+          let container = queue_is_container reading spec.next is in
           let more = how_often-more (taken_by reading) x steps a.0 n a.1 a.3 taken (omega arith) in
           let found = how_often-found (put_by reading) x steps n
-          (omega
-          (arith, more, held_after reading next container x init steps legal.run none n)) in (
+          (omega (
+            arith,
+            more,
+            held_after reading spec.next container x spec.init steps legal.run none n,
+          )) in (
             found.0,
             omega (arith, found.2),
-            put_alone reading init next book order legal put_x x alone_x found.0 found.1
+            put_alone reading spec book order legal put_x x alone_x found.0 found.1
                 found.3 found.4,
           )
     ]

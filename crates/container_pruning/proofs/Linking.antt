@@ -113,17 +113,17 @@ link_is_right reading book uses discipline call deal link is e same =
 refused_by_deal : (reading : Reading) (book : List Page) (uses : Uses) (deal : Deal)
     → AreUsesOf reading book (length book) 0 uses → refuses uses deal ≡ true
     → HasNoneOfAny reading book
-refused_by_deal reading book uses (deals.Took v) is e init next container empty =
-    none_by_count reading init next book uses v is
+refused_by_deal reading book uses (deals.Took v) is e spec container empty =
+    none_by_count reading spec book uses v is
     (ltb-true (use_of uses.by_value.entries v).puts (use_of uses.by_value.entries v).takes e)
     container empty
-refused_by_deal reading book uses (deals.Put v) is e init next container empty =
+refused_by_deal reading book uses (deals.Put v) is e spec container empty =
     absurd (true≢false (sym e))
-refused_by_deal reading book uses deals.FoundNothing is e init next container empty =
+refused_by_deal reading book uses deals.FoundNothing is e spec container empty =
     absurd (true≢false (sym e))
-refused_by_deal reading book uses deals.OpenTake is e init next container empty =
+refused_by_deal reading book uses deals.OpenTake is e spec container empty =
     absurd (true≢false (sym e))
-refused_by_deal reading book uses deals.Other is e init next container empty =
+refused_by_deal reading book uses deals.Other is e spec container empty =
     absurd (true≢false (sym e))
 
 pub refused_is_right : (reading : Reading) (book : List Page) (uses : Uses) (deal : Deal)

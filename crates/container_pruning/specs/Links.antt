@@ -2,6 +2,7 @@
 use Rattle.std.specs.Prelude.{◌≡◌, ℕ, ◌+◌, ◌⊎◌, ◌==◌, nat_lt, Bool, true, false, List, [], length, map, Option, Some, None, slice_index_or, sum, if◌then◌else◌}
 use Rattle.book_base.specs.declared.call.Call.{Call}
 use Rattle.book_base.specs.declared.call.Record.{Record}
+use Rattle.book_base.specs.SeqSpec.{SeqSpec}
 use Rattle.book_base.specs.Book.{Page, IsCall, record_of, Precedes}
 use Rattle.book_base.specs.Order.{HasLegalOrder}
 use Rattle.book_base.specs.PruningRules.{HasEarly, IsInfeasible, MustComeFirst}
@@ -105,8 +106,8 @@ pub record IsLink (reading : Reading) (book : List Page) (discipline : Disciplin
 
 -- the book has no legal order for any container that begins empty
 abbrev pub HasNoneOfAny : Reading → List Page → Type 0
-HasNoneOfAny reading book = (init : List ℕ) (next : List ℕ → ℕ → List ℕ × ℕ)
-    → IsContainer reading next → reading.values init ≡ [] → ¬ HasLegalOrder init next book
+HasNoneOfAny reading book = (spec : SeqSpec)
+    → IsContainer reading spec.next → reading.values spec.init ≡ [] → ¬ HasLegalOrder spec book
 
 -- Links are right for a book.
 pub record AreLinks (reading : Reading) (book : List Page) (discipline : Discipline)
@@ -127,21 +128,21 @@ AreLinksOf book links = (call other : Call) → ((link_at links call).before ≡
 -- What the links say of a take b holds of an object, where a call a precedes b: the call that a's
 -- link names comes before the put of what b takes, and this put is infeasible at a list with a word
 -- of a rank below a's reach.
-pub record AreFollowed (init : List ℕ) (next : List ℕ → ℕ → List ℕ × ℕ) (book : List Page)
-    (links : Links) (ranks : List (ℕ × ℕ)) : Type 0 where
+pub record AreFollowed (spec : SeqSpec) (book : List Page) (links : Links)
+    (ranks : List (ℕ × ℕ)) : Type 0 where
   pub order : (a b first put : Call) → Precedes book a b → (link_at links a).before ≡ Some first
-      → (link_at links b).after ≡ Some put → MustComeFirst init next book first put
+      → (link_at links b).after ≡ Some put → MustComeFirst spec book first put
   pub covers : (a b put : Call) → Precedes book a b → (link_at links b).after ≡ Some put
       → (cut list : List ℕ) → HasEarly ranks list (link_at links a).reach
-      → IsInfeasible init next book cut list put
+      → IsInfeasible spec book cut list put
 
 -- What the links say of a value that no answered call takes holds of an object, where a call a
 -- precedes each unanswered take: the call that a's link names comes before the put of the value,
 -- and this put is infeasible at a list with a word of a rank below a's reach.
-pub record AreKept (init : List ℕ) (next : List ℕ → ℕ → List ℕ × ℕ) (book : List Page)
-    (links : Links) (open_from : List ℕ) (ranks : List (ℕ × ℕ)) : Type 0 where
+pub record AreKept (spec : SeqSpec) (book : List Page) (links : Links) (open_from : List ℕ)
+    (ranks : List (ℕ × ℕ)) : Type 0 where
   pub order : (a first put : Call) → IsEarly book open_from a → (link_at links a).before
-      ≡ Some first → (link_at links put).is_kept ≡ true → MustComeFirst init next book first put
+      ≡ Some first → (link_at links put).is_kept ≡ true → MustComeFirst spec book first put
   pub covers : (a put : Call) → IsEarly book open_from a → (link_at links put).is_kept ≡ true
       → (cut list : List ℕ) → HasEarly ranks list (link_at links a).reach
-      → IsInfeasible init next book cut list put
+      → IsInfeasible spec book cut list put

@@ -1,6 +1,7 @@
 -- Puts of a stack whose values outlast a take.
 use Rattle.std.specs.Prelude.{◌≡◌, ℕ, ◌⊎◌, true, List, Some}
 use Rattle.book_base.specs.declared.call.Call.{Call}
+use Rattle.book_base.specs.SeqSpec.{SeqSpec}
 use Rattle.book_base.specs.Book.{Page, Precedes}
 use Rattle.book_base.specs.PruningRules.{MustComeFirst}
 use Rattle.container_pruning.specs.declared.links.Links.{Links}
@@ -16,7 +17,7 @@ Outlasts book links open_from first take =
 
 -- A put that precedes a take, and whose value outlasts the take, comes before the put of what is
 -- taken.
-abbrev pub AreNested : List ℕ → (List ℕ → ℕ → List ℕ × ℕ) → List Page → Links → List ℕ → Type 0
-AreNested init next book links open_from = (take put first : Call)
+abbrev pub AreNested : SeqSpec → List Page → Links → List ℕ → Type 0
+AreNested spec book links open_from = (take put first : Call)
     → (link_at links take).after ≡ Some put → Precedes book first take
-    → Outlasts book links open_from first take → MustComeFirst init next book first put
+    → Outlasts book links open_from first take → MustComeFirst spec book first put

@@ -1,4 +1,5 @@
-ghost use Rattle.std.specs.Prelude.{◌≡◌, ℕ, [], List, IfOk};
+ghost use Rattle.std.specs.Prelude.{◌≡◌, [], IfOk};
+ghost use Rattle.book_base.specs.SeqSpec.{SeqSpec};
 ghost use Rattle.book_base.specs.PruningRules.{ArePruningRules};
 ghost use Rattle.history_rules.specs.Container.{IsQueue, IsStack};
 ghost use Rattle.container_pruning.specs.FoundRules.{HoldsItsWords};
@@ -24,9 +25,8 @@ pub fn queue_pruning_rules<R: Reader>(
 ) -> Result<PruningRules, NoMemory>
     // For each object that reads as a queue and begins empty, each call that the answer forbids is
     // infeasible there.
-    ensures { IfOk result (λ known. (init : List ℕ) (next : List ℕ → ℕ → List ℕ × ℕ)
-        → IsQueue (R.reading reader.now) next
-        → (R.reading reader.now).values init ≡ [] → ArePruningRules init next book.now known) }
+    ensures { IfOk result (λ known. (spec : SeqSpec) → IsQueue (R.reading reader.now) spec.next
+        → (R.reading reader.now).values spec.init ≡ [] → ArePruningRules spec book.now known) }
 {
     let uses = Uses::of(alloc, reader, book)?;
     let links = Links::of(alloc, reader, book, &uses, Discipline::Queue)?;
@@ -47,10 +47,9 @@ pub fn stack_pruning_rules<R: Reader>(
 ) -> Result<PruningRules, NoMemory>
     // For each object that reads as a stack, holds its words and begins empty, each call that the
     // answer forbids is infeasible there.
-    ensures { IfOk result (λ known. (init : List ℕ) (next : List ℕ → ℕ → List ℕ × ℕ)
-        → IsStack (R.reading reader.now) next
+    ensures { IfOk result (λ known. (spec : SeqSpec) → IsStack (R.reading reader.now) spec.next
         → HoldsItsWords (R.reading reader.now)
-        → (R.reading reader.now).values init ≡ [] → ArePruningRules init next book.now known) }
+        → (R.reading reader.now).values spec.init ≡ [] → ArePruningRules spec book.now known) }
 {
     let uses = Uses::of(alloc, reader, book)?;
     let links = Links::of(alloc, reader, book, &uses, Discipline::Stack)?;

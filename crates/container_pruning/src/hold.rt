@@ -1,6 +1,7 @@
 ghost use Rattle.std.specs.Prelude.{◌≡◌, ℕ, true, ◌<◌, ◌≤◌, List, length, slice_index};
 ghost use Rattle.book_base.specs.declared.call.Call.{Call};
 ghost use Rattle.book_base.specs.declared.TheConstants.{MAX_CALLS};
+ghost use Rattle.book_base.specs.SeqSpec.{SeqSpec};
 ghost use Rattle.book_base.specs.Book.{Page, IsCall, IsSmall, IsValid};
 ghost use Rattle.book_base.specs.Order.{HasLegalOrder};
 ghost use Rattle.book_base.specs.PruningRules.{HasCallBound, HasEarly, ArePruningRules, IsInfeasible, MustComeFirst};
@@ -19,12 +20,11 @@ use book_base::{Book, Call, PruningRules};
 pub fn hold(book: &Book, links: &Links, uses: &Uses, known: &mut PruningRules)
     requires links { AreLinksOf book.now links.now }
     requires call_bounds { (c : Call) → IsCall book.now c → HasCallBound known.old c }
-    ensures right { (init : List ℕ) (next : List ℕ → ℕ → List ℕ × ℕ)
-        → ArePruningRules init next book.now known.old
-        → (links.now.is_refused ≡ true → ¬ HasLegalOrder init next book.now)
-        → AreFollowed init next book.now links.now known.old.ranks
-        → AreKept init next book.now links.now uses.now.open_from known.old.ranks
-        → ArePruningRules init next book.now known.new }
+    ensures right { (spec : SeqSpec) → ArePruningRules spec book.now known.old
+        → (links.now.is_refused ≡ true → ¬ HasLegalOrder spec book.now)
+        → AreFollowed spec book.now links.now known.old.ranks
+        → AreKept spec book.now links.now uses.now.open_from known.old.ranks
+        → ArePruningRules spec book.now known.new }
 {
     if links.is_refused {
         refuse(book, known);
@@ -43,10 +43,9 @@ fn follow(book: &Book, links: &Links, known: &mut PruningRules)
     requires call_bounds { (c : Call) → IsCall book.now c → HasCallBound known.old c }
     ensures call_bounds { (c : Call) → IsCall book.now c → HasCallBound known.new c }
     ensures ranks { known.new.ranks ≡ known.old.ranks }
-    ensures right { (init : List ℕ) (next : List ℕ → ℕ → List ℕ × ℕ)
-        → ArePruningRules init next book.now known.old
-        → AreFollowed init next book.now links.now known.old.ranks
-        → ArePruningRules init next book.now known.new }
+    ensures right { (spec : SeqSpec) → ArePruningRules spec book.now known.old
+        → AreFollowed spec book.now links.now known.old.ranks
+        → ArePruningRules spec book.now known.new }
 {
     for caller in 0..book.callers() {
         follow_caller(book, links, known, caller);
@@ -62,10 +61,9 @@ fn follow_caller(book: &Book, links: &Links, known: &mut PruningRules, caller: u
     requires caller { caller < length book.now }
     ensures call_bounds { (c : Call) → IsCall book.now c → HasCallBound known.new c }
     ensures ranks { known.new.ranks ≡ known.old.ranks }
-    ensures right { (init : List ℕ) (next : List ℕ → ℕ → List ℕ × ℕ)
-        → ArePruningRules init next book.now known.old
-        → AreFollowed init next book.now links.now known.old.ranks
-        → ArePruningRules init next book.now known.new }
+    ensures right { (spec : SeqSpec) → ArePruningRules spec book.now known.old
+        → AreFollowed spec book.now links.now known.old.ranks
+        → ArePruningRules spec book.now known.new }
 {
     let mut past = Past::none(book);
     for number in 0..book.answers(caller) {
@@ -83,10 +81,9 @@ fn keep(book: &Book, links: &Links, uses: &Uses, known: &mut PruningRules)
     requires links { AreLinksOf book.now links.now }
     requires call_bounds { (c : Call) → IsCall book.now c → HasCallBound known.old c }
     ensures call_bounds { (c : Call) → IsCall book.now c → HasCallBound known.new c }
-    ensures right { (init : List ℕ) (next : List ℕ → ℕ → List ℕ × ℕ)
-        → ArePruningRules init next book.now known.old
-        → AreKept init next book.now links.now uses.now.open_from known.old.ranks
-        → ArePruningRules init next book.now known.new }
+    ensures right { (spec : SeqSpec) → ArePruningRules spec book.now known.old
+        → AreKept spec book.now links.now uses.now.open_from known.old.ranks
+        → ArePruningRules spec book.now known.new }
 {
     let past = Past::early(book, links, uses);
     for caller in 0..book.callers() {
@@ -109,10 +106,9 @@ fn keep_caller(
     requires past { IsPast (IsEarly book.now uses.now.open_from) book.now links.now past.now }
     ensures call_bounds { (c : Call) → IsCall book.now c → HasCallBound known.new c }
     ensures ranks { known.new.ranks ≡ known.old.ranks }
-    ensures right { (init : List ℕ) (next : List ℕ → ℕ → List ℕ × ℕ)
-        → ArePruningRules init next book.now known.old
-        → AreKept init next book.now links.now uses.now.open_from known.old.ranks
-        → ArePruningRules init next book.now known.new }
+    ensures right { (spec : SeqSpec) → ArePruningRules spec book.now known.old
+        → AreKept spec book.now links.now uses.now.open_from known.old.ranks
+        → ArePruningRules spec book.now known.new }
 {
     for number in 0..book.calls(caller) {
         let put = Call { caller, number };
@@ -150,13 +146,11 @@ fn hold_after(known: &mut PruningRules, put: Call, past: &Past)
     requires few { (i : ℕ) → slice_index past.now.predecessor_bound i ≤ MAX_CALLS }
     ensures call_bounds { (c : Call) → HasCallBound known.old c → HasCallBound known.new c }
     ensures ranks { known.new.ranks ≡ known.old.ranks }
-    ensures right { (init : List ℕ) (next : List ℕ → ℕ → List ℕ × ℕ) (book : List Page)
-        → ArePruningRules init next book known.old
+    ensures right { (spec : SeqSpec) (book : List Page) → ArePruningRules spec book known.old
         → ((i : ℕ) → 0 < slice_index past.now.predecessor_bound i
-        → MustComeFirst init next book (last_held past.now.predecessor_bound i) put)
+        → MustComeFirst spec book (last_held past.now.predecessor_bound i) put)
         → ((cut list : List ℕ) → HasEarly known.old.ranks list past.now.limit
-        → IsInfeasible init next book cut list put)
-        → ArePruningRules init next book known.new }
+        → IsInfeasible spec book cut list put) → ArePruningRules spec book known.new }
 {
     for caller in 0..past.predecessor_bound.n() {
         let count = past.predecessor_bound.get(caller);

@@ -1,5 +1,6 @@
-ghost use Rattle.std.specs.Prelude.{◌≡◌, ℕ, ◌<◌, ◌↔◌, List, length, OnOk, IfOk, IfSome, IsTrue, Some};
+ghost use Rattle.std.specs.Prelude.{◌≡◌, ◌<◌, ◌↔◌, length, OnOk, IfOk, IfSome, IsTrue, Some};
 ghost use Rattle.book_base.specs.declared.call.Call.{Call};
+ghost use Rattle.book_base.specs.SeqSpec.{SeqSpec};
 ghost use Rattle.book_base.specs.Book.{IsCall, IsAnswered, IsSmall, IsValid, Precedes};
 ghost use Rattle.book_base.specs.PruningRules.{HasCallBound, ArePruningRules};
 ghost use Rattle.container_pruning.specs.Links.{link_at, AreLinksOf};
@@ -123,10 +124,8 @@ pub fn nest(
     ensures call_bounds { OnOk result ((c : Call) → IsCall book.now c → HasCallBound known.new c) }
     ensures ranks { OnOk result (known.new.ranks ≡ known.old.ranks) }
     ensures right { OnOk result
-        ((init : List ℕ) (next : List ℕ → ℕ → List ℕ × ℕ)
-        → ArePruningRules init next book.now known.old
-        → AreNested init next book.now links.now uses.now.open_from
-        → ArePruningRules init next book.now known.new) }
+        ((spec : SeqSpec) → ArePruningRules spec book.now known.old → AreNested spec book.now
+        links.now uses.now.open_from → ArePruningRules spec book.now known.new) }
 {
     let takers = Takers::of(alloc, book, links)?;
     for caller in 0..book.callers() {
@@ -153,10 +152,8 @@ fn nest_caller(
     ensures call_bounds { OnOk result ((c : Call) → IsCall book.now c → HasCallBound known.new c) }
     ensures ranks { OnOk result (known.new.ranks ≡ known.old.ranks) }
     ensures right { OnOk result
-        ((init : List ℕ) (next : List ℕ → ℕ → List ℕ × ℕ)
-        → ArePruningRules init next book.now known.old
-        → AreNested init next book.now links.now uses.now.open_from
-        → ArePruningRules init next book.now known.new) }
+        ((spec : SeqSpec) → ArePruningRules spec book.now known.old → AreNested spec book.now
+        links.now uses.now.open_from → ArePruningRules spec book.now known.new) }
 {
     let mut nests = Nests::none(alloc, book)?;
     for number in 0..book.answers(caller) {
@@ -184,10 +181,8 @@ fn nest_take(
     ensures call_bounds { OnOk result ((c : Call) → IsCall book.now c → HasCallBound known.new c) }
     ensures ranks { OnOk result (known.new.ranks ≡ known.old.ranks) }
     ensures right { OnOk result
-        ((init : List ℕ) (next : List ℕ → ℕ → List ℕ × ℕ)
-        → ArePruningRules init next book.now known.old
-        → AreNested init next book.now links.now uses.now.open_from
-        → ArePruningRules init next book.now known.new) }
+        ((spec : SeqSpec) → ArePruningRules spec book.now known.old → AreNested spec book.now
+        links.now uses.now.open_from → ArePruningRules spec book.now known.new) }
 {
     let Some(put) = links.at(take).after else {
         return Ok(());

@@ -1,5 +1,6 @@
-ghost use Rattle.std.specs.Prelude.{◌≡◌, ℕ, ◌<◌, List, length, IsTrue};
+ghost use Rattle.std.specs.Prelude.{◌≡◌, ℕ, ◌<◌, length, IsTrue};
 ghost use Rattle.book_base.specs.declared.call.Call.{Call};
+ghost use Rattle.book_base.specs.SeqSpec.{SeqSpec};
 ghost use Rattle.book_base.specs.Cut.{Holds};
 ghost use Rattle.book_base.specs.Book.{IsCall, IsAnswered, IsValid};
 ghost use Rattle.book_base.specs.Order.{HasLegalOrder};
@@ -13,9 +14,8 @@ use book_base::{Book, Call, Cut, MAX_CALLERS, MAX_CALLS, PruningRules};
 /// another, don't include all answered ones. This refuses, before any search, a book that has puts
 /// of which each must come before the other.
 pub fn is_stuck(book: &Book, known: &PruningRules) -> bool
-    ensures { (init : List ℕ) (next : List ℕ → ℕ → List ℕ × ℕ)
-        → ArePruningRules init next book.now known.now → IsTrue result
-        → ¬ HasLegalOrder init next book.now }
+    ensures { (spec : SeqSpec) → ArePruningRules spec book.now known.now → IsTrue result
+        → ¬ HasLegalOrder spec book.now }
 {
     let mut cut = Cut::zero(book.callers());
     grow(book, known, &mut cut);

@@ -6,6 +6,7 @@ use Rattle.std.proofs.lemmas.List.{get_or-set_same}
 use Rattle.std.proofs.lemmas.Option.{slice_get-get_or}
 use Rattle.list_laws.proofs.Places.{slice_get-push_cases, slice_get-push_last}
 use prog.Atomic.{either}
+use Rattle.book_base.specs.SeqSpec.{SeqSpec}
 use Rattle.book_base.specs.OperationWord.{low_of, high_of, joined}
 use Rattle.world_core.specs.Shape.{Meaning}
 use Rattle.world_core.specs.Local.{Local, Object_step}
@@ -117,12 +118,12 @@ log_grown total ticket op log steps before at is =
     ∙ ap (λ (o : Option ℕ). with_operation (Some log) (known_operation o steps)) at
     ∙ ap (with_operation (Some log)) is
 
-module _ {S : Type 0} (init : S → List ℕ) (next : S → List ℕ → ℕ → List ℕ × ℕ) where
+module _ {S : Type 0} (spec : S → SeqSpec) where
   abbrev pub P : Type 0
   P = LogProgram S
 
   abbrev pub meaning : P → ℕ → ℕ → Meaning
-  meaning = λ program n cap. log_program (init program.object) (next program.object) n cap
+  meaning = λ program n cap. log_program (spec program.object) n cap
 
   module _ (r : Rows P) where
     abbrev pub IsCaller : Announced P → Type 0
@@ -144,7 +145,7 @@ module _ {S : Type 0} (init : S → List ℕ) (next : S → List ℕ → ℕ →
     pub number_is_low : (a : Announced P) → IsCaller a → (number_announced a < r.cap)
         × (number_on r a < places_on r)
     number_is_low a caller =
-        own_number_is_low (init r.program.object) (next r.program.object) r.callers r.cap
+        own_number_is_low (spec r.program.object) r.callers r.cap
         (who_announced a) (announced_local a) caller.seat.local a.asked.asking
 
     has_list : (a : Announced P) → IsCaller a
@@ -285,7 +286,7 @@ module _ {S : Type 0} (init : S → List ℕ) (next : S → List ℕ → ℕ →
     pub step_known : (a b : Announced P) (step : Object_step) → Stepped a b step
         → known step.place (all b) ≡ Some step.new
     step_known a b step h =
-        known_last (init r.program.object) (next r.program.object) r.callers r.cap (who_announced b)
+        known_last (spec r.program.object) r.callers r.cap (who_announced b)
         (announced_local b) (all a) step h.still.0.seat.local
         (step_all a b step h)
 
@@ -477,7 +478,7 @@ module _ {S : Type 0} (init : S → List ℕ) (next : S → List ℕ → ℕ →
     pub may_get : (a : Announced P) (object : S) (log : List ℕ) (op reply p : ℕ) → IsCaller a
         → r.program ≡ record { object = object }
         → op_announced a ≡ op → place_on r a ≡ Some p → p ≡ length log → KnowsLog r a log
-        → reply ≡ (next object (list_of (next object) (init object) log) op).1
+        → reply ≡ ((spec object).next (list_of (spec object).next (spec object).init log) op).1
         → MayGet meaning (caller_announced a) reply
     may_get a object log op reply p caller program is placed count known reply_is =
         let l : Local = announced_local a in
@@ -485,17 +486,18 @@ module _ {S : Type 0} (init : S → List ℕ) (next : S → List ℕ → ℕ →
         let n : ℕ = r.callers in
         let cap : ℕ = r.cap in
         let operation : operation_now l ≡ op = a.asked.operation ∙ is in
-        let found : known_reply (next object) (init object) (n * cap) (operation_now l) (all a)
+        let found : known_reply (spec object) (n * cap) (operation_now l) (all a)
         (place_on r a) ≡ Some reply =
-        ap (known_reply (next object) (init object) (n * cap) (operation_now l) (all a)) placed
-        ∙ ap (λ (k : ℕ). reply_after (next object) (init object) (operation_now l)
+        ap (known_reply (spec object) (n * cap) (operation_now l) (all a)) placed
+        ∙ ap (λ (k : ℕ). reply_after (spec object) (operation_now l)
         (known_log (n * cap) (all a) k)) count
-        ∙ ap (reply_after (next object) (init object) (operation_now l)) known
-        ∙ ap (λ (o : ℕ). Some (next object (list_of (next object) (init object) log) o).1) operation
+        ∙ ap (reply_after (spec object) (operation_now l)) known
+        ∙ ap (λ (o : ℕ).
+        Some ((spec object).next (list_of (spec object).next (spec object).init log) o).1) operation
         ∙ ap Some (sym reply_is) in
         let allowed : IsTrue
-        ((log_program (init object) (next object) n cap).may_reply (who_of c) l reply) =
-        is_this_reply (known_reply (next object) (init object) (n * cap) (operation_now l) (all a)
+        ((log_program (spec object) n cap).may_reply (who_of c) l reply) =
+        is_this_reply (known_reply (spec object) (n * cap) (operation_now l) (all a)
         (place_on r a)) reply found in
         let by_program : IsTrue ((meaning c.program n cap).may_reply (who_of c) l reply) =
         subst (λ (q : P). IsTrue ((meaning q n cap).may_reply (who_of c) l reply))
@@ -601,7 +603,7 @@ module _ {S : Type 0} (init : S → List ℕ) (next : S → List ℕ → ℕ →
         → named < places_on r
     named_is_low a named caller h =
         let suc_is : ticket_of named ≡ suc named = omega arith in
-        ticket_is_low (init r.program.object) (next r.program.object) r.callers r.cap
+        ticket_is_low (spec r.program.object) r.callers r.cap
         (who_announced a) (announced_local a) h.place named caller.seat.local h.low
         (h.ticket ∙ ap Some suc_is)
 
@@ -609,7 +611,7 @@ module _ {S : Type 0} (init : S → List ℕ) (next : S → List ℕ → ℕ →
     pub finds_a_place : (a : Announced P) (tickets : List ℕ) → IsCaller a → KnowsPlaces r a tickets
         → place_on r a ≡ None → places_on r ≤ length tickets → ⊥
     finds_a_place a tickets caller h none many =
-        not_all_filled (init r.program.object) (next r.program.object) r.callers r.cap
+        not_all_filled (spec r.program.object) r.callers r.cap
         (who_announced a) (announced_local a) caller.seat.local a.asked.asking none
         (λ q low.
         let t = h.filled q (slice_index_or tickets q 0)
@@ -677,7 +679,7 @@ module _ {S : Type 0} (init : S → List ℕ) (next : S → List ℕ → ℕ →
         → now a ≡ [] → Made a b → r.program ≡ record { object = object }
         → op_announced b ≡ op → HasPlaced r b tickets → length log + 1 ≡ length tickets
         → KnowsLog r b log
-        → reply ≡ (next object (list_of (next object) (init object) log) op).1
+        → reply ≡ ((spec object).next (list_of (spec object).next (spec object).init log) op).1
         → HasReplied meaning r a b reply
     has_replied a b object log tickets op reply first made program is placed count known reply_is =
         record {

@@ -1,5 +1,6 @@
 -- What the rules of a log say of what a caller knows by its object steps.
 use Rattle.std.proofs.Common.{◌≡◌, ℕ, suc, ◌*◌, ◌<◌, true, List, [], ◌∷◌, ◌++◌, Some, None, sym, ap, ◌∙◌, subst, arith}
+use Rattle.book_base.specs.SeqSpec.{SeqSpec}
 use Rattle.world_core.specs.Shape.{Shape}
 use Rattle.world_core.specs.Local.{Local, Object_step}
 use Rattle.world_core.specs.CallSteps.{steps_now, all_steps_of}
@@ -20,9 +21,9 @@ each_last : {X : Type 0} (P : X → Type 0) (xs : List X) (y : X) → Each P (xs
 each_last P [] y h = h.0
 each_last P (x ∷ xs) y h = each_last P xs y h.1
 
-module _ (init : List ℕ) (next : List ℕ → ℕ → List ℕ × ℕ) (n cap : ℕ) where
+module _ (spec : SeqSpec) (n cap : ℕ) where
   abbrev s : Shape
-  s = log_shape init next n cap
+  s = log_shape spec n cap
 
   abbrev total : ℕ
   total = n * cap
@@ -40,7 +41,7 @@ module _ (init : List ℕ) (next : List ℕ → ℕ → List ℕ × ℕ) (n cap 
   world_with i l (locals, (w, reach, are), low, is) =
       let local : local_of w i ≡ l =
       subst (λ (ls : List Local). local_of (record w { locals = ls }) i ≡ l) (sym are) is in
-      let log : IsLog s w = rules_hold init next n cap w reach in
+      let log : IsLog s w = rules_hold spec n cap w reach in
       record {
         world = w;
         reach = reach;
@@ -79,7 +80,7 @@ module _ (init : List ℕ) (next : List ℕ → ℕ → List ℕ × ℕ) (n cap 
       let is : ticket_at s h.world q ≡ suc number =
       known_stands i l h (ticket_place total q) (suc number) e in
       let t = h.log.named q low (λ free. omega (arith, sym is ∙ free)) in
-      omega (arith, sym is ∙ t.ticket, number_low init next n cap t.i t.k t.call.caller t.call.few)
+      omega (arith, sym is ∙ t.ticket, number_low spec n cap t.i t.k t.call.caller t.call.few)
 
   -- while the call under way has no place in the log, not all places are known to be filled
   pub not_all_filled : (i : ℕ) (l : Local) → IsLocalOf s i l → is_asking l.phase ≡ true
@@ -89,7 +90,7 @@ module _ (init : List ℕ) (next : List ℕ → ℕ → List ℕ × ℕ) (n cap 
   not_all_filled i l here asking none each =
       let h = world_with i l here in
       let free =
-      some_place_is_free init next n cap h.world i h.reach h.low
+      some_place_is_free spec n cap h.world i h.reach h.low
       (ap (λ (m : Local). is_asking m.phase) h.local ∙ asking)
       (subst (λ (m : Local). placed_at total (ticket_of (number_of cap i m.published)) (steps_now m)
       ≡ None) (sym h.local) none) in
@@ -108,4 +109,4 @@ module _ (init : List ℕ) (next : List ℕ → ℕ → List ℕ × ℕ) (n cap 
       let call = asked s h.world i (reachable_kept s h.world h.reach) h.low
       (ap (λ (m : Local). is_asking m.phase) h.local ∙ asking) in
       let few : l.published < cap = subst (λ (m : Local). m.published < cap) h.local call.few in
-      (few, number_low init next n cap i l.published h.low few)
+      (few, number_low spec n cap i l.published h.low few)

@@ -1,5 +1,6 @@
 -- The passes of the log: whose they are, and what they know of it.
 use Rattle.std.specs.Prelude.{◌≡◌, ℕ, ◌+◌, ◌*◌, ◌≤◌, List, length, vec_capacity}
+use Rattle.book_base.specs.SeqSpec.{SeqSpec}
 use Rattle.world_core.specs.Local.{Object_step}
 use Rattle.log_program.specs.LogProgram.{list_of}
 use Rattle.core_objects.specs.declared.core_log.CoreLog.{CoreLog}
@@ -14,8 +15,8 @@ object_of log = log.object
 -- it is the pass of this caller for them, has capacity for the whole log, and knows just the
 -- tickets and the operations that these steps show. Its state is the object's list after these
 -- operations.
-pub record FitsLog (init : List ℕ) (next : List ℕ → ℕ → List ℕ × ℕ) (pass : CorePass)
-    (caller n cap : ℕ) (steps : List Object_step) : Type 0 where
+pub record FitsLog (spec : SeqSpec) (pass : CorePass) (caller n cap : ℕ)
+    (steps : List Object_step) : Type 0 where
   pub caller_is : pass.caller ≡ caller
   pub callers_are : pass.callers ≡ n
   pub cap_is : pass.cap ≡ cap
@@ -24,5 +25,5 @@ pub record FitsLog (init : List ℕ) (next : List ℕ → ℕ → List ℕ × �
   pub state_fits : pass.state.room ≡ n * cap + 1
   pub tickets_known : KnowsTickets (n * cap) pass.tickets.items steps
   pub log_known : KnowsOperations (n * cap) pass.log.items steps
-  pub state_is : pass.state.words ≡ list_of next init pass.log.items
+  pub state_is : pass.state.words ≡ list_of spec.next spec.init pass.log.items
   pub whole : length pass.log.items ≡ length pass.tickets.items

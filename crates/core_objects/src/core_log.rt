@@ -27,7 +27,7 @@ pub struct LogProgram<S> {
 impl<S: SeqObject + Copy> Program for LogProgram<S> {
     ghost use Rattle.log_program.specs.LogProgram.{log_program};
 
-    ghost meaning = { λ program n cap. log_program (S.init program.object) (S.next program.object) n cap };
+    ghost meaning = { λ program n cap. log_program (S.spec program.object) n cap };
 
     fn object_words(&self, n: u32, cap: u64) -> u64 {
         3 * (u64::from(n) * cap)
@@ -41,7 +41,7 @@ impl<S: SeqObject + Copy> InWorld for LogProgram<S> {}
 pub fn runs_of_log<S: SeqObject + Copy>(_program: &LogProgram<S>)
     ensures { (n cap : ℕ) (steps : List Step)
         → IsRun (shape_with (⟦<LogProgram<S> as Program>⟧.meaning _program.now) n cap) steps
-        → IsLinearizable (S.init _program.now.object) (S.next _program.now.object)
+        → IsLinearizable (S.spec _program.now.object)
         (history_of (shape_with (⟦<LogProgram<S> as Program>⟧.meaning _program.now) n cap) steps) }
 {}
 
@@ -72,8 +72,8 @@ impl<S: SeqObject + Copy> CoreLog<S> {
         ensures object { IfOk result (λ r. object_of r.0 ≡ object) }
         // There is one pass for each caller, in order, which fits the caller, the number of callers
         // and the cap, and knows no entry.
-        ensures passes { IfOk result (λ r. ArePassesFor
-            (FitsLog (S.init (object_of r.0)) (S.next (object_of r.0))) n cap r.1.items) }
+        ensures passes { IfOk result
+            (λ r. ArePassesFor (FitsLog (S.spec (object_of r.0))) n cap r.1.items) }
     {
         let passes = log_passes_for(alloc, &object, n, cap)?;
         Ok((CoreLog { object }, passes))
@@ -83,13 +83,13 @@ impl<S: SeqObject + Copy> CoreLog<S> {
     // `made` operations of the log. It makes only the operations after these, and then this one.
     fn reply_after(&self, state: &mut State, log: &[OpWord], made: usize, op: OpWord) -> u64
         requires made { made ≤ length log.now }
-        requires state { state.old.words ≡ list_of (S.next self.now.object) (S.init self.now.object)
-            (take made log.now) }
+        requires state { state.old.words ≡ list_of (S.spec self.now.object).next
+            (S.spec self.now.object).init (take made log.now) }
         requires room { length log.now + 1 < state.old.room }
-        ensures reply { result ≡ (S.next self.now.object
-            (list_of (S.next self.now.object) (S.init self.now.object) log.now) op).1 }
-        ensures state { state.new.words ≡ list_of (S.next self.now.object) (S.init self.now.object)
-            (log.now ++ op ∷ []) }
+        ensures reply { result ≡ ((S.spec self.now.object).next
+            (list_of (S.spec self.now.object).next (S.spec self.now.object).init log.now) op).1 }
+        ensures state { state.new.words ≡ list_of (S.spec self.now.object).next
+            (S.spec self.now.object).init (log.now ++ op ∷ []) }
         ensures room { state.new.room ≡ state.old.room }
     {
         for place in made..log.len() {
@@ -113,9 +113,9 @@ impl<S: SeqObject + Copy> CoreObject for CoreLog<S> {
 
     ghost program_of = { λ object. record { object = object.object } };
 
-    ghost fits = { λ object. FitsLog (S.init object.object) (S.next object.object) };
+    ghost fits = { λ object. FitsLog (S.spec object.object) };
 
-    ghost linearizes = { λ object n cap steps run. logs_linearize (S.init object.object) (S.next object.object) n cap steps run };
+    ghost linearizes = { λ object n cap steps run. logs_linearize (S.spec object.object) n cap steps run };
 
     fn sequential(&self) -> &S {
         &self.object

@@ -111,7 +111,7 @@ pub trait CoreObject {
     /// object.
     ghost linearizes: { (object : Self) (n cap : ℕ) (steps : List Step)
         → IsRun (shape_with (Self.P.meaning (program_of object)) n cap) steps
-        → IsLinearizable (Self.S.init (sequential_of object)) (Self.S.next (sequential_of object))
+        → IsLinearizable (Self.S.spec (sequential_of object))
         (history_of (shape_with (Self.P.meaning (program_of object)) n cap) steps) };
 }
 
@@ -120,7 +120,6 @@ pub trait CoreObject {
 pub fn runs_of<O: CoreObject>(_object: &O)
     ensures { (n cap : ℕ) (steps : List Step)
         → IsRun (shape_with (O.P.meaning (O.program_of _object.now)) n cap) steps
-        → IsLinearizable (O.S.init (O.sequential_of _object.now))
-        (O.S.next (O.sequential_of _object.now))
+        → IsLinearizable (O.S.spec (O.sequential_of _object.now))
         (history_of (shape_with (O.P.meaning (O.program_of _object.now)) n cap) steps) }
 {}

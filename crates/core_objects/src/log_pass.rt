@@ -30,8 +30,7 @@ fn pass_for<S: SeqObject>(
 ) -> Result<CorePass, NoMemory>
     requires few_callers { n ≤ MAX_CALLERS }
     requires few_calls { cap ≤ MAX_CALLS }
-    ensures { IfOk result
-        (λ pass. FitsLog (S.init object.now) (S.next object.now) pass caller n cap []) }
+    ensures { IfOk result (λ pass. FitsLog (S.spec object.now) pass caller n cap []) }
 {
     let places = u64::from(n) * cap;
     let tickets = Vec::with_capacity(alloc, places as usize)?;
@@ -57,8 +56,8 @@ pub(crate) fn log_passes_for<S: SeqObject>(
 ) -> Result<Vec<CorePass>, NoMemory>
     requires few_callers { n ≤ MAX_CALLERS }
     requires few_calls { cap ≤ MAX_CALLS }
-    ensures { IfOk result (λ passes.
-        ArePassesFor (FitsLog (S.init object.now) (S.next object.now)) n cap passes.items) }
+    ensures { IfOk result
+        (λ passes. ArePassesFor (FitsLog (S.spec object.now)) n cap passes.items) }
 {
     let mut passes = Vec::with_capacity(alloc, n as usize)?;
     for caller in 0..n {

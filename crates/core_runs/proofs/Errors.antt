@@ -2,6 +2,7 @@
 use Rattle.std.proofs.Common.{◌≡◌, ◌∙◌, sym, subst, ap, ℕ, false, List, map}
 use Rattle.std.specs.List.{list_any}
 use Rattle.std.proofs.lemmas.Bool.{false_from_ne_true}
+use Rattle.book_base.specs.SeqSpec.{SeqSpec}
 use Rattle.world_core.specs.Shape.{Meaning}
 use Rattle.world_core.specs.World.{World, Step, IsRun}
 use Rattle.world_core.specs.History.{IsLinearizable, history_of}
@@ -15,27 +16,26 @@ use Rattle.core_objects.specs.CoreObjects.{shape_with, AreOpenedWith}
 use Rattle.lawful_reports.proofs.Errors.{no_run_leaves_an_error}
 
 module _ {P : Type 0} (meaning : P → ℕ → ℕ → Meaning) (program : P) (r : Rows P)
-    (opened : AreOpenedWith meaning program r) (init : List ℕ) (next : List ℕ → ℕ → List ℕ × ℕ)
+    (opened : AreOpenedWith meaning program r) (spec : SeqSpec)
     (linearizes : (n cap : ℕ) (steps : List Step) → IsRun (shape_with (meaning program) n cap) steps
-    → IsLinearizable init next (history_of (shape_with (meaning program) n cap) steps)) where
+    → IsLinearizable spec (history_of (shape_with (meaning program) n cap) steps)) where
   -- each run of these rows' world is linearizable
   rows_linearize : (steps : List Step) → IsRun (shape_of meaning r) steps
-      → IsLinearizable init next (history_of (shape_of meaning r) steps)
+      → IsLinearizable spec (history_of (shape_of meaning r) steps)
   rows_linearize =
       subst (λ (p : P). (steps : List Step) → IsRun (shape_with (meaning p) r.callers r.cap) steps
-      → IsLinearizable init next (history_of (shape_with (meaning p) r.callers r.cap) steps))
+      → IsLinearizable spec (history_of (shape_with (meaning p) r.callers r.cap) steps))
       (sym opened.program_is) (linearizes r.callers r.cap)
 
   -- no line is an error, since the lines are those of a run
   pub no_line_is_an_error : (operations : List (List ℕ)) (allotments : List ℕ)
-      (lines : List (List Line))
-      → IsLawful init next (shape_of meaning r) operations allotments lines
+      (lines : List (List Line)) → IsLawful spec (shape_of meaning r) operations allotments lines
       → list_any any_error lines ≡ false
   no_line_is_an_error operations allotments lines lawful =
       let reached = lawful.reached in
       let steps = reached.1.0 in
       false_from_ne_true (list_any any_error lines)
-      (λ some. no_run_leaves_an_error init next (shape_of meaning r) operations allotments lines
+      (λ some. no_run_leaves_an_error spec (shape_of meaning r) operations allotments lines
       lawful some (shape_of meaning r) steps reached.1.1
       (ap (λ (w : World). map calls_in w.locals) reached.1.2 ∙ sym reached.2.calls)
       (rows_linearize steps reached.1.1))

@@ -2,6 +2,7 @@
 use Rattle.std.proofs.Common.{◌≡◌, ◌∙◌, sym, subst, ap, ℕ, ◌<◌, List, [], length, map, take, slice_index_or, arith}
 use Rattle.std.specs.List.{All}
 use Rattle.std.proofs.Math.ListN.{get_or-map}
+use Rattle.book_base.specs.SeqSpec.{SeqSpec}
 use Rattle.shared_log.specs.declared.entry.Entry.{Entry}
 use Rattle.world_core.specs.Shape.{Shape}
 use Rattle.world_core.specs.Local.{Local}
@@ -44,9 +45,9 @@ formed_as form n m calls others same are h i low =
     subst (λ (cs : List Made). All (λ (pair : ℕ × ℕ). form pair.0 pair.1) (answers_in cs)) (are i)
     (h i (omega (arith, low, same)))
 
-module _ (first : List ℕ) (step : List ℕ → ℕ → List ℕ × ℕ) (s : Shape) (locals : List Local)
+module _ (judge : SeqSpec) (s : Shape) (locals : List Local)
     (plan : Plan) (allotments : List ℕ) (findings : Findings)
-    (is : IsReportOf first step s locals plan allotments findings) where
+    (is : IsReportOf judge s locals plan allotments findings) where
   -- the calls of the locals are those of the lines
   calls_are : (i : ℕ) → calls_in (local_at locals i) ≡ calls_of_lines findings i
   calls_are i =
@@ -59,30 +60,31 @@ module _ (first : List ℕ) (step : List ℕ → ℕ → List ℕ × ℕ) (s : S
   have_made = record { together = is.together; made = is.made }
 
 pub reports_of_logs_are_logged : ReportsOfLogsAreLogged
-reports_of_logs_are_logged init next first step n cap locals plan allotments findings is =
-    let s : Shape = log_shape init next n cap in
-    logged_as (last_reply next init) n (length findings.lines) (phases_in allotments findings)
+reports_of_logs_are_logged spec judge n cap locals plan allotments findings is =
+    let s : Shape = log_shape spec n cap in
+    logged_as (last_reply spec.next spec.init) n (length findings.lines)
+    (phases_in allotments findings)
     (λ i. calls_in (local_at locals i)) (calls_of_lines findings) is.lawful.callers
-    (calls_are first step s locals plan allotments findings is)
-    (runs_of_logs_are_logged init next n cap (operations_at plan.operations)
+    (calls_are judge s locals plan allotments findings is)
+    (runs_of_logs_are_logged spec n cap (operations_at plan.operations)
     (phases_in allotments findings) locals
-    (have_made first step s locals plan allotments findings is) is.asked)
+    (have_made judge s locals plan allotments findings is) is.asked)
 
 pub reports_of_tallies_are_formed : ReportsOfTalliesAreFormed
-reports_of_tallies_are_formed first step n cap locals plan allotments findings is =
+reports_of_tallies_are_formed judge n cap locals plan allotments findings is =
     let s : Shape = one_word_shape n cap tally in
     formed_as IsTallyReply n (length findings.lines) (λ i. calls_in (local_at locals i))
     (calls_of_lines findings) is.lawful.callers
-    (calls_are first step s locals plan allotments findings is)
+    (calls_are judge s locals plan allotments findings is)
     (runs_of_tallies_are_formed n cap (operations_at plan.operations)
     (phases_in allotments findings) locals
-    (have_made first step s locals plan allotments findings is))
+    (have_made judge s locals plan allotments findings is))
 
 pub reports_of_cells_are_formed : ReportsOfCellsAreFormed
-reports_of_cells_are_formed first step n cap locals plan allotments findings is =
+reports_of_cells_are_formed judge n cap locals plan allotments findings is =
     let s : Shape = one_word_shape n cap cell in
     formed_as IsCellReply n (length findings.lines) (λ i. calls_in (local_at locals i))
     (calls_of_lines findings) is.lawful.callers
-    (calls_are first step s locals plan allotments findings is)
+    (calls_are judge s locals plan allotments findings is)
     (runs_of_cells_are_formed n cap (operations_at plan.operations) (phases_in allotments findings)
-    locals (have_made first step s locals plan allotments findings is))
+    locals (have_made judge s locals plan allotments findings is))

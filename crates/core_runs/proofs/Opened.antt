@@ -1,5 +1,6 @@
 -- Rows and passes that were opened for a run over an object inside the world.
 use Rattle.std.proofs.Common.{◌≡◌, ◌∙◌, sym, subst, ap, ℕ, List}
+use Rattle.book_base.specs.SeqSpec.{SeqSpec}
 use Rattle.world_core.specs.Shape.{Shape, Meaning}
 use Rattle.world_core.specs.Local.{Local, Object_step}
 use Rattle.client_scripts.specs.Plans.{Plan}
@@ -30,15 +31,14 @@ module _ {P : Type 0} (r : Rows P) (n cap : ℕ) (callers : r.callers ≡ n) (mo
   -- a report of the locals on their bench is one of the world of the program that they were opened
   -- with
   pub report_opened_with : (meaning : P → ℕ → ℕ → Meaning) (program : P) → r.program ≡ program
-      → (init : List ℕ) (next : List ℕ → ℕ → List ℕ × ℕ) (locals : List Local) (plan : Plan)
-      (allotments : List ℕ) (report : Findings)
-      → IsReportOf init next (shape_of meaning r) locals plan allotments report
+      → (spec : SeqSpec) (locals : List Local) (plan : Plan) (allotments : List ℕ)
+      (report : Findings) → IsReportOf spec (shape_of meaning r) locals plan allotments report
       → (all : List Local)
-      × IsReportOf init next (shape_with (meaning program) n cap) all plan allotments report
-  report_opened_with meaning program own init next locals plan allotments report is =
+      × IsReportOf spec (shape_with (meaning program) n cap) all plan allotments report
+  report_opened_with meaning program own spec locals plan allotments report is =
       let same : shape_of meaning r ≡ shape_with (meaning program) n cap = λ i.
       record { callers = callers i; cap = most i; program = meaning (own i) (callers i) (most i) }
       in (
         locals,
-        subst (λ (s : Shape). IsReportOf init next s locals plan allotments report) same is,
+        subst (λ (s : Shape). IsReportOf spec s locals plan allotments report) same is,
       )

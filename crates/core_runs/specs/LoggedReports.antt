@@ -1,5 +1,6 @@
 -- What a report of callers says of the object inside the world that answered them.
 use Rattle.std.specs.Prelude.{ℕ, List, length, map, slice_index}
+use Rattle.book_base.specs.SeqSpec.{SeqSpec}
 use Rattle.world_core.specs.Local.{Local}
 use Rattle.world_core.specs.Calls.{Made}
 use Rattle.report_lines.specs.Lines.{made_of, lines_at}
@@ -26,25 +27,25 @@ calls_of_lines findings i = map made_of (lines_at findings.lines i)
 -- that object's, whatever the calls are judged by.
 abbrev pub ReportsOfLogsAreLogged : Type 0
 ReportsOfLogsAreLogged =
-    (init : List ℕ) (next : List ℕ → ℕ → List ℕ × ℕ) (first : List ℕ)
-    (step : List ℕ → ℕ → List ℕ × ℕ) (n cap : ℕ) (locals : List Local) (plan : Plan)
+    (spec judge : SeqSpec) (n cap : ℕ) (locals : List Local) (plan : Plan)
     (allotments : List ℕ) (findings : Findings)
-    → IsReportOf first step (log_shape init next n cap) locals plan allotments findings
-    → IsLoggedBy (last_reply next init) (length findings.lines) (phases_in allotments findings)
+    → IsReportOf judge (log_shape spec n cap) locals plan allotments findings
+    → IsLoggedBy (last_reply spec.next spec.init) (length findings.lines)
+    (phases_in allotments findings)
     (calls_of_lines findings)
 
 -- The reply of each answered call of a report over a tally has the form of a tally's replies.
 abbrev pub ReportsOfTalliesAreFormed : Type 0
 ReportsOfTalliesAreFormed =
-    (first : List ℕ) (step : List ℕ → ℕ → List ℕ × ℕ) (n cap : ℕ) (locals : List Local)
+    (judge : SeqSpec) (n cap : ℕ) (locals : List Local)
     (plan : Plan) (allotments : List ℕ) (findings : Findings)
-    → IsReportOf first step (one_word_shape n cap tally) locals plan allotments findings
+    → IsReportOf judge (one_word_shape n cap tally) locals plan allotments findings
     → AreFormed IsTallyReply (length findings.lines) (calls_of_lines findings)
 
 -- The reply of each answered call of a report over a cell has the form of a cell's replies.
 abbrev pub ReportsOfCellsAreFormed : Type 0
 ReportsOfCellsAreFormed =
-    (first : List ℕ) (step : List ℕ → ℕ → List ℕ × ℕ) (n cap : ℕ) (locals : List Local)
+    (judge : SeqSpec) (n cap : ℕ) (locals : List Local)
     (plan : Plan) (allotments : List ℕ) (findings : Findings)
-    → IsReportOf first step (one_word_shape n cap cell) locals plan allotments findings
+    → IsReportOf judge (one_word_shape n cap cell) locals plan allotments findings
     → AreFormed IsCellReply (length findings.lines) (calls_of_lines findings)

@@ -53,15 +53,13 @@ where
     // world of the object's program; they are lawful, and each caller has made just the phases that
     // its lines tell of.
     ensures report { IfOk result (λ report. (locals : List Local) × IsReportOf
-        (O.S.init (O.sequential_of object.now)) (O.S.next (O.sequential_of object.now))
-        (shape_with (O.P.meaning (O.program_of object.now)) (length script.now.operations) cap)
-        locals script.now (run_allotments script.now) report) }
+        (O.S.spec (O.sequential_of object.now)) (shape_with (O.P.meaning (O.program_of object.now))
+        (length script.now.operations) cap) locals script.now (run_allotments script.now) report) }
     // A report is of the script's kind.
     ensures kind { IfOk result (λ report. report.kind ≡ script.now.kind) }
     // A report's lines are lawful, by the object's sequential object, for a world of the object's
     // program and the operations and the allotments of the script.
-    ensures lawful { IfOk result (λ report. IsLawful (O.S.init (O.sequential_of object.now))
-        (O.S.next (O.sequential_of object.now))
+    ensures lawful { IfOk result (λ report. IsLawful (O.S.spec (O.sequential_of object.now))
         (shape_with (O.P.meaning (O.program_of object.now)) (length script.now.operations) cap)
         script.now.operations (run_allotments script.now) report.lines) }
     // No line of a report is an error.

@@ -66,10 +66,9 @@ where
     // A report that is answered is of the script's kind, and its lines are those of the locals on
     // the bench, which are of one reachable world; they are lawful, and each caller has made just
     // the phases that its lines determine.
-    ensures report { IfOk result (λ report. IsReportOf (O.S.init (O.sequential_of object.now))
-        (O.S.next (O.sequential_of object.now)) (shape_of O.P.meaning rows.now)
-        (locals_on bench.new) script.now
-        (run_allotments script.now) report) }
+    ensures report { IfOk result
+        (λ report. IsReportOf (O.S.spec (O.sequential_of object.now)) (shape_of O.P.meaning
+        rows.now) (locals_on bench.new) script.now (run_allotments script.now) report) }
     // Where a report is answered, each caller that by its lines has no error and stopped between
     // two calls, or made all of them, is free for its next call.
     ensures free { IfOk result (λ report. (i : ℕ) → i < length script.now.operations

@@ -2,6 +2,7 @@
 -- the marks of its kept order remain marks.
 use Rattle.std.proofs.Common.{◌≡◌, ℕ, List, Option, None, Some, IfSome, sym, subst, ◌∙◌, arith}
 use Rattle.std.proofs.lemmas.Option.{slice_get_within}
+use Rattle.book_base.specs.SeqSpec.{SeqSpec}
 use Rattle.book_base.specs.Cut.{IsWithin, Holds}
 use Rattle.book_base.specs.Book.{Page, page_of, IsCall}
 use Rattle.book_base.specs.BookAt.{IsBookAt, IsHeldBySomeView}
@@ -54,17 +55,17 @@ grown s i l early late a b (locals, together, low, is) first second within =
 
 -- A kept order that is taken up once more has its marks in the new book too, where the kept book
 -- has as many callers as the table and its cut is within that of the new book.
-pub stands_on : (init : List ℕ) (next : List ℕ → ℕ → List ℕ × ℕ) (s : Shape) (i n : ℕ) (l : Local)
-    (kept : Option Gathered) (standing taken : Option KeptOrder) (cut : List ℕ) (book : List Page)
-    → n ≡ s.callers → IsLocalOf s i l → IsGatheredBy l kept → IsGathered s.callers l cut book
-    → OrderStandsIn init next kept standing → IfSome taken (λ x. standing ≡ Some x)
-    → IfSome taken (λ _. IsGatheredWithin n kept cut) → IfSome taken (IsStandingFor init next book)
-stands_on init next s i n l kept standing None cut book same local by now stands is held = tt
-stands_on init next s i n l None standing (Some x) cut book same local by now stands is held =
+pub stands_on : (spec : SeqSpec) (s : Shape) (i n : ℕ) (l : Local) (kept : Option Gathered)
+    (standing taken : Option KeptOrder) (cut : List ℕ) (book : List Page) → n ≡ s.callers
+    → IsLocalOf s i l → IsGatheredBy l kept → IsGathered s.callers l cut book
+    → OrderStandsIn spec kept standing → IfSome taken (λ x. standing ≡ Some x)
+    → IfSome taken (λ _. IsGatheredWithin n kept cut) → IfSome taken (IsStandingFor spec book)
+stands_on spec s i n l kept standing None cut book same local by now stands is held = tt
+stands_on spec s i n l None standing (Some x) cut book same local by now stands is held =
     absurd held
-stands_on init next s i n l (Some g) standing (Some x) cut book same local by now stands is held =
+stands_on spec s i n l (Some g) standing (Some x) cut book same local by now stands is held =
     let before : IsGathered s.callers l g.cut g.book =
     subst (λ (k : ℕ). IsGathered k l g.cut g.book) (held.0 ∙ same) by in
-    standing_stays init next g.book book x
+    standing_stays spec g.book book x
     (grown s i l g.cut cut g.book book local before now held.1)
-    (subst (λ (o : Option KeptOrder). OrderStandsIn init next (Some g) o) is stands)
+    (subst (λ (o : Option KeptOrder). OrderStandsIn spec (Some g) o) is stands)

@@ -8,17 +8,17 @@ use Rattle.enforcer.specs.Enforced.{OutcomesAreVerdicts, ErrorsAreFinal}
 
 -- An outcome that is right by what its caller has peeked makes a right end of its call's line.
 pub outcomes_are_verdicts : OutcomesAreVerdicts
-outcomes_are_verdicts init next n l (Delivered reply view seen order) (book, gathered, legal) =
+outcomes_are_verdicts spec n l (Delivered reply view seen order) (book, gathered, legal) =
     (book, gathered, (order.items, legal))
-outcomes_are_verdicts init next n l (Illegal reply view seen carried)
+outcomes_are_verdicts spec n l (Illegal reply view seen carried)
     (book, gathered, (same, none)) = (book, gathered, none)
 
 -- An error is final: where the book of all callers' calls has no legal order at a cut, each outcome
 -- that is right at a cut which contains that one is an error.
 pub errors_are_final : ErrorsAreFinal
-errors_are_final init next s locals lower
+errors_are_final spec s locals lower
     (Delivered reply view seen order) together within none legal =
-    absurd (none (smaller_has_one init next (book_in locals) lower seen
+    absurd (none (smaller_has_one spec (book_in locals) lower seen
     (books_are_valid s locals together) within (order.items, legal)))
-errors_are_final init next s locals lower
+errors_are_final spec s locals lower
     (Illegal reply view seen carried) together within none right = refl

@@ -2,6 +2,7 @@
 -- says of its call's line and of later outcomes.
 use Rattle.std.specs.Prelude.{◌≡◌, ◌≤◌, ◌+◌, ◌*◌, ℕ, true, List, Option, Result, Ok, Err}
 use Rattle.book_base.specs.declared.call.Record.{Record}
+use Rattle.book_base.specs.SeqSpec.{SeqSpec}
 use Rattle.book_base.specs.Cut.{IsWithin}
 use Rattle.book_base.specs.BookAt.{book_at}
 use Rattle.book_base.specs.Order.{HasLegalOrder}
@@ -47,15 +48,15 @@ TicksForWholeCall n kept outcome gathered before after =
 -- and where it is `Error`, such a book has no legal order.
 abbrev pub OutcomesAreVerdicts : Type 0
 OutcomesAreVerdicts =
-    (init : List ℕ) (next : List ℕ → ℕ → List ℕ × ℕ) (n : ℕ) (l : Local) (outcome : Outcome)
-    → IsRightByPeeks init next n l outcome → IsJudgedBy init next n l (end_of outcome)
+    (spec : SeqSpec) (n : ℕ) (l : Local) (outcome : Outcome)
+    → IsRightByPeeks spec n l outcome → IsJudgedBy spec n l (end_of outcome)
 
 -- An error is final: where the book of all callers' calls has no legal order at the cut `lower`,
 -- each outcome that is right at a cut which contains `lower` is an error.
 abbrev pub ErrorsAreFinal : Type 0
 ErrorsAreFinal =
-    (init : List ℕ) (next : List ℕ → ℕ → List ℕ × ℕ) (s : Shape) (locals : List Local)
+    (spec : SeqSpec) (s : Shape) (locals : List Local)
     (lower : List ℕ) (outcome : Outcome) → AreTogether s locals
-    → IsWithin lower (cut_in outcome) → ¬ HasLegalOrder init next (book_at lower (book_in locals))
-    → IsRightFor init next (book_at (cut_in outcome) (book_in locals)) outcome
+    → IsWithin lower (cut_in outcome) → ¬ HasLegalOrder spec (book_at lower (book_in locals))
+    → IsRightFor spec (book_at (cut_in outcome) (book_in locals)) outcome
     → is_illegal outcome ≡ true

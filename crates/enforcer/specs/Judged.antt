@@ -1,6 +1,7 @@
 -- What the outcome of a call says: of which record, at which seen cut, and by which book.
 use Rattle.std.specs.Prelude.{◌≡◌, ℕ, Bool, true, false, List, length}
 use Rattle.book_base.specs.declared.call.Record.{Record}
+use Rattle.book_base.specs.SeqSpec.{SeqSpec}
 use Rattle.book_base.specs.Book.{Page}
 use Rattle.book_base.specs.BookAt.{book_at}
 use Rattle.book_base.specs.Order.{IsLegalOrder, HasLegalOrder}
@@ -51,31 +52,28 @@ stance_after (Illegal reply view seen book) = record ready { live = false }
 
 -- The outcome is right for a book: after `Delivered` the order that the outcome carries is a legal
 -- order of the book; after `Illegal` the outcome carries this book, which has no legal order.
-abbrev pub IsRightFor : (init : List ℕ) → (next : List ℕ → ℕ → List ℕ × ℕ) → List Page
-    → Outcome → Type 0
-IsRightFor init next book (Delivered reply view seen order) =
-    IsLegalOrder init next book order.items
-IsRightFor init next book (Illegal reply view seen carried) = (carried ≡ book)
-    × ¬ HasLegalOrder init next book
+abbrev pub IsRightFor : SeqSpec → List Page → Outcome → Type 0
+IsRightFor spec book (Delivered reply view seen order) =
+    IsLegalOrder spec book order.items
+IsRightFor spec book (Illegal reply view seen carried) = (carried ≡ book)
+    × ¬ HasLegalOrder spec book
 
 -- The outcome is right for a book at its seen cut which a caller of n with this local has gathered,
 -- by peeking each of its words.
-abbrev pub IsRightByPeeks : (init : List ℕ) → (next : List ℕ → ℕ → List ℕ × ℕ) → ℕ → Local
-    → Outcome → Type 0
-IsRightByPeeks init next n l outcome = (book : List Page) × IsGathered n l (cut_in outcome) book
-    × IsRightFor init next book outcome
+abbrev pub IsRightByPeeks : SeqSpec → ℕ → Local → Outcome → Type 0
+IsRightByPeeks spec n l outcome = (book : List Page) × IsGathered n l (cut_in outcome) book
+    × IsRightFor spec book outcome
 
 -- In each reachable world in which caller `i` has this local, the outcome is right for the book at
 -- its seen cut of the book of all callers' calls.
-abbrev pub IsRightInWorlds : (init : List ℕ) → (next : List ℕ → ℕ → List ℕ × ℕ) → Shape → ℕ → Local
-    → Outcome → Type 0
-IsRightInWorlds init next s i l outcome =
+abbrev pub IsRightInWorlds : SeqSpec → Shape → ℕ → Local → Outcome → Type 0
+IsRightInWorlds spec s i l outcome =
     (locals : List Local) → AreTogether s locals → local_at locals i ≡ l
-    → IsRightFor init next (book_at (cut_in outcome) (book_in locals)) outcome
+    → IsRightFor spec (book_at (cut_in outcome) (book_in locals)) outcome
 
 -- In each reachable world of these rows in which this caller has its local, the outcome is right
 -- for the book at its seen cut of the book of all callers' calls.
-abbrev pub IsRightOf : {P : Type 0} → (init : List ℕ) → (next : List ℕ → ℕ → List ℕ × ℕ)
-    → (P → ℕ → ℕ → Meaning) → Rows P → Caller P → Outcome → Type 0
-IsRightOf init next meaning r c outcome =
-    IsRightInWorlds init next (shape_of meaning r) (who_of c) (local_with c) outcome
+abbrev pub IsRightOf : {P : Type 0} → (spec : SeqSpec) → (P → ℕ → ℕ → Meaning) → Rows P → Caller P
+    → Outcome → Type 0
+IsRightOf spec meaning r c outcome =
+    IsRightInWorlds spec (shape_of meaning r) (who_of c) (local_with c) outcome

@@ -2,6 +2,7 @@
 -- caller's next one.
 use Rattle.std.specs.Prelude.{◌≡◌, ℕ, ◌⊎◌, false, List, Option, Some, None, IsSomeAnd, length}
 use Rattle.book_base.specs.declared.call.Record.{Record}
+use Rattle.book_base.specs.SeqSpec.{SeqSpec}
 use Rattle.book_base.specs.Cut.{IsWithin}
 use Rattle.frontier_check.specs.declared.kept_order.KeptOrder.{KeptOrder}
 use Rattle.frontier_check.specs.Standing.{IsStandingFor}
@@ -14,11 +15,10 @@ use Rattle.drv_wrapper.specs.Stands.{ready}
 -- Where a book and an order are kept, each mark of the order is a mark, for this object, in that
 -- book: the places up to the mark followed one another in the book, or in one from which the book
 -- has grown.
-abbrev pub OrderStandsIn : (init : List ℕ) → (next : List ℕ → ℕ → List ℕ × ℕ) → Option Gathered
-    → Option KeptOrder → Type 0
-OrderStandsIn init next gathered None = Unit {0}
-OrderStandsIn init next None (Some s) = Unit {0}
-OrderStandsIn init next (Some g) (Some s) = IsStandingFor init next g.book s
+abbrev pub OrderStandsIn : SeqSpec → Option Gathered → Option KeptOrder → Type 0
+OrderStandsIn spec gathered None = Unit {0}
+OrderStandsIn spec None (Some s) = Unit {0}
+OrderStandsIn spec (Some g) (Some s) = IsStandingFor spec g.book s
 
 -- A book is kept, it is of n callers, and the cut that is kept with it is within this cut.
 abbrev pub IsGatheredWithin : ℕ → Option Gathered → List ℕ → Type 0

@@ -209,14 +209,14 @@ pub fn enforce<S: SeqObject, B: BlackBox, L: Ledger>(
     // An outcome is right for a book at its seen cut each of whose words the caller has peeked:
     // after `Delivered` the order that it carries is a legal order of that book, and after
     // `Illegal` it carries that book, which has no legal order.
-    ensures gathered { IfOk result (λ r. IsRightByPeeks (S.init sequential.now)
-        (S.next sequential.now) rows.now.callers (local_with r.0) r.1) }
+    ensures gathered { IfOk result
+        (λ r. IsRightByPeeks (S.spec sequential.now) rows.now.callers (local_with r.0) r.1) }
     // In each reachable world in which the caller has its local, an outcome is right for the book
     // at its seen cut of the book of all callers' calls: after `Delivered` the order that it
     // carries is a legal order of that book, and after `Illegal` it carries that book, which has no
     // legal order.
-    ensures verdict { IfOk result (λ r. IsRightOf (S.init sequential.now)
-        (S.next sequential.now) ⟦<Outside as Program>⟧.meaning rows.now r.0 r.1) }
+    ensures verdict { IfOk result
+        (λ r. IsRightOf (S.spec sequential.now) ⟦<Outside as Program>⟧.meaning rows.now r.0 r.1) }
     // With an outcome, where a book is now kept, it is one at the cut that is kept with it, and the
     // caller has peeked each of its words.
     ensures kept { IfOk result (λ r. IsGatheredBy (local_with r.0) gathered.new) }

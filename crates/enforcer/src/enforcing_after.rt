@@ -69,8 +69,7 @@ pub fn enforce_after<S: SeqObject, B: BlackBox, L: Ledger>(
     requires gathered { IsGatheredBy (local_with caller) gathered.old }
     // Where a book and an order are kept, each mark of the order is one, for the sequential object,
     // in that book or in one from which that book has grown.
-    requires stands { OrderStandsIn (S.init sequential.now)
-        (S.next sequential.now) gathered.old standing.old }
+    requires stands { OrderStandsIn (S.spec sequential.now) gathered.old standing.old }
     // With a judgement the caller is still one of these rows, with the same number.
     ensures caller { IfOk result (λ r. IsStill ⟦<Outside as Program>⟧.meaning rows.now caller r.0) }
     // With a judgement the caller is idle.
@@ -95,15 +94,13 @@ pub fn enforce_after<S: SeqObject, B: BlackBox, L: Ledger>(
     // and it is a legal order of that book; after `Illegal` the judgement carries that book, which
     // has no legal order.
     ensures gathered { IfOk result (λ r. IsOutcome r.1 standing.new
-        (IsRightByPeeks (S.init sequential.now) (S.next sequential.now) rows.now.callers
-        (local_with r.0))) }
+        (IsRightByPeeks (S.spec sequential.now) rows.now.callers (local_with r.0))) }
     // In each reachable world in which the caller has its local, a judgement makes, with the order
     // that is now kept, an outcome that is right for the book at its seen cut of the book of all
     // callers' calls: after `Delivered` an order is kept, and it is a legal order of that book;
     // after `Illegal` the judgement carries that book, which has no legal order.
     ensures verdict { IfOk result (λ r. IsOutcome r.1 standing.new
-        (IsRightOf (S.init sequential.now) (S.next sequential.now)
-        ⟦<Outside as Program>⟧.meaning rows.now r.0)) }
+        (IsRightOf (S.spec sequential.now) ⟦<Outside as Program>⟧.meaning rows.now r.0)) }
     // With a judgement, where a book is now kept, it is one at the cut that is kept with it, and
     // the caller has peeked each of its words.
     ensures kept { IfOk result (λ r. IsGatheredBy (local_with r.0) gathered.new) }
@@ -112,8 +109,7 @@ pub fn enforce_after<S: SeqObject, B: BlackBox, L: Ledger>(
     ensures kept_book { IfOk result (λ r. IsKeptAfter rows.now.callers r.1 gathered.new) }
     // Where a book and an order are now kept, each mark of the order is one, for the sequential
     // object, in that book or in one from which that book has grown.
-    ensures stands { OrderStandsIn (S.init sequential.now)
-        (S.next sequential.now) gathered.new standing.new }
+    ensures stands { OrderStandsIn (S.spec sequential.now) gathered.new standing.new }
     // With a judgement the counter of steps has risen by at most the most words that four scans may
     // take, and then by the number of words that the judged book has and the book kept before
     // lacks, where that one is of as many callers as the rows have and its cut is within the seen

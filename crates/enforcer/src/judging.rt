@@ -100,8 +100,7 @@ fn decide<P: Program, S: SeqObject, L: Ledger>(
         IsTheBookAt P.meaning rows.now (caller_seen seen.new) (cut_seen seen.new) r.0.book) }
     ensures ticks { IfOk result (λ r.
         TicksForNew rows.now.callers gathered r.0 steps.old steps.new) }
-    ensures verdict { IfOk result
-        (λ r. IsRight (S.init object.now) (S.next object.now) r.0.book r.1) }
+    ensures verdict { IfOk result (λ r. IsRight (S.spec object.now) r.0.book r.1) }
 {
     let gathered = gather(alloc, rows, seen, gathered, steps)?;
     let verdict = check_from(alloc, object, &gathered.book, guide)?;
@@ -164,14 +163,13 @@ pub fn judge<P: Program, S: SeqObject, L: Ledger>(
     // An outcome is right for a book at its seen cut each of whose words the caller has peeked:
     // after `Delivered` the order that it carries is a legal order of that book, and after
     // `Illegal` it carries that book, which has no legal order.
-    ensures gathered { IfOk result (λ r. IsRightByPeeks (S.init object.now)
-        (S.next object.now) rows.now.callers (local_with r.0) r.1) }
+    ensures gathered { IfOk result
+        (λ r. IsRightByPeeks (S.spec object.now) rows.now.callers (local_with r.0) r.1) }
     // In each reachable world in which the caller has its local, an outcome is right for the book
     // at its seen cut of the book of all callers' calls: after `Delivered` the order that it
     // carries is a legal order of that book, and after `Illegal` it carries that book, which has no
     // legal order.
-    ensures verdict { IfOk result
-        (λ r. IsRightOf (S.init object.now) (S.next object.now) P.meaning rows.now r.0 r.1) }
+    ensures verdict { IfOk result (λ r. IsRightOf (S.spec object.now) P.meaning rows.now r.0 r.1) }
     // With an outcome, where a book is now kept, it is one at the cut that is kept with it, and the
     // caller has peeked each of its words.
     ensures kept { IfOk result (λ r. IsGatheredBy (local_with r.0) gathered.new) }

@@ -65,7 +65,7 @@ pub(crate) fn decide_after<P: Program, S: SeqObject, L: Ledger>(
 ) -> Result<(Gathered, Option<KeptOrder>), NoMemory>
     requires rows { IsCallerOf P.meaning rows.now (caller_seen seen.old) }
     requires gathered { IsGatheredBy (local_with (caller_seen seen.old)) gathered }
-    requires stands { OrderStandsIn (S.init object.now) (S.next object.now) gathered standing }
+    requires stands { OrderStandsIn (S.spec object.now) gathered standing }
     ensures caller { IsStill P.meaning rows.now (caller_seen seen.old) (caller_seen seen.new) }
     ensures record { (reply_seen seen.new ≡ reply_seen seen.old)
         × (view_seen seen.new ≡ view_seen seen.old) }
@@ -79,12 +79,11 @@ pub(crate) fn decide_after<P: Program, S: SeqObject, L: Ledger>(
         IsTheBookAt P.meaning rows.now (caller_seen seen.new) (cut_seen seen.new) r.0.book) }
     ensures ticks { IfOk result (λ r.
         TicksForNew rows.now.callers gathered r.0 steps.old steps.new) }
-    ensures legal { IfOk result (λ r. IfSome r.1
-        (λ s. IsLegalOrder (S.init object.now) (S.next object.now) r.0.book s.order.items)) }
-    ensures stands { IfOk result (λ r. IfSome r.1
-        (IsStandingFor (S.init object.now) (S.next object.now) r.0.book)) }
-    ensures illegal { IfOk result (λ r. IfNone r.1
-        (HasLegalOrder (S.init object.now) (S.next object.now) r.0.book → ⊥)) }
+    ensures legal { IfOk result
+        (λ r. IfSome r.1 (λ s. IsLegalOrder (S.spec object.now) r.0.book s.order.items)) }
+    ensures stands { IfOk result (λ r. IfSome r.1 (IsStandingFor (S.spec object.now) r.0.book)) }
+    ensures illegal { IfOk result
+        (λ r. IfNone r.1 (HasLegalOrder (S.spec object.now) r.0.book → ⊥)) }
 {
     let before = standing_in(rows.callers(), &gathered, standing, &seen.cut);
     let found = gather(alloc, rows, seen, gathered, steps)?;
@@ -122,8 +121,7 @@ pub fn judge_line<P: Program, S: SeqObject, L: Ledger>(
     requires gathered { IsGatheredBy (local_with (caller_seen seen)) gathered.old }
     // Where a book and an order are kept, each mark of the order is one, for this object, in that
     // book or in one from which that book has grown.
-    requires stands { OrderStandsIn (S.init object.now)
-        (S.next object.now) gathered.old standing.old }
+    requires stands { OrderStandsIn (S.spec object.now) gathered.old standing.old }
     // The caller of a judged call is still one of these rows, with the same number.
     ensures caller { IfOk result (λ r. IsStill P.meaning rows.now (caller_seen seen) r.0) }
     // The caller of a judged call has made peeks and no other event, and the counter of steps has
@@ -142,8 +140,8 @@ pub fn judge_line<P: Program, S: SeqObject, L: Ledger>(
     ensures own { IfOk result (λ r. HoldsOwn (cut_seen seen) r.0) }
     // The end of the line is right for a book at its cut each of whose words the caller has peeked:
     // after `Delivered` that book has a legal order, and after `Error` it has no legal order.
-    ensures verdict { IfOk result (λ r.
-        IsJudgedBy (S.init object.now) (S.next object.now) rows.now.callers (local_with r.0) r.1) }
+    ensures verdict { IfOk result
+        (λ r. IsJudgedBy (S.spec object.now) rows.now.callers (local_with r.0) r.1) }
     // Where the call is judged and a book is now kept, the book is one at the cut that is kept with
     // it, and the caller has peeked each of its words.
     ensures kept { IfOk result (λ r. IsGatheredBy (local_with r.0) gathered.new) }
@@ -152,8 +150,7 @@ pub fn judge_line<P: Program, S: SeqObject, L: Ledger>(
     ensures kept_book { IfOk result (λ r. IsKeptAfterLine rows.now.callers r.1 gathered.new) }
     // Where a book and an order are now kept, each mark of the order is one, for this object, in
     // that book or in one from which that book has grown.
-    ensures stands { OrderStandsIn (S.init object.now)
-        (S.next object.now) gathered.new standing.new }
+    ensures stands { OrderStandsIn (S.spec object.now) gathered.new standing.new }
     // Where the call is judged and a book is now kept, the counter of steps has risen by the number
     // of words that this book has and the book kept before lacks, if that one is of as many callers
     // as the rows have and its cut is within the new one; if no book was kept before, by the number

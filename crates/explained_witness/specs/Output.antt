@@ -7,7 +7,7 @@ use Rattle.broken_rules.specs.Rules.{Breaks}
 use Rattle.broken_rules.specs.Texts.{broken_text}
 use Rattle.given_book.specs.Given.{IsGiven}
 use Rattle.seq_objects.specs.declared.kind.Kind.{Kind}
-use Rattle.seq_objects.specs.Objects.{kind_init, kind_next}
+use Rattle.seq_objects.specs.Objects.{kind_spec}
 
 -- The bytes give a book that breaks none of the rules.
 pub record BreaksNone (bytes : List ℕ) : Type 0 where
@@ -24,7 +24,7 @@ pub record IsExplained (bytes text : List ℕ) : Type 0 where
   pub broken : BrokenRule
   pub told : IsGiven bytes kind book
   pub breaks : Breaks kind book broken
-  pub illegal : ¬ (HasLegalOrder (kind_init kind) (kind_next kind) book)
+  pub illegal : ¬ (HasLegalOrder (kind_spec kind) book)
   pub written : text ≡ broken_text kind book broken
 
 -- The bytes give a book that breaks none of the rules, and the text says so.

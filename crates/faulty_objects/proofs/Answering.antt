@@ -28,11 +28,11 @@ answer-more answer before e = ap (λ (l : List Entry). answer l (last_call (befo
     (earlier-more before e) ∙ ap (answer before) (last_call-more before e)
 
 pub takes_leave_the_list : TakesLeaveTheList
-takes_leave_the_list next init before e = answer-more
-    (λ (l : List Entry) (c : Entry). reply_after next init (without_takes l) c.op) before e
+takes_leave_the_list spec before e = answer-more
+    (λ (l : List Entry) (c : Entry). reply_after spec (without_takes l) c.op) before e
 
 pub third_calls_are_invented : ThirdCallsAreInvented
-third_calls_are_invented next init before e = answer-more (invent_reply_after next init) before e
+third_calls_are_invented spec before e = answer-more (invent_reply_after spec) before e
 
 -- whether a number is odd, and whether the next put is a second one after this many puts
 odd_by : (n : ℕ) → ((eqb (n % 2) 1 ≡ true) × (n % 2 ≡ 1)) ⊎ ((eqb (n % 2) 1 ≡ false) × (n % 2 ≢ 1))
@@ -81,8 +81,8 @@ loses_each_second_put =
     record {
       calls = λ before e. second_puts-append 0 before e ∙ ap (λ (k : ℕ).
           without_second_puts false before ++ unless (is_put e.op && (k % 2 == 1)) e) (omega arith);
-      reply = λ next init before e. answer-more (λ (l : List Entry) (c : Entry).
-          reply_after next init (without_second_puts false l) c.op) before e;
+      reply = λ spec before e. answer-more (λ (l : List Entry) (c : Entry).
+          reply_after spec (without_second_puts false l) c.op) before e;
     }
 
 late_changes-append : (prefix before : List Entry) (e : Entry) → late_changes prefix
@@ -124,5 +124,5 @@ puts_wait =
       changes = changes_more;
       own = waiting_own;
       other = waiting_other;
-      reply = λ next init before e. answer-more (late_reply_after next init) before e;
+      reply = λ spec before e. answer-more (late_reply_after spec) before e;
     }

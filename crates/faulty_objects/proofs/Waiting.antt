@@ -2,6 +2,7 @@
 use Rattle.std.proofs.Common.{◌≡◌, ◌≢◌, ℕ, ◌+◌, ◌-◌, ◌<◌, ◌⊎◌, inl, inr, eqb, true, false, List, [], ◌∷◌, ◌++◌, length, take, get_or, set, Option, None, sym, ap, ◌∙◌, arith}
 use Rattle.std.proofs.lemmas.List.{take_more, append_assoc, get_or_default, get_or-set_same, get_or-set_other}
 use Rattle.std.proofs.lemmas.Bool.Decides.{eqb_tells}
+use Rattle.book_base.specs.SeqSpec.{SeqSpec}
 use Rattle.shared_log.specs.declared.entry.Entry.{Entry}
 use Rattle.shared_log.specs.Entries.{entry}
 use Rattle.lawful_objects.specs.Replays.{list_after}
@@ -77,23 +78,23 @@ module _ (next : List ℕ → ℕ → List ℕ × ℕ) (old : List ℕ) (waiting
         ∙ ap (waiting_of i) (sym (take_more log k d low))
 
 -- the last call of a log is answered after the changes of the others and its caller's waiting one
-pub late_answered : (next : List ℕ → ℕ → List ℕ × ℕ) (init : List ℕ) (log : List Entry) (d : Entry)
-    (waiting : List (Option ℕ)) (begun words made : List ℕ) (reply : ℕ) → 0 < length log
-    → begun ≡ init
-    → words ≡ list_after next begun (late_changes [] (take (length log - 1) log))
+pub late_answered : (spec : SeqSpec) (log : List Entry) (d : Entry) (waiting : List (Option ℕ))
+    (begun words made : List ℕ) (reply : ℕ) → 0 < length log → begun ≡ spec.init
+    → words ≡ list_after spec.next begun (late_changes [] (take (length log - 1) log))
     → get_or waiting (get_or log (length log - 1) d).caller None
     ≡ waiting_of (get_or log (length log - 1) d).caller (take (length log - 1) log)
-    → made ≡ list_after next words (waiting_call (get_or log (length log - 1) d).caller
+    → made ≡ list_after spec.next words (waiting_call (get_or log (length log - 1) d).caller
     (get_or waiting (get_or log (length log - 1) d).caller None))
-    → reply ≡ (next made (get_or log (length log - 1) d).op).1 → reply ≡ late_reply next init log
-late_answered next init log d waiting begun words made reply some from list own is replied =
+    → reply ≡ (spec.next made (get_or log (length log - 1) d).op).1 → reply ≡ late_reply spec log
+late_answered spec log d waiting begun words made reply some from list own is replied =
     let calls = take (length log - 1) log in
     let e = get_or log (length log - 1) d in
     let same : e ≡ last_call log =
     get_or_default log (length log - 1) d (entry 0 0) (omega arith) in
     replied
-    ∙ ap (λ (l : List ℕ). (next l e.op).1) (is ∙ list_waited next begun waiting calls e.caller words
-    list own ∙ ap (λ (l : List ℕ). list_after next l
+    ∙ ap (λ (l : List ℕ). (spec.next l e.op).1)
+    (is ∙ list_waited spec.next begun waiting calls e.caller words
+    list own ∙ ap (λ (l : List ℕ). list_after spec.next l
     (late_changes [] calls ++ waiting_call e.caller (waiting_of e.caller calls))) from)
-    ∙ ap (λ (c : Entry). reply_after next init
+    ∙ ap (λ (c : Entry). reply_after spec
     (late_changes [] calls ++ waiting_call c.caller (waiting_of c.caller calls)) c.op) same

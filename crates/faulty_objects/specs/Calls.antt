@@ -1,5 +1,6 @@
 -- Puts and takes, and how the last call of a log is answered.
 use Rattle.std.specs.Prelude.{ℕ, ◌-◌, Bool, ◌==◌, if◌then◌else◌, List, [], ◌∷◌, length, take, get_or}
+use Rattle.book_base.specs.SeqSpec.{SeqSpec}
 use Rattle.shared_log.specs.declared.entry.Entry.{Entry}
 use Rattle.shared_log.specs.Entries.{entry}
 use Rattle.seq_objects.specs.Words.{code_of}
@@ -26,5 +27,5 @@ abbrev pub unless : Bool → Entry → List Entry
 unless left e = if left then [] else e ∷ []
 
 -- The reply to an operation at the list that some calls leave.
-abbrev pub reply_after : (List ℕ → ℕ → List ℕ × ℕ) → List ℕ → List Entry → ℕ → ℕ
-reply_after next init calls op = (next (list_after next init calls) op).1
+abbrev pub reply_after : SeqSpec → List Entry → ℕ → ℕ
+reply_after spec calls op = (spec.next (list_after spec.next spec.init calls) op).1

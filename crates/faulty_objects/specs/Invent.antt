@@ -1,5 +1,6 @@
 -- The inventing object answers the third call of each caller with a value that nobody put.
 use Rattle.std.specs.Prelude.{◌≡◌, ℕ, ◌+◌, ◌*◌, ◌^◌, ◌==◌, if◌then◌else◌, List, [], ◌∷◌, ◌++◌, length}
+use Rattle.book_base.specs.SeqSpec.{SeqSpec}
 use Rattle.shared_log.specs.declared.entry.Entry.{Entry}
 use Rattle.shared_log.specs.Entries.{calls_by}
 use Rattle.faulty_objects.specs.Calls.{earlier, last_call, reply_after}
@@ -10,16 +11,16 @@ invented = 2 * 2 ^ 32 + 99
 
 -- The reply to a call after some others: the invented one where its caller has made two of these,
 -- and else the lawful one.
-abbrev pub invent_reply_after : (List ℕ → ℕ → List ℕ × ℕ) → List ℕ → List Entry → Entry → ℕ
-invent_reply_after next init before e =
-    if length (calls_by e.caller before) == 2 then invented else reply_after next init before e.op
+abbrev pub invent_reply_after : SeqSpec → List Entry → Entry → ℕ
+invent_reply_after spec before e =
+    if length (calls_by e.caller before) == 2 then invented else reply_after spec before e.op
 
 -- The reply of the inventing object to the last call of a log.
-abbrev pub invent_reply : (List ℕ → ℕ → List ℕ × ℕ) → List ℕ → List Entry → ℕ
-invent_reply next init log = invent_reply_after next init (earlier log) (last_call log)
+abbrev pub invent_reply : SeqSpec → List Entry → ℕ
+invent_reply spec log = invent_reply_after spec (earlier log) (last_call log)
 
 -- The third call of each caller gets the invented reply, and each other call the lawful one.
 abbrev pub ThirdCallsAreInvented : Type 0
 ThirdCallsAreInvented =
-    (next : List ℕ → ℕ → List ℕ × ℕ) (init : List ℕ) (before : List Entry) (e : Entry)
-    → invent_reply next init (before ++ e ∷ []) ≡ invent_reply_after next init before e
+    (spec : SeqSpec) (before : List Entry) (e : Entry)
+    → invent_reply spec (before ++ e ∷ []) ≡ invent_reply_after spec before e

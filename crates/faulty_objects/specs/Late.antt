@@ -1,5 +1,6 @@
 -- The late object makes the change of a put only at the next call of the put's caller.
 use Rattle.std.specs.Prelude.{◌≡◌, ◌≢◌, ℕ, ◌==◌, if◌then◌else◌, List, [], ◌∷◌, ◌++◌, Option, Some, None}
+use Rattle.book_base.specs.SeqSpec.{SeqSpec}
 use Rattle.shared_log.specs.declared.entry.Entry.{Entry}
 use Rattle.shared_log.specs.Entries.{entry}
 use Rattle.faulty_objects.specs.Calls.{is_put, earlier, last_call, unless, reply_after}
@@ -38,13 +39,13 @@ late_changes before (e ∷ log) = late_change before e ++ late_changes (before +
 
 -- The reply to a call after some others: the lawful one at the list after the changes of the others
 -- and the waiting change of the call's caller.
-abbrev pub late_reply_after : (List ℕ → ℕ → List ℕ × ℕ) → List ℕ → List Entry → Entry → ℕ
-late_reply_after next init before e = reply_after next init
+abbrev pub late_reply_after : SeqSpec → List Entry → Entry → ℕ
+late_reply_after spec before e = reply_after spec
     (late_changes [] before ++ waiting_call e.caller (waiting_of e.caller before)) e.op
 
 -- The reply of the late object to the last call of a log.
-abbrev pub late_reply : (List ℕ → ℕ → List ℕ × ℕ) → List ℕ → List Entry → ℕ
-late_reply next init log = late_reply_after next init (earlier log) (last_call log)
+abbrev pub late_reply : SeqSpec → List Entry → ℕ
+late_reply spec log = late_reply_after spec (earlier log) (last_call log)
 
 -- A call makes its changes after those of the calls before it. Afterwards its caller's waiting
 -- operation is that of this call, where it is a put, and else there is none; those of other callers
@@ -56,5 +57,5 @@ pub record PutsWait : Type 0 where
       → waiting_of e.caller (before ++ e ∷ []) ≡ waits_after e.op
   pub other : (i : ℕ) (before : List Entry) (e : Entry) → e.caller ≢ i
       → waiting_of i (before ++ e ∷ []) ≡ waiting_of i before
-  pub reply : (next : List ℕ → ℕ → List ℕ × ℕ) (init : List ℕ) (before : List Entry) (e : Entry)
-      → late_reply next init (before ++ e ∷ []) ≡ late_reply_after next init before e
+  pub reply : (spec : SeqSpec) (before : List Entry) (e : Entry)
+      → late_reply spec (before ++ e ∷ []) ≡ late_reply_after spec before e

@@ -1,6 +1,7 @@
 -- The lossy object drops each second put of the log.
 use Rattle.std.specs.Prelude.{◌≡◌, ℕ, ◌%◌, Bool, false, not, ◌&&◌, ◌==◌, if◌then◌else◌, List, [], ◌∷◌, ◌++◌, length}
 use Rattle.std.specs.List.{filter}
+use Rattle.book_base.specs.SeqSpec.{SeqSpec}
 use Rattle.shared_log.specs.declared.entry.Entry.{Entry}
 use Rattle.faulty_objects.specs.Calls.{is_put, earlier, last_call, unless, reply_after}
 
@@ -18,9 +19,9 @@ without_second_puts second (e ∷ log) =
 
 -- The reply to the last call of a log: the lawful one at the list that the earlier calls leave when
 -- each second put of them is dropped.
-abbrev pub lossy_reply : (List ℕ → ℕ → List ℕ × ℕ) → List ℕ → List Entry → ℕ
-lossy_reply next init log =
-    reply_after next init (without_second_puts false (earlier log)) (last_call log).op
+abbrev pub lossy_reply : SeqSpec → List Entry → ℕ
+lossy_reply spec log =
+    reply_after spec (without_second_puts false (earlier log)) (last_call log).op
 
 -- How many puts a log has.
 abbrev pub puts_in : List Entry → ℕ
@@ -31,6 +32,5 @@ puts_in log = length (filter (λ e. is_put e.op) log)
 pub record LosesEachSecondPut : Type 0 where
   pub calls : (before : List Entry) (e : Entry) → without_second_puts false (before ++ e ∷ [])
       ≡ without_second_puts false before ++ unless (is_put e.op && (puts_in before % 2 == 1)) e
-  pub reply : (next : List ℕ → ℕ → List ℕ × ℕ) (init : List ℕ) (before : List Entry) (e : Entry)
-      → lossy_reply next init (before ++ e ∷ [])
-      ≡ reply_after next init (without_second_puts false before) e.op
+  pub reply : (spec : SeqSpec) (before : List Entry) (e : Entry) → lossy_reply spec
+      (before ++ e ∷ []) ≡ reply_after spec (without_second_puts false before) e.op

@@ -1,6 +1,7 @@
 -- The object that gives an item twice: a take doesn't change its list.
 use Rattle.std.specs.Prelude.{◌≡◌, ℕ, not, List, [], ◌∷◌, ◌++◌}
 use Rattle.std.specs.List.{filter}
+use Rattle.book_base.specs.SeqSpec.{SeqSpec}
 use Rattle.shared_log.specs.declared.entry.Entry.{Entry}
 use Rattle.faulty_objects.specs.Calls.{is_take, earlier, last_call, reply_after}
 
@@ -10,11 +11,11 @@ without_takes log = filter (λ e. not (is_take e.op)) log
 
 -- The reply to the last call of a log: the lawful one at the list that the earlier calls leave,
 -- without the takes.
-abbrev pub twice_reply : (List ℕ → ℕ → List ℕ × ℕ) → List ℕ → List Entry → ℕ
-twice_reply next init log = reply_after next init (without_takes (earlier log)) (last_call log).op
+abbrev pub twice_reply : SeqSpec → List Entry → ℕ
+twice_reply spec log = reply_after spec (without_takes (earlier log)) (last_call log).op
 
 -- A call after some others gets the reply at the list that these leave, without the takes.
 abbrev pub TakesLeaveTheList : Type 0
 TakesLeaveTheList =
-    (next : List ℕ → ℕ → List ℕ × ℕ) (init : List ℕ) (before : List Entry) (e : Entry)
-    → twice_reply next init (before ++ e ∷ []) ≡ reply_after next init (without_takes before) e.op
+    (spec : SeqSpec) (before : List Entry) (e : Entry)
+    → twice_reply spec (before ++ e ∷ []) ≡ reply_after spec (without_takes before) e.op

@@ -22,7 +22,7 @@ pub(crate) fn is_take(op: OpWord) -> bool
 pub(crate) fn make_unless<S: SeqObject>(left: bool, object: &S, state: &mut State, op: OpWord)
     requires { length state.old.words < state.old.room }
     ensures { state.new ≡ record state.old {
-      words = if left then state.old.words else (S.next object.now state.old.words op).0;
+      words = if left then state.old.words else ((S.spec object.now).next state.old.words op).0;
     } }
 {
     if !left {

@@ -26,7 +26,7 @@ impl<S: SeqObject> Invent<S> {
     fn replay(&self, log: &[Entry], state: &mut State)
         requires { length state.old.words + length log.now ≤ state.old.room }
         ensures list { state.new ≡ record state.old {
-          words = list_after (S.next self.now.object) state.old.words log.now;
+          words = list_after (S.spec self.now.object).next state.old.words log.now;
         } }
         ensures few { length state.new.words ≤ length state.old.words + length log.now }
     {
@@ -37,7 +37,7 @@ impl<S: SeqObject> Invent<S> {
 }
 
 impl<S: SeqObject> Machine for Invent<S> {
-    ghost reply_to = { λ m. invent_reply (S.next m.object) (S.init m.object) };
+    ghost reply_to = { λ m. invent_reply (S.spec m.object) };
 
     fn answer(&self, log: &[Entry], scratch: &mut Scratch) -> u64 {
         let last = log.len() - 1;

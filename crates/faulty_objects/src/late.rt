@@ -22,7 +22,7 @@ impl<S: SeqObject> Late<S> {
         requires caller { caller < vec_len scratch.old.waiting }
         requires room { length scratch.old.state.words < scratch.old.state.room }
         ensures list { scratch.new.state.words ≡ list_after
-            (S.next self.now.object) scratch.old.state.words
+            (S.spec self.now.object).next scratch.old.state.words
             (waiting_call caller (slice_index_or scratch.old.waiting.items caller None)) }
         ensures waiting { scratch.new.waiting.items
             ≡ slice_set scratch.old.waiting.items caller None }
@@ -41,8 +41,8 @@ impl<S: SeqObject> Late<S> {
         requires caller { entry.now.caller < vec_len scratch.old.waiting }
         requires room { length scratch.old.state.words + waiting_count scratch.old.waiting.items
             < scratch.old.state.room }
-        ensures list { scratch.new.state.words ≡ list_after (S.next self.now.object)
-            (list_after (S.next self.now.object) scratch.old.state.words (waiting_call
+        ensures list { scratch.new.state.words ≡ list_after (S.spec self.now.object).next
+            (list_after (S.spec self.now.object).next scratch.old.state.words (waiting_call
             entry.now.caller (slice_index_or scratch.old.waiting.items entry.now.caller None)))
             (unless (is_put entry.now.op) entry.now) }
         ensures waiting { scratch.new.waiting.items
@@ -68,7 +68,7 @@ impl<S: SeqObject> Late<S> {
         requires none { waiting_count scratch.old.waiting.items ≡ 0 }
         requires room { length scratch.old.state.words + length log.now ≤ scratch.old.state.room }
         ensures list { scratch.new.state.words ≡ list_after
-            (S.next self.now.object) scratch.old.state.words (late_changes [] log.now) }
+            (S.spec self.now.object).next scratch.old.state.words (late_changes [] log.now) }
         ensures waiting { (i : ℕ) → i < vec_len scratch.old.waiting
             → slice_index_or scratch.new.waiting.items i None ≡ waiting_of i log.now }
         ensures count { length scratch.new.state.words + waiting_count scratch.new.waiting.items
@@ -91,7 +91,7 @@ fn clear(waiting: &mut Vec<Option<OpWord>>)
 }
 
 impl<S: SeqObject> Machine for Late<S> {
-    ghost reply_to = { λ m. late_reply (S.next m.object) (S.init m.object) };
+    ghost reply_to = { λ m. late_reply (S.spec m.object) };
 
     fn answer(&self, log: &[Entry], scratch: &mut Scratch) -> u64 {
         let last = log.len() - 1;

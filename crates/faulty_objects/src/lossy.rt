@@ -17,8 +17,7 @@ impl<S: SeqObject> Lossy<S> {
     fn replay(&self, log: &[Entry], state: &mut State)
         requires { length state.old.words + length log.now ≤ state.old.room }
         ensures list { state.new ≡ record state.old {
-          words =
-              list_after (S.next self.now.object) state.old.words
+          words = list_after (S.spec self.now.object).next state.old.words
               (without_second_puts false log.now);
         } }
         ensures few { length state.new.words ≤ length state.old.words + length log.now }
@@ -33,7 +32,7 @@ impl<S: SeqObject> Lossy<S> {
 }
 
 impl<S: SeqObject> Machine for Lossy<S> {
-    ghost reply_to = { λ m. lossy_reply (S.next m.object) (S.init m.object) };
+    ghost reply_to = { λ m. lossy_reply (S.spec m.object) };
 
     fn answer(&self, log: &[Entry], scratch: &mut Scratch) -> u64 {
         let last = log.len() - 1;

@@ -11,6 +11,7 @@ use Rattle.list_laws.proofs.Options.{some_from_is_some_and}
 use Rattle.book_base.specs.declared.call.Call.{Call}
 use Rattle.book_base.specs.declared.call.Place.{Place}
 use Rattle.book_base.specs.declared.call.Record.{Record}
+use Rattle.book_base.specs.SeqSpec.{SeqSpec}
 use Rattle.book_base.specs.Cut.{Holds, IsWithin}
 use Rattle.book_base.specs.Book.{Page, IsValid, IsCall, IsAnswered, operation_of, record_of, Precedes}
 use Rattle.book_base.specs.Order.{call_at, step_at, IsLegalOrder}
@@ -359,29 +360,29 @@ view-of book cut first number found is at r there =
 
 -- No places that begin with an infeasible call continue an order from a cut and a list that some
 -- order reaches.
-pub infeasible-ends : (init : List ℕ) (next : List ℕ → ℕ → List ℕ × ℕ) (book : List Page)
-    (cut list : List ℕ) (place : Place) (rest : List Place) → IsReached init next book cut list
-    → IsInfeasible init next book cut list (next_call cut place.caller)
-    → Continues book next cut list (place ∷ rest) → ⊥
-infeasible-ends init next book cut list place rest reached infeasible goes =
+pub infeasible-ends : (spec : SeqSpec) (book : List Page) (cut list : List ℕ) (place : Place)
+    (rest : List Place) → IsReached spec book cut list
+    → IsInfeasible spec book cut list (next_call cut place.caller)
+    → Continues book spec.next cut list (place ∷ rest) → ⊥
+infeasible-ends spec book cut list place rest reached infeasible goes =
     let made : ℕ → Place = λ n. record { caller = place.caller; number = n; reply = place.reply } in
     infeasible reached.before rest place.reply reached.reaches
-    (subst (λ (n : ℕ). IsLegalOrder init next book (reached.before ++ made n ∷ rest))
+    (subst (λ (n : ℕ). IsLegalOrder spec book (reached.before ++ made n ∷ rest))
     goes.0.may_come.next (reached.legal (place ∷ rest) goes))
 
 -- The places that are chosen stay as they are when a caller is considered whose next call is
 -- infeasible, at a cut and a list that some order reaches.
-pub infeasible-skip : (init : List ℕ) (next : List ℕ → ℕ → List ℕ × ℕ) (book : List Page)
-    (cut list : List ℕ) (marks : MarkedCallers) (places : List Place) (caller : ℕ)
-    → IsReached init next book cut list → AreChosen book next cut list marks caller places
-    → IsInfeasible init next book cut list (next_call cut caller)
-    → AreChosen book next cut list marks (caller + 1) places
-infeasible-skip init next book cut list marks places caller reached h infeasible =
-    chosen-next book next cut list marks caller places places h
-    (more-kept book next cut list caller places h.sound (λ (place : Place) (rest : List Place)
-    (by : place.caller ≡ caller) (goes : Continues book next cut list (place ∷ rest)).
-    absurd (infeasible-ends init next book cut list place rest reached (subst
-    (λ (i : ℕ). IsInfeasible init next book cut list (next_call cut i)) (sym by) infeasible) goes)))
+pub infeasible-skip : (spec : SeqSpec) (book : List Page) (cut list : List ℕ)
+    (marks : MarkedCallers) (places : List Place) (caller : ℕ) → IsReached spec book cut list
+    → AreChosen book spec.next cut list marks caller places
+    → IsInfeasible spec book cut list (next_call cut caller)
+    → AreChosen book spec.next cut list marks (caller + 1) places
+infeasible-skip spec book cut list marks places caller reached h infeasible =
+    chosen-next book spec.next cut list marks caller places places h
+    (more-kept book spec.next cut list caller places h.sound (λ (place : Place) (rest : List Place)
+    (by : place.caller ≡ caller) (goes : Continues book spec.next cut list (place ∷ rest)).
+    absurd (infeasible-ends spec book cut list place rest reached (subst
+    (λ (i : ℕ). IsInfeasible spec book cut list (next_call cut i)) (sym by) infeasible) goes)))
 
 -- A list has a word whose rank is at most that of its word at an index.
 pub rank_in : (ranks : List (ℕ × ℕ)) (list words : List ℕ) (i rank : ℕ) → words ≡ list

@@ -8,6 +8,7 @@ use Rattle.book_base.specs.declared.call.Call.{Call}
 use Rattle.book_base.specs.declared.call.Place.{Place}
 use Rattle.book_base.specs.declared.call.Record.{Record}
 use Rattle.book_base.specs.declared.TheConstants.{MAX_CALLERS, MAX_CALLS}
+use Rattle.book_base.specs.SeqSpec.{SeqSpec}
 use Rattle.book_base.specs.Book.{Page, IsValid, IsSmall, IsAnswered, record_of, Precedes}
 use Rattle.book_base.specs.Order.{call_at, step_at, IsLegalOrder}
 use Rattle.book_base.specs.PruningRules.{Reaches}
@@ -149,25 +150,23 @@ closing book next cut list (first ∷ places) to_cut to_list valid wide (at, rep
 
 -- The places of a prefix that is put may begin legal orders, where each answered call that is its
 -- caller's next after them has a view that holds the prefix's cut.
-pub prefix-from_put : (init : List ℕ) (next : List ℕ → ℕ → List ℕ × ℕ) (book : List Page)
-    (prefix : Prefix) → IsPut init next book prefix → LeavesOpen book prefix.cut
-    → IsPrefix init next book prefix
-prefix-from_put init next book prefix put leaves =
+pub prefix-from_put : (spec : SeqSpec) (book : List Page) (prefix : Prefix) → IsPut spec book prefix
+    → LeavesOpen book prefix.cut → IsPrefix spec book prefix
+prefix-from_put spec book prefix put leaves =
     let long : length (no_calls book) ≡ length book = length-replicate (length book) 0 in
-    let closed = closing book next (no_calls book) init prefix.places.items prefix.cut
+    let closed = closing book spec.next (no_calls book) spec.init prefix.places.items prefix.cut
     prefix.here.words put.stands.valid (omega arith) put.follow leaves in
     record {
       stands = put.stands;
-      legal = λ rest goes. legal_order_from_continues book init next (no_calls book)
+      legal = λ rest goes. legal_order_from_continues book spec (no_calls book)
           (prefix.places.items ++ rest) (omega arith) (zeros book) (closed.goes rest goes);
     }
 
 -- The prefix without places reaches the cut without calls and the first list of the object.
-pub stands-start : (init : List ℕ) (next : List ℕ → ℕ → List ℕ × ℕ) (book : List Page)
-    (prefix : Prefix) → IsValid book → IsSmall book → length init ≤ 1
-    → prefix.places.items ≡ [] → prefix.cut ≡ no_calls book → prefix.here.words ≡ init
-    → PrefixReaches init next book prefix
-stands-start init next book prefix valid small begins places cut list =
+pub stands-start : (spec : SeqSpec) (book : List Page) (prefix : Prefix) → IsValid book
+    → IsSmall book → length spec.init ≤ 1 → prefix.places.items ≡ [] → prefix.cut ≡ no_calls book
+    → prefix.here.words ≡ spec.init → PrefixReaches spec book prefix
+stands-start spec book prefix valid small begins places cut list =
     let long : length (no_calls book) ≡ length book = length-replicate (length book) 0 in
     record {
       valid = valid;
@@ -176,38 +175,37 @@ stands-start init next book prefix valid small begins places cut list =
       within = λ (i : ℕ). omega (arith, zeros book i, ap (λ (c : List ℕ). get_or c i 0) cut);
       words = omega (arith, begins, ap (λ (l : List ℕ). length l) list);
       reaches =
-          subst (λ (order : List Place). Reaches init next book order prefix.cut prefix.here.words)
+          subst (λ (order : List Place). Reaches spec book order prefix.cut prefix.here.words)
           (sym places)
-          (subst (λ (c : List ℕ). Reaches init next book [] c prefix.here.words) (sym cut)
-          (subst (λ (l : List ℕ). Reaches init next book [] (no_calls book) l) (sym list)
-          (no_places_reach_the_start init next book (length book))));
+          (subst (λ (c : List ℕ). Reaches spec book [] c prefix.here.words) (sym cut)
+          (subst (λ (l : List ℕ). Reaches spec book [] (no_calls book) l) (sym list)
+          (no_places_reach_the_start spec book (length book))));
     }
 
 -- The prefix without places is put.
-pub put-start : (init : List ℕ) (next : List ℕ → ℕ → List ℕ × ℕ) (book : List Page)
-    (prefix : Prefix) → IsValid book → IsSmall book → length init ≤ 1
-    → prefix.places.items ≡ [] → prefix.cut ≡ no_calls book → prefix.here.words ≡ init
-    → IsPut init next book prefix
-put-start init next book prefix valid small begins places cut list = record {
-  stands = stands-start init next book prefix valid small begins places cut list;
-  follow = subst (λ (order : List Place). Follow book next
-      (no_calls book) init order prefix.cut prefix.here.words) (sym places) (sym cut, sym list);
+pub put-start : (spec : SeqSpec) (book : List Page) (prefix : Prefix) → IsValid book → IsSmall book
+    → length spec.init ≤ 1 → prefix.places.items ≡ [] → prefix.cut ≡ no_calls book
+    → prefix.here.words ≡ spec.init → IsPut spec book prefix
+put-start spec book prefix valid small begins places cut list = record {
+  stands = stands-start spec book prefix valid small begins places cut list;
+  follow = subst (λ (order : List Place). Follow book spec.next
+      (no_calls book) spec.init order prefix.cut prefix.here.words) (sym places)
+      (sym cut, sym list);
 }
 
 -- After the prefix without places, whatever places continue an order make a legal one.
-pub prefix-start : (init : List ℕ) (next : List ℕ → ℕ → List ℕ × ℕ) (book : List Page)
-    (prefix : Prefix) → IsValid book → IsSmall book → length init ≤ 1
-    → prefix.places.items ≡ [] → prefix.cut ≡ no_calls book → prefix.here.words ≡ init
-    → IsPrefix init next book prefix
-prefix-start init next book prefix valid small begins places cut list =
+pub prefix-start : (spec : SeqSpec) (book : List Page) (prefix : Prefix) → IsValid book
+    → IsSmall book → length spec.init ≤ 1 → prefix.places.items ≡ [] → prefix.cut ≡ no_calls book
+    → prefix.here.words ≡ spec.init → IsPrefix spec book prefix
+prefix-start spec book prefix valid small begins places cut list =
     let long : length (no_calls book) ≡ length book = length-replicate (length book) 0 in
     record {
-      stands = stands-start init next book prefix valid small begins places cut list;
+      stands = stands-start spec book prefix valid small begins places cut list;
       legal = λ rest goes.
-          subst (λ (order : List Place). IsLegalOrder init next book (order ++ rest)) (sym places)
-          (legal_order_from_continues book init next (no_calls book) rest (omega arith) (zeros book)
-          (subst (λ (c : List ℕ). Continues book next c init rest) cut
-          (subst (λ (l : List ℕ). Continues book next prefix.cut l rest) list goes)));
+          subst (λ (order : List Place). IsLegalOrder spec book (order ++ rest)) (sym places)
+          (legal_order_from_continues book spec (no_calls book) rest (omega arith) (zeros book)
+          (subst (λ (c : List ℕ). Continues book spec.next c spec.init rest) cut
+          (subst (λ (l : List ℕ). Continues book spec.next prefix.cut l rest) list goes)));
     }
 
 -- bounds for a place that is next after a prefix: on its caller, its number, and the words of the
@@ -218,10 +216,9 @@ pub record Putting (book : List Page) (prefix : Prefix) (place : Place) : Type 0
   pub words : length prefix.here.words < CAPACITY
 
 -- The bounds hold for each place that is next after a prefix that reaches its cut and its list.
-pub putting : (init : List ℕ) (next : List ℕ → ℕ → List ℕ × ℕ) (book : List Page) (prefix : Prefix)
-    (place : Place) → PrefixReaches init next book prefix → IsNext book prefix.cut place
-    → Putting book prefix place
-putting init next book prefix place s is =
+pub putting : (spec : SeqSpec) (book : List Page) (prefix : Prefix) (place : Place)
+    → PrefixReaches spec book prefix → IsNext book prefix.cut place → Putting book prefix place
+putting spec book prefix place s is =
     let there : place.caller < length book =
     caller_from_call book place.caller place.number is.is_call in
     let inside : place.caller < length prefix.cut = omega (arith, s.wide) in
@@ -239,25 +236,23 @@ putting init next book prefix place s is =
 
 -- A prefix that is put stays so with one more place, which is next and has the reply that the
 -- object gives.
-pub put-more : (init : List ℕ) (next : List ℕ → ℕ → List ℕ × ℕ) (book : List Page)
-    (old new : Prefix) (place : Place)
-    → ((list : List ℕ) (op : ℕ) → length (next list op).0 ≤ length list + 1)
-    → IsPut init next book old → IsNext book old.cut place
-    → (next old.here.words (step_at book place).0).1 ≡ place.reply
+pub put-more : (spec : SeqSpec) (book : List Page) (old new : Prefix) (place : Place)
+    → ((list : List ℕ) (op : ℕ) → length (spec.next list op).0 ≤ length list + 1)
+    → IsPut spec book old → IsNext book old.cut place
+    → (spec.next old.here.words (step_at book place).0).1 ≡ place.reply
     → new.places.items ≡ old.places.items ++ place ∷ [] → new.cut ≡ raised old.cut place.caller
-    → new.here.words ≡ list_after book next old.here.words place
-    → IsPut init next book new
-put-more init next book old new place grows put is gives places cut list =
+    → new.here.words ≡ list_after book spec.next old.here.words place → IsPut spec book new
+put-more spec book old new place grows put is gives places cut list =
     let s = put.stands in
-    let p = putting init next book old place s is in
-    let one : Reaches init next book (old.places.items ++ place ∷ []) (raised old.cut place.caller)
-    (list_after book next old.here.words place) =
-    subst (λ (n : ℕ). Reaches init next book (old.places.items ++ place ∷ [])
-    (set old.cut place.caller (n + 1)) (list_after book next old.here.words place)) is.next
-    (one_more_place_reaches_on init next book old.places.items old.cut old.here.words place
+    let p = putting spec book old place s is in
+    let one : Reaches spec book (old.places.items ++ place ∷ []) (raised old.cut place.caller)
+    (list_after book spec.next old.here.words place) =
+    subst (λ (n : ℕ). Reaches spec book (old.places.items ++ place ∷ [])
+    (set old.cut place.caller (n + 1)) (list_after book spec.next old.here.words place)) is.next
+    (one_more_place_reaches_on spec book old.places.items old.cut old.here.words place
     s.reaches p.caller is.next) in
-    let follow = follow-push book next
-    (no_calls book) init old.places.items old.cut old.here.words place put.follow is gives in
+    let follow = follow-push book spec.next
+    (no_calls book) spec.init old.places.items old.cut old.here.words place put.follow is gives in
     let longer : length (raised old.cut place.caller) ≡ length old.cut =
     length-set old.cut place.caller (get_or old.cut place.caller 0 + 1) in
     record {
@@ -279,25 +274,25 @@ put-more init next book old new place grows put is gives places cut list =
           sum_raised old.cut place.caller p.caller,
         );
         reaches =
-            subst (λ (order : List Place). Reaches init next book order new.cut new.here.words)
+            subst (λ (order : List Place). Reaches spec book order new.cut new.here.words)
             (sym places)
             (subst (λ (c : List ℕ).
-            Reaches init next book (old.places.items ++ place ∷ []) c new.here.words) (sym cut)
-            (subst (λ (l : List ℕ). Reaches init next book (old.places.items ++ place ∷ [])
+            Reaches spec book (old.places.items ++ place ∷ []) c new.here.words) (sym cut)
+            (subst (λ (l : List ℕ). Reaches spec book (old.places.items ++ place ∷ [])
             (raised old.cut place.caller) l) (sym list) one));
       };
       follow = subst (λ (order : List Place).
-          Follow book next (no_calls book) init order new.cut new.here.words) (sym places)
-          (subst (λ (c : List ℕ). Follow book next (no_calls book) init
+          Follow book spec.next (no_calls book) spec.init order new.cut new.here.words) (sym places)
+          (subst (λ (c : List ℕ). Follow book spec.next (no_calls book) spec.init
           (old.places.items ++ place ∷ []) c new.here.words) (sym cut)
-          (subst (λ (l : List ℕ). Follow book next (no_calls book) init
+          (subst (λ (l : List ℕ). Follow book spec.next (no_calls book) spec.init
           (old.places.items ++ place ∷ []) (raised old.cut place.caller) l) (sym list) follow));
     }
 
 -- The list of a prefix that reaches it has no more words than the capacity of a state.
-pub stands-fit : (init : List ℕ) (next : List ℕ → ℕ → List ℕ × ℕ) (book : List Page)
-    (prefix : Prefix) → PrefixReaches init next book prefix → length prefix.here.words ≤ CAPACITY
-stands-fit init next book prefix s =
+pub stands-fit : (spec : SeqSpec) (book : List Page) (prefix : Prefix)
+    → PrefixReaches spec book prefix → length prefix.here.words ≤ CAPACITY
+stands-fit spec book prefix s =
     let few : sum prefix.cut ≤ MAX_CALLERS * MAX_CALLS =
     sum_small book prefix.cut s.small s.wide s.within in
     omega (arith, s.words)

@@ -9,6 +9,7 @@ use Rattle.list_laws.proofs.Places.{get_or-replicate_default}
 use Rattle.book_base.specs.declared.call.Call.{Call}
 use Rattle.book_base.specs.declared.call.Place.{Place}
 use Rattle.book_base.specs.declared.TheConstants.{MAX_CALLERS, MAX_CALLS}
+use Rattle.book_base.specs.SeqSpec.{SeqSpec}
 use Rattle.book_base.specs.Book.{Page, calls_of, IsCall, IsSmall}
 use Rattle.book_base.specs.Order.{call_at, step_at, IsLegalOrder, HasLegalOrder}
 use Rattle.book_base.specs.PruningRules.{Reaches}
@@ -118,48 +119,47 @@ leads-more book next cut list (first ∷ frames) to_cut to_list rest (words, her
 
 -- where an order reaches the cut and the list where frames begin, that order and then their places
 -- reach those to which they lead
-leads-reaches : (init : List ℕ) (next : List ℕ → ℕ → List ℕ × ℕ) (book : List Page)
-    (before : List Place) (cut list : List ℕ) (frames : List WalkFrame) (to_cut to_list : List ℕ)
-    → length book ≤ length cut → Reaches init next book before cut list
-    → Leads book next cut list frames to_cut to_list
-    → Reaches init next book (before ++ order_of frames) to_cut to_list
-leads-reaches init next book before cut list [] to_cut to_list wide reaches (same_cut, same_list) =
-    subst (λ (order : List Place). Reaches init next book order to_cut to_list)
+leads-reaches : (spec : SeqSpec) (book : List Page) (before : List Place) (cut list : List ℕ)
+    (frames : List WalkFrame) (to_cut to_list : List ℕ) → length book ≤ length cut
+    → Reaches spec book before cut list → Leads book spec.next cut list frames to_cut to_list
+    → Reaches spec book (before ++ order_of frames) to_cut to_list
+leads-reaches spec book before cut list [] to_cut to_list wide reaches (same_cut, same_list) =
+    subst (λ (order : List Place). Reaches spec book order to_cut to_list)
     (sym (append-nil before))
-    (subst (λ (c : List ℕ). Reaches init next book before c to_list) same_cut
-    (subst (λ (l : List ℕ). Reaches init next book before cut l) same_list reaches))
-leads-reaches init next book before cut list (first ∷ frames) to_cut to_list wide reaches
+    (subst (λ (c : List ℕ). Reaches spec book before c to_list) same_cut
+    (subst (λ (l : List ℕ). Reaches spec book before cut l) same_list reaches))
+leads-reaches spec book before cut list (first ∷ frames) to_cut to_list wide reaches
     (words, here, later) =
     let may : MayComeNext book cut (call_at first.place) = here.sound.0.may_come in
     let inside : first.place.caller < length cut =
     within_cut book cut (call_at first.place) wide may.is_call in
     let longer : length (raised cut first.place.caller) ≡ length cut =
     length-set cut first.place.caller (get_or cut first.place.caller 0 + 1) in
-    let one : Reaches init next book (before ++ first.place ∷ []) (raised cut first.place.caller)
-    (list_after book next list first.place) =
-    subst (λ (n : ℕ). Reaches init next book (before ++ first.place ∷ [])
-    (set cut first.place.caller (n + 1)) (list_after book next list first.place)) may.next
-    (one_more_place_reaches_on init next book before cut list first.place reaches inside
+    let one : Reaches spec book (before ++ first.place ∷ []) (raised cut first.place.caller)
+    (list_after book spec.next list first.place) =
+    subst (λ (n : ℕ). Reaches spec book (before ++ first.place ∷ [])
+    (set cut first.place.caller (n + 1)) (list_after book spec.next list first.place)) may.next
+    (one_more_place_reaches_on spec book before cut list first.place reaches inside
     may.next) in
-    subst (λ (order : List Place). Reaches init next book order to_cut to_list)
+    subst (λ (order : List Place). Reaches spec book order to_cut to_list)
     (append_assoc before (first.place ∷ []) (order_of frames))
-    (leads-reaches init next book (before ++ first.place ∷ []) (raised cut first.place.caller)
-    (list_after book next list first.place) frames to_cut to_list (omega arith) one later)
+    (leads-reaches spec book (before ++ first.place ∷ []) (raised cut first.place.caller)
+    (list_after book spec.next list first.place) frames to_cut to_list (omega arith) one later)
 
 -- Where frames lead from the end of a prefix to a cut and a list, some order reaches these, and
 -- whatever places continue it from there make a legal order with it.
-pub reached-from_leads : (init : List ℕ) (next : List ℕ → ℕ → List ℕ × ℕ) (book : List Page)
-    (prefix : Prefix) (frames : List WalkFrame) (cut list : List ℕ)
-    → IsPrefix init next book prefix → Leads book next prefix.cut prefix.here.words frames cut list
-    → IsReached init next book cut list
-reached-from_leads init next book prefix frames cut list f leads = record {
+pub reached-from_leads : (spec : SeqSpec) (book : List Page) (prefix : Prefix)
+    (frames : List WalkFrame) (cut list : List ℕ) → IsPrefix spec book prefix
+    → Leads book spec.next prefix.cut prefix.here.words frames cut list
+    → IsReached spec book cut list
+reached-from_leads spec book prefix frames cut list f leads = record {
   before = prefix.places.items ++ order_of frames;
-  reaches = leads-reaches init next book prefix.places.items prefix.cut prefix.here.words frames cut
+  reaches = leads-reaches spec book prefix.places.items prefix.cut prefix.here.words frames cut
       list (omega (arith, f.stands.wide)) f.stands.reaches leads;
-  legal = λ rest goes. subst (λ (order : List Place). IsLegalOrder init next book order)
+  legal = λ rest goes. subst (λ (order : List Place). IsLegalOrder spec book order)
       (sym (append_assoc prefix.places.items (order_of frames) rest))
       (f.legal (order_of frames ++ rest)
-      (leads-more book next prefix.cut prefix.here.words frames cut list rest leads goes));
+      (leads-more book spec.next prefix.cut prefix.here.words frames cut list rest leads goes));
 }
 
 -- A cut that is raised for a caller for which it has a count counts one call more.
@@ -246,15 +246,14 @@ pub record WalkFacts (book : List Page) (frames : List WalkFrame) (cut list : Li
 
 -- Where frames lead from the end of a prefix to a cut and a list after which a call may come next,
 -- these bounds hold there.
-pub standing : (book : List Page) (prefix : Prefix) (init : List ℕ) (next : List ℕ → ℕ → List ℕ × ℕ)
-    (frames : List WalkFrame) (cut list : List ℕ) (place : Place)
-    → IsPrefix init next book prefix
-    → ((list : List ℕ) (op : ℕ) → length (next list op).0 ≤ length list + 1)
-    → Leads book next prefix.cut prefix.here.words frames cut list
+pub standing : (book : List Page) (prefix : Prefix) (spec : SeqSpec) (frames : List WalkFrame)
+    (cut list : List ℕ) (place : Place) → IsPrefix spec book prefix
+    → ((list : List ℕ) (op : ℕ) → length (spec.next list op).0 ≤ length list + 1)
+    → Leads book spec.next prefix.cut prefix.here.words frames cut list
     → MayComeNext book cut (call_at place) → WalkFacts book frames cut list place
-standing book prefix init next frames cut list place f grows leads may =
+standing book prefix spec frames cut list place f grows leads may =
     let small = f.stands.small in
-    let reach = leads-reach book next prefix.cut prefix.here.words frames cut list grows
+    let reach = leads-reach book spec.next prefix.cut prefix.here.words frames cut list grows
     (omega (arith, f.stands.wide)) f.stands.within leads in
     let wide : length cut ≡ length book = reach.wide ∙ f.stands.wide in
     let there : place.caller < length book =
@@ -276,32 +275,30 @@ standing book prefix init next frames cut list place f grows leads may =
     }
 
 -- A cut to which frames lead from the end of a prefix has one count for each caller.
-pub leads-wide : (book : List Page) (prefix : Prefix) (init : List ℕ)
-    (next : List ℕ → ℕ → List ℕ × ℕ) (frames : List WalkFrame) (cut list : List ℕ)
-    → IsPrefix init next book prefix
-    → ((list : List ℕ) (op : ℕ) → length (next list op).0 ≤ length list + 1)
-    → Leads book next prefix.cut prefix.here.words frames cut list → length cut ≡ length book
-leads-wide book prefix init next frames cut list f grows leads =
-    (leads-reach book next prefix.cut prefix.here.words frames cut list grows
+pub leads-wide : (book : List Page) (prefix : Prefix) (spec : SeqSpec) (frames : List WalkFrame)
+    (cut list : List ℕ) → IsPrefix spec book prefix
+    → ((list : List ℕ) (op : ℕ) → length (spec.next list op).0 ≤ length list + 1)
+    → Leads book spec.next prefix.cut prefix.here.words frames cut list → length cut ≡ length book
+leads-wide book prefix spec frames cut list f grows leads =
+    (leads-reach book spec.next prefix.cut prefix.here.words frames cut list grows
     (omega (arith, f.stands.wide)) f.stands.within leads).wide ∙ f.stands.wide
 
 -- Where frames lead from the end of a prefix to a cut with all answered calls, the places of the
 -- prefix and then of the frames are a legal order.
-pub legal-from_leads : (book : List Page) (prefix : Prefix) (init : List ℕ)
-    (next : List ℕ → ℕ → List ℕ × ℕ) (frames : List WalkFrame) (cut list : List ℕ)
-    → IsPrefix init next book prefix
-    → Leads book next prefix.cut prefix.here.words frames cut list → HoldsAnswered book cut
-    → IsLegalOrder init next book (prefix.places.items ++ order_of frames)
-legal-from_leads book prefix init next frames cut list f leads all =
+pub legal-from_leads : (book : List Page) (prefix : Prefix) (spec : SeqSpec)
+    (frames : List WalkFrame) (cut list : List ℕ) → IsPrefix spec book prefix
+    → Leads book spec.next prefix.cut prefix.here.words frames cut list → HoldsAnswered book cut
+    → IsLegalOrder spec book (prefix.places.items ++ order_of frames)
+legal-from_leads book prefix spec frames cut list f leads all =
     f.legal (order_of frames)
-    (leads-continues book next prefix.cut prefix.here.words frames cut list leads all)
+    (leads-continues book spec.next prefix.cut prefix.here.words frames cut list leads all)
 
 -- Where the cut without calls and the first list are a dead end, the book has no legal order.
-pub none-from_dead : (book : List Page) (init : List ℕ) (next : List ℕ → ℕ → List ℕ × ℕ)
-    → IsDeadEnd book next (no_calls book) init → HasLegalOrder init next book → ⊥
-none-from_dead book init next dead legal =
+pub none-from_dead : (book : List Page) (spec : SeqSpec)
+    → IsDeadEnd book spec.next (no_calls book) spec.init → HasLegalOrder spec book → ⊥
+none-from_dead book spec dead legal =
     let long : length (no_calls book) ≡ length book = length-replicate (length book) 0 in
-    dead legal.0 (continues_from_legal_order book init next (no_calls book) legal.0 (omega arith)
+    dead legal.0 (continues_from_legal_order book spec (no_calls book) legal.0 (omega arith)
     (zeros book) legal.1)
 
 -- A raised cut with the old count set again is the cut from before.
@@ -311,12 +308,12 @@ lowered cut i n e =
 
 -- Where a search that finds no places says that the cut without calls and the first list are a dead
 -- end, it says that the book has no legal order.
-pub none-found : {X E : Type 0} (book : List Page) (init : List ℕ) (next : List ℕ → ℕ → List ℕ × ℕ)
-    (cut list : List ℕ) (result : Result (Option X) E) → cut ≡ no_calls book → list ≡ init
-    → IfOk result (λ found. IfNone found (IsDeadEnd book next cut list))
-    → IfOk result (λ found. IfNone found (HasLegalOrder init next book → ⊥))
-none-found book init next cut list (Ok None) same_cut same_list dead =
-    none-from_dead book init next (subst (λ (c : List ℕ). IsDeadEnd book next c init) same_cut
-    (subst (λ (l : List ℕ). IsDeadEnd book next cut l) same_list dead))
-none-found book init next cut list (Ok (Some found)) same_cut same_list dead = tt
-none-found book init next cut list (Err e) same_cut same_list dead = tt
+pub none-found : {X E : Type 0} (book : List Page) (spec : SeqSpec) (cut list : List ℕ)
+    (result : Result (Option X) E) → cut ≡ no_calls book → list ≡ spec.init
+    → IfOk result (λ found. IfNone found (IsDeadEnd book spec.next cut list))
+    → IfOk result (λ found. IfNone found (HasLegalOrder spec book → ⊥))
+none-found book spec cut list (Ok None) same_cut same_list dead =
+    none-from_dead book spec (subst (λ (c : List ℕ). IsDeadEnd book spec.next c spec.init) same_cut
+    (subst (λ (l : List ℕ). IsDeadEnd book spec.next cut l) same_list dead))
+none-found book spec cut list (Ok (Some found)) same_cut same_list dead = tt
+none-found book spec cut list (Err e) same_cut same_list dead = tt

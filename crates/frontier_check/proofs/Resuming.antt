@@ -9,6 +9,7 @@ use Rattle.std.proofs.lemmas.Option.{same_Some, slice_get_within, slice_get-get_
 use Rattle.book_base.specs.declared.call.Call.{Call}
 use Rattle.book_base.specs.declared.call.Place.{Place}
 use Rattle.book_base.specs.declared.call.Record.{Record}
+use Rattle.book_base.specs.SeqSpec.{SeqSpec}
 use Rattle.book_base.specs.Book.{Page, page_of, calls_of, answered, record_of, operation_of, IsCall, IsValid, IsSmall}
 use Rattle.book_base.specs.Order.{call_at, step_at}
 use Rattle.book_base.specs.PruningRules.{list_after_run, Reaches}
@@ -153,25 +154,27 @@ module _ (a b : List Page) (next : List ℕ → ℕ → List ℕ × ℕ) (grown 
 
 -- A prefix that is put in a book is put in a valid and small one that has grown from it, where no
 -- call of its cut was answered since; and so is a prefix with equal places, cut and list.
-put_stays : (init : List ℕ) (next : List ℕ → ℕ → List ℕ × ℕ) (a b : List Page) (old new : Prefix)
-    → HasGrown a b → NoneAnswered a b old.cut → IsValid b → IsSmall b → IsPut init next a old
-    → new.places.items ≡ old.places.items → new.cut ≡ old.cut → new.here.words ≡ old.here.words
-    → IsPut init next b new
-put_stays init next a b old new grown none valid small put places cut list =
+put_stays : (spec : SeqSpec) (a b : List Page) (old new : Prefix) → HasGrown a b
+    → NoneAnswered a b old.cut → IsValid b → IsSmall b → IsPut spec a old → new.places.items
+    ≡ old.places.items → new.cut ≡ old.cut → new.here.words ≡ old.here.words → IsPut spec b new
+put_stays spec a b old new grown none valid small put places cut list =
     let s = put.stands in
-    let steps = steps_stay a b next grown old.cut none
-    (no_calls a) init old.places.items old.here.words put.follow in
+    let steps = steps_stay a b spec.next grown old.cut none
+    (no_calls a) spec.init old.places.items old.here.words put.follow in
     let long : length (no_calls a) ≡ length a = length-replicate (length a) 0 in
-    let follow : Follow b next (no_calls b) init old.places.items old.cut old.here.words =
-    subst (λ (n : ℕ). Follow b next (replicate n 0) init old.places.items old.cut old.here.words)
+    let follow : Follow b spec.next (no_calls b) spec.init old.places.items old.cut old.here.words =
+    subst (λ (n : ℕ).
+    Follow b spec.next (replicate n 0) spec.init old.places.items old.cut old.here.words)
     (sym grown.callers)
-    (follow_stays a b next grown old.cut none (no_calls a) init old.places.items old.here.words
+    (follow_stays a b spec.next grown old.cut none
+    (no_calls a) spec.init old.places.items old.here.words
     (omega (arith, long)) put.follow) in
-    let reaches : Reaches init next b old.places.items old.cut old.here.words = record {
+    let reaches : Reaches spec b old.places.items old.cut old.here.words = record {
       holds = s.reaches.holds;
       held = s.reaches.held;
       reached =
-          ap (λ (ss : List (ℕ × ℕ)). list_after_run next init ss) (sym steps) ∙ s.reaches.reached;
+          ap (λ (ss : List (ℕ × ℕ)). list_after_run spec.next spec.init ss) (sym steps)
+          ∙ s.reaches.reached;
     } in
     record {
       stands = record {
@@ -182,26 +185,29 @@ put_stays init next a b old new grown none valid small put places cut list =
             (arith, ap (λ (c : List ℕ). get_or c i 0) cut, s.within i, calls_rise a b grown i);
         words = omega
             (arith, s.words, ap (λ (l : List ℕ). length l) list, ap (λ (c : List ℕ). sum c) cut);
-        reaches = subst (λ (order : List Place). Reaches init next b order new.cut new.here.words)
+        reaches = subst (λ (order : List Place). Reaches spec b order new.cut new.here.words)
             (sym places)
-            (subst (λ (c : List ℕ). Reaches init next b old.places.items c new.here.words) (sym cut)
-            (subst (λ (l : List ℕ). Reaches init next b old.places.items old.cut l)
+            (subst (λ (c : List ℕ). Reaches spec b old.places.items c new.here.words) (sym cut)
+            (subst (λ (l : List ℕ). Reaches spec b old.places.items old.cut l)
             (sym list) reaches));
       };
       follow = subst
-          (λ (order : List Place). Follow b next (no_calls b) init order new.cut new.here.words)
+          (λ (order : List Place).
+          Follow b spec.next (no_calls b) spec.init order new.cut new.here.words)
           (sym places)
-          (subst (λ (c : List ℕ). Follow b next (no_calls b) init old.places.items c new.here.words)
+          (subst (λ (c : List ℕ).
+          Follow b spec.next (no_calls b) spec.init old.places.items c new.here.words)
           (sym cut)
-          (subst (λ (l : List ℕ). Follow b next (no_calls b) init old.places.items old.cut l)
+          (subst
+          (λ (l : List ℕ). Follow b spec.next (no_calls b) spec.init old.places.items old.cut l)
           (sym list) follow));
     }
 
 -- ---- marks
 
-module _ (init : List ℕ) (next : List ℕ → ℕ → List ℕ × ℕ) where
+module _ (spec : SeqSpec) where
   mark_stays : (a b : List Page) (order : List Place) (m : OrderMark) → HasGrown a b
-      → IsMark init next a order m → IsMark init next b order m
+      → IsMark spec a order m → IsMark spec b order m
   mark_stays a b order m grown is = record {
     earlier = is.earlier;
     grown = grown_on is.earlier a b is.grown grown;
@@ -216,8 +222,8 @@ module _ (init : List ℕ) (next : List ℕ → ℕ → List ℕ × ℕ) where
   }
 
   mark_of : (book : List Page) (order other rest : List Place) (m : OrderMark)
-      (is : IsMark init next book order m) → other ≡ is.prefix.places.items ++ rest
-      → IsMark init next book other m
+      (is : IsMark spec book order m) → other ≡ is.prefix.places.items ++ rest
+      → IsMark spec book other m
   mark_of book order other rest m is begins = record {
     earlier = is.earlier;
     grown = is.grown;
@@ -232,14 +238,14 @@ module _ (init : List ℕ) (next : List ℕ → ℕ → List ℕ × ℕ) where
   }
 
   mark_longer : (book : List Page) (order more : List Place) (m : OrderMark)
-      → IsMark init next book order m → IsMark init next book (order ++ more) m
+      → IsMark spec book order m → IsMark spec book (order ++ more) m
   mark_longer book order more m is =
       mark_of book order (order ++ more) (is.rest ++ more) m is
       (ap (λ (o : List Place). o ++ more) is.begins
       ∙ append_assoc is.prefix.places.items is.rest more)
 
   mark_shorter : (book : List Page) (order : List Place) (n : ℕ) (m : OrderMark) → m.len ≤ n
-      → IsMark init next book order m → IsMark init next book (take n order) m
+      → IsMark spec book order m → IsMark spec book (take n order) m
   mark_shorter book order n m low is =
       let first = is.prefix.places.items in
       let len = length first in
@@ -251,7 +257,7 @@ module _ (init : List ℕ) (next : List ℕ → ℕ → List ℕ × ℕ) where
       (sym (take-append-drop len (take n order))
       ∙ ap (λ (o : List Place). o ++ drop len (take n order)) same)
 
-  mark_low : (book : List Page) (order : List Place) (m : OrderMark) → IsMark init next book order m
+  mark_low : (book : List Page) (order : List Place) (m : OrderMark) → IsMark spec book order m
       → m.len ≤ length order
   mark_low book order m is = omega (
     arith,
@@ -260,8 +266,7 @@ module _ (init : List ℕ) (next : List ℕ → ℕ → List ℕ × ℕ) where
     length-append is.prefix.places.items is.rest,
   )
 
-  mark_wide : (book : List Page) (order : List Place) (m : OrderMark)
-      → IsMark init next book order m
+  mark_wide : (book : List Page) (order : List Place) (m : OrderMark) → IsMark spec book order m
       → IsAsWide book m
   mark_wide book order m is = (
     ap (λ (c : List ℕ). length c) (sym is.cut) ∙ (is.put.stands.wide ∙ sym is.grown.callers),
@@ -269,18 +274,17 @@ module _ (init : List ℕ) (next : List ℕ → ℕ → List ℕ × ℕ) where
         ∙ (length-map is.earlier (λ (p : Page). length p.records) ∙ sym is.grown.callers),
   )
 
-  mark_fits : (book : List Page) (order : List Place) (m : OrderMark)
-      → IsMark init next book order m
+  mark_fits : (book : List Page) (order : List Place) (m : OrderMark) → IsMark spec book order m
       → length m.words.items ≤ CAPACITY
   mark_fits book order m is = omega (
     arith,
     ap (λ (l : List ℕ). length l) is.words,
-    stands-fit init next is.earlier is.prefix is.put.stands,
+    stands-fit spec is.earlier is.prefix is.put.stands,
   )
 
   -- a mark at the end of a prefix that is put is a mark of its places
-  mark_here : (book : List Page) (prefix : Prefix) (m : OrderMark) → IsPut init next book prefix
-      → IsMarkAtEnd prefix (answered book) m → IsMark init next book prefix.places.items m
+  mark_here : (book : List Page) (prefix : Prefix) (m : OrderMark) → IsPut spec book prefix
+      → IsMarkAtEnd prefix (answered book) m → IsMark spec book prefix.places.items m
   mark_here book prefix m put e = record {
     earlier = book;
     grown = grown_here book;
@@ -295,56 +299,53 @@ module _ (init : List ℕ) (next : List ℕ → ℕ → List ℕ × ℕ) where
   }
 
   pub marks_stay : (a b : List Page) (order : List Place) (least : ℕ) (ms : List OrderMark)
-      → HasGrown a b → AreMarks init next a order least ms → AreMarks init next b order least ms
+      → HasGrown a b → AreMarks spec a order least ms → AreMarks spec b order least ms
   marks_stay a b order least [] grown h = tt
   marks_stay a b order least (m ∷ ms) grown (low, is, later) =
       (low, mark_stays a b order m grown is, marks_stay a b order m.len ms grown later)
 
   -- The marks of a kept order stay marks of it in a book that has grown.
-  pub standing_stays : (a b : List Page) (s : KeptOrder) → HasGrown a b
-      → IsStandingFor init next a s
-      → IsStandingFor init next b s
+  pub standing_stays : (a b : List Page) (s : KeptOrder) → HasGrown a b → IsStandingFor spec a s
+      → IsStandingFor spec b s
   standing_stays a b s grown h = marks_stay a b s.order.items 0 s.marks.items grown h
 
   -- The marks of an order are marks of a longer order that begins with it.
   pub marks_longer : (book : List Page) (order more : List Place) (least : ℕ) (ms : List OrderMark)
-      → AreMarks init next book order least ms → AreMarks init next book (order ++ more) least ms
+      → AreMarks spec book order least ms → AreMarks spec book (order ++ more) least ms
   marks_longer book order more least [] h = tt
   marks_longer book order more least (m ∷ ms) (low, is, later) =
       (low, mark_longer book order more m is, marks_longer book order more m.len ms later)
 
   marks_more : (book : List Page) (order : List Place) (least : ℕ) (ms : List OrderMark)
-      (m : OrderMark)
-      → IsMark init next book order m → m.len ≡ length order → least ≤ length order
-      → AreMarks init next book order least ms → AreMarks init next book order least (ms ++ m ∷ [])
+      (m : OrderMark) → IsMark spec book order m → m.len ≡ length order → least ≤ length order
+      → AreMarks spec book order least ms → AreMarks spec book order least (ms ++ m ∷ [])
   marks_more book order least [] m is here low h = (omega (arith, here, low), is, tt)
   marks_more book order least (x ∷ ms) m is here low (le, first, later) =
       (le, first, marks_more book order x.len ms m is here (mark_low book order x first) later)
 
   -- The marks of a prefix that is put, and then one at its end, are marks of its places.
   pub marks_push : (book : List Page) (prefix : Prefix) (ms : List OrderMark) (m : OrderMark)
-      → IsPut init next book prefix → IsMarkAtEnd prefix (answered book) m
-      → AreMarks init next book prefix.places.items 0 ms
-      → AreMarks init next book prefix.places.items 0 (ms ++ m ∷ [])
+      → IsPut spec book prefix → IsMarkAtEnd prefix (answered book) m
+      → AreMarks spec book prefix.places.items 0 ms
+      → AreMarks spec book prefix.places.items 0 (ms ++ m ∷ [])
   marks_push book prefix ms m put e h = marks_more book prefix.places.items 0 ms m
       (mark_here book prefix m put e) e.len (omega arith) h
 
   marks_at : (book : List Page) (order : List Place) (least : ℕ) (ms : List OrderMark) (k : ℕ)
-      (m : OrderMark)
-      → k < length ms → m ≡ get_or ms k m → AreMarks init next book order least ms
-      → (least ≤ m.len) × IsMark init next book order m
+      (m : OrderMark) → k < length ms → m ≡ get_or ms k m → AreMarks spec book order least ms
+      → (least ≤ m.len) × IsMark spec book order m
   marks_at book order least [] k m low is h = absurd (omega (arith, low))
   marks_at book order least (x ∷ ms) zero m low is (le, first, later) = (
     omega (arith, le, ap (λ (y : OrderMark). y.len) is),
-    subst (λ (y : OrderMark). IsMark init next book order y) (sym is) first,
+    subst (λ (y : OrderMark). IsMark spec book order y) (sym is) first,
   )
   marks_at book order least (x ∷ ms) (suc k) m low is (le, first, later) =
       let found = marks_at book order x.len ms k m (omega (arith, low)) is later in
       (omega (arith, le, found.0), found.1)
 
   marks_cut : (book : List Page) (order : List Place) (least : ℕ) (ms : List OrderMark) (k : ℕ)
-      (m : OrderMark) → k < length ms → m ≡ get_or ms k m → AreMarks init next book order least ms
-      → AreMarks init next book (take m.len order) least (take (suc k) ms)
+      (m : OrderMark) → k < length ms → m ≡ get_or ms k m → AreMarks spec book order least ms
+      → AreMarks spec book (take m.len order) least (take (suc k) ms)
   marks_cut book order least [] k m low is h = absurd (omega (arith, low))
   marks_cut book order least (x ∷ ms) zero m low is (le, first, later) = (
     le,
@@ -361,40 +362,35 @@ module _ (init : List ℕ) (next : List ℕ → ℕ → List ℕ × ℕ) where
   -- The cut and the numbers of records of each mark of an order have one count for each caller of
   -- the book.
   pub marks_wide : (book : List Page) (order : List Place) (ms : List OrderMark)
-      → AreMarks init next book order 0 ms → (k : ℕ) (m : OrderMark) → k < length ms
-      → m ≡ get_or ms k m
+      → AreMarks spec book order 0 ms → (k : ℕ) (m : OrderMark) → k < length ms → m ≡ get_or ms k m
       → IsAsWide book m
   marks_wide book order ms h k m low is =
       mark_wide book order m (marks_at book order 0 ms k m low is h).1
 
   -- Each mark of an order counts no more places than the order has, and its words fit the capacity.
   pub marks_fit : (book : List Page) (order : List Place) (ms : List OrderMark)
-      → AreMarks init next book order 0 ms → (k : ℕ) (m : OrderMark) → k < length ms
-      → m ≡ get_or ms k m
+      → AreMarks spec book order 0 ms → (k : ℕ) (m : OrderMark) → k < length ms → m ≡ get_or ms k m
       → (m.len ≤ length order) × (length m.words.items ≤ CAPACITY)
   marks_fit book order ms h k m low is =
       let found = (marks_at book order 0 ms k m low is h).1 in
       (mark_low book order m found, mark_fits book order m found)
 
   -- The marks up to one of them, and that one with them, are marks of the places before it.
-  pub marks_taken : (book : List Page) (order places : List Place)
-      (ms some : List OrderMark) (k : ℕ)
-      (m : OrderMark) → k < length ms → m ≡ get_or ms k m → AreMarks init next book order 0 ms
-      → places ≡ take m.len order → some ≡ take (k + 1) ms → AreMarks init next book places 0 some
+  pub marks_taken : (book : List Page) (order places : List Place) (ms some : List OrderMark)
+      (k : ℕ) (m : OrderMark) → k < length ms → m ≡ get_or ms k m → AreMarks spec book order 0 ms
+      → places ≡ take m.len order → some ≡ take (k + 1) ms → AreMarks spec book places 0 some
   marks_taken book order places ms some k m low is h prefix fewer =
       let on : k + 1 ≡ suc k = omega arith in
-      subst (λ (ps : List Place). AreMarks init next book ps 0 some) (sym prefix)
-      (subst (λ (xs : List OrderMark). AreMarks init next book (take m.len order) 0 xs)
+      subst (λ (ps : List Place). AreMarks spec book ps 0 some) (sym prefix)
+      (subst (λ (xs : List OrderMark). AreMarks spec book (take m.len order) 0 xs)
       (sym (fewer ∙ ap (λ (n : ℕ). take n ms) on)) (marks_cut book order 0 ms k m low is h))
 
   -- A prefix is put where its places are those before a mark which may still begin an order of the
   -- book, and its cut and its list are those of the mark.
   pub mark_resumed : (book : List Page) (order : List Place) (ms : List OrderMark) (k : ℕ)
-      (m : OrderMark)
-      (new : Prefix) → IsValid book → IsSmall book → k < length ms → m ≡ get_or ms k m
-      → AreMarks init next book order 0 ms → StillStands book m
-      → new.places.items ≡ take m.len order → new.cut ≡ m.cut → new.here.words ≡ m.words.items
-      → IsPut init next book new
+      (m : OrderMark) (new : Prefix) → IsValid book → IsSmall book → k < length ms
+      → m ≡ get_or ms k m → AreMarks spec book order 0 ms → StillStands book m → new.places.items
+      ≡ take m.len order → new.cut ≡ m.cut → new.here.words ≡ m.words.items → IsPut spec book new
   mark_resumed book order ms k m new valid small low at h stands places cut words =
       let is = (marks_at book order 0 ms k m low at h).1 in
       let first = is.prefix.places.items in
@@ -403,21 +399,20 @@ module _ (init : List ℕ) (next : List ℕ → ℕ → List ℕ × ℕ) where
       let taken : take m.len order ≡ first =
       (λ i. take (is.len i) (is.begins i)) ∙ (take-append-le (length first) first is.rest
       (omega arith) ∙ take_all (length first) first (omega arith)) in
-      put_stays init next is.earlier book is.prefix new is.grown
+      put_stays spec is.earlier book is.prefix new is.grown
       (none_answered is.earlier book is.prefix.cut m.answered is.grown is.records quiet) valid
       small is.put
       (places ∙ taken) (cut ∙ sym is.cut) (words ∙ sym is.words)
 
   marks_lower : (book : List Page) (order : List Place) (least most : ℕ) (ms : List OrderMark)
-      → least
-      ≤ most → AreMarks init next book order most ms → AreMarks init next book order least ms
+      → least ≤ most → AreMarks spec book order most ms → AreMarks spec book order least ms
   marks_lower book order least most [] low h = tt
   marks_lower book order least most (m ∷ ms) low (le, is, later) =
       (omega (arith, low, le), is, later)
 
   -- the marks of an order without one of them are marks of it
   marks_removed : (book : List Page) (order : List Place) (least : ℕ) (ms : List OrderMark) (k : ℕ)
-      → AreMarks init next book order least ms → AreMarks init next book order least (remove ms k)
+      → AreMarks spec book order least ms → AreMarks spec book order least (remove ms k)
   marks_removed book order least [] zero h = tt
   marks_removed book order least [] (suc k) h = tt
   marks_removed book order least (m ∷ ms) zero (le, is, later) =
@@ -427,7 +422,7 @@ module _ (init : List ℕ) (next : List ℕ → ℕ → List ℕ × ℕ) where
 
   -- The first marks of an order, this many, are marks of it.
   pub marks_fewer : (book : List Page) (order : List Place) (least n : ℕ) (ms : List OrderMark)
-      → AreMarks init next book order least ms → AreMarks init next book order least (take n ms)
+      → AreMarks spec book order least ms → AreMarks spec book order least (take n ms)
   marks_fewer book order least zero ms h = tt
   marks_fewer book order least (suc n) [] h = tt
   marks_fewer book order least (suc n) (m ∷ ms) (le, is, later) =
@@ -436,27 +431,27 @@ module _ (init : List ℕ) (next : List ℕ → ℕ → List ℕ × ℕ) where
   -- Where marks become others at the end of a prefix that is put, and the old ones are marks of its
   -- places but the last, the new ones are marks of its places.
   pub marks_put : (book : List Page) (prefix : Prefix) (before : List Place) (place : Place)
-      (records : List ℕ) (marks more : List OrderMark) → IsPut init next book prefix
+      (records : List ℕ) (marks more : List OrderMark) → IsPut spec book prefix
       → records ≡ answered book
       → prefix.places.items ≡ before ++ place ∷ [] → AddsMarks prefix records marks more
-      → AreMarks init next book before 0 marks → AreMarks init next book prefix.places.items 0 more
+      → AreMarks spec book before 0 marks → AreMarks spec book prefix.places.items 0 more
   marks_put book prefix before place records marks more put same longer keeps h =
-      keeps init next book put same (subst (λ (ps : List Place). AreMarks init next book ps 0 marks)
+      keeps spec book put same (subst (λ (ps : List Place). AreMarks spec book ps 0 marks)
       (sym longer) (marks_longer book before (place ∷ []) 0 marks h))
 
 -- ---- marks that become others at the end of a prefix
 
 pub keeps_same : (prefix : Prefix) (records : List ℕ) (marks more : List OrderMark) → more ≡ marks
     → AddsMarks prefix records marks more
-keeps_same prefix records marks more same init next book put known h =
-    subst (λ (ms : List OrderMark). AreMarks init next book prefix.places.items 0 ms) (sym same) h
+keeps_same prefix records marks more same spec book put known h =
+    subst (λ (ms : List OrderMark). AreMarks spec book prefix.places.items 0 ms) (sym same) h
 
 -- The marks of a prefix, with one more at its end, are marks of it.
 pub keeps_one : (prefix : Prefix) (records : List ℕ) (marks more : List OrderMark) (m : OrderMark)
     → IsMarkAtEnd prefix records m → more ≡ marks ++ m ∷ [] → AddsMarks prefix records marks more
-keeps_one prefix records marks more m ends longer init next book put known h =
-    subst (λ (ms : List OrderMark). AreMarks init next book prefix.places.items 0 ms) (sym longer)
-    (marks_push init next book prefix marks m put
+keeps_one prefix records marks more m ends longer spec book put known h =
+    subst (λ (ms : List OrderMark). AreMarks spec book prefix.places.items 0 ms) (sym longer)
+    (marks_push spec book prefix marks m put
     (subst (λ (c : List ℕ). IsMarkAtEnd prefix c m) known ends) h)
 
 -- Where the marks of a prefix become other marks of it, they may become those others without one of
@@ -464,6 +459,6 @@ keeps_one prefix records marks more m ends longer init next book put known h =
 pub keeps_removed : (prefix : Prefix) (records : List ℕ) (marks more fewer : List OrderMark) (k : ℕ)
     → AddsMarks prefix records marks more → fewer ≡ remove more k
     → AddsMarks prefix records marks fewer
-keeps_removed prefix records marks more fewer k keeps one init next book put known h =
-    subst (λ (ms : List OrderMark). AreMarks init next book prefix.places.items 0 ms) (sym one)
-    (marks_removed init next book prefix.places.items 0 more k (keeps init next book put known h))
+keeps_removed prefix records marks more fewer k keeps one spec book put known h =
+    subst (λ (ms : List OrderMark). AreMarks spec book prefix.places.items 0 ms) (sym one)
+    (marks_removed spec book prefix.places.items 0 more k (keeps spec book put known h))

@@ -5,6 +5,7 @@ use Rattle.std.proofs.lemmas.Option.{same_Some}
 use Rattle.book_base.specs.declared.call.Place.{Place}
 use Rattle.book_base.specs.declared.call.Record.{Record}
 use Rattle.book_base.specs.declared.TheConstants.{MAX_CALLS}
+use Rattle.book_base.specs.SeqSpec.{SeqSpec}
 use Rattle.book_base.specs.Book.{Page}
 use Rattle.book_base.specs.Order.{IsLegalOrder}
 use Rattle.book_base.specs.Next.{next_call, raised, list_after, HoldsAnswered, MayComeNext}
@@ -46,30 +47,33 @@ same_open book next cut new_cut list new_list places new_places e f k h =
 
 -- A walk whose last choice is taken off has its place and the other choices to try, with as much
 -- weight as before.
-pub walk-choose : (book : List Page) (prefix : Prefix) (init : List ℕ)
-    (next : List ℕ → ℕ → List ℕ × ℕ) (old new : Walk) (choice : Choice)
-    → IsWalk book prefix init next old (places_of old.choices.items)
-    → old.choices.items ≡ new.choices.items ++ choice ∷ []
-    → new.frames ≡ old.frames → new.counts ≡ old.counts → new.here ≡ old.here → new.memo ≡ old.memo
-    → IsWalk book prefix init next new (choice.place ∷ places_of new.choices.items)
+pub walk-choose : (book : List Page) (prefix : Prefix) (spec : SeqSpec) (old new : Walk)
+    (choice : Choice) → IsWalk book prefix spec old (places_of old.choices.items)
+    → old.choices.items ≡ new.choices.items ++ choice ∷ [] → new.frames ≡ old.frames
+    → new.counts ≡ old.counts → new.here ≡ old.here → new.memo ≡ old.memo
+    → IsWalk book prefix spec new (choice.place ∷ places_of new.choices.items)
     × (weigh CAPACITY new.frames.items (length new.choices.items + 1) ≡ weight old)
-walk-choose book prefix init next old new choice h choices frames counts here memo =
-    let more : IsOpen book next old.counts.items old.here.words
+walk-choose book prefix spec old new choice h choices frames counts here memo =
+    let more : IsOpen book spec.next old.counts.items old.here.words
     (places_of (new.choices.items ++ choice ∷ [])) =
-    subst (λ (cs : List Choice). IsOpen book next old.counts.items old.here.words (places_of cs))
+    subst
+    (λ (cs : List Choice). IsOpen book spec.next old.counts.items old.here.words (places_of cs))
     choices h.here in
     let long : length new.choices.items + 1 ≡ length old.choices.items =
     sym (ap (λ (cs : List Choice). length cs) choices ∙ length_push new.choices.items choice) in (
       record {
         begins = h.begins;
-        leads = same_leads book next prefix.cut prefix.here.words old.frames.items new.frames.items
+        leads =
+            same_leads book spec.next prefix.cut prefix.here.words old.frames.items new.frames.items
             old.counts.items new.counts.items old.here.words new.here.words
             (ap (λ v. v.items) frames) (ap (λ v. v.items) counts) (ap (λ s. s.words) here) h.leads;
-        here = same_open book next old.counts.items new.counts.items old.here.words new.here.words
+        here =
+            same_open book spec.next old.counts.items new.counts.items old.here.words new.here.words
             (choice.place ∷ places_of new.choices.items)
             (choice.place ∷ places_of new.choices.items)
             (ap (λ v. v.items) counts) (ap (λ s. s.words) here) refl
-            (open-last book next old.counts.items old.here.words new.choices.items choice more);
+            (open-last book spec.next old.counts.items old.here.words new.choices.items
+            choice more);
         dead = λ cut list there. h.dead cut list (subst (λ m. Remembers m cut list) memo there);
         memo = subst (λ m. IsMemo m) (sym memo) h.memo;
         callers = ap (λ m. m.callers) memo ∙ h.callers;
@@ -80,26 +84,24 @@ walk-choose book prefix init next old new choice h choices frames counts here me
     )
 
 -- A walk with nothing left to try stays right once its memo remembers its cut and its list as well.
-pub walk-remember : (book : List Page) (prefix : Prefix) (init : List ℕ)
-    (next : List ℕ → ℕ → List ℕ × ℕ) (old new : Walk)
-    → IsWalk book prefix init next old [] → new.frames ≡ old.frames → new.counts ≡ old.counts
+pub walk-remember : (book : List Page) (prefix : Prefix) (spec : SeqSpec) (old new : Walk)
+    → IsWalk book prefix spec old [] → new.frames ≡ old.frames → new.counts ≡ old.counts
     → new.here ≡ old.here → IsMemo new.memo → new.memo.callers ≡ old.memo.callers
     → ((cut list : List ℕ) → Remembers new.memo cut list → Remembers old.memo cut list
-    ⊎ ((cut ≡ old.counts.items) × (list ≡ old.here.words)))
-    → IsWalk book prefix init next new []
-walk-remember book prefix init next old new h frames counts here memo callers only = record {
+    ⊎ ((cut ≡ old.counts.items) × (list ≡ old.here.words))) → IsWalk book prefix spec new []
+walk-remember book prefix spec old new h frames counts here memo callers only = record {
   begins = h.begins;
-  leads = same_leads book next prefix.cut prefix.here.words old.frames.items new.frames.items
+  leads = same_leads book spec.next prefix.cut prefix.here.words old.frames.items new.frames.items
       old.counts.items new.counts.items old.here.words new.here.words
       (ap (λ v. v.items) frames) (ap (λ v. v.items) counts) (ap (λ s. s.words) here) h.leads;
-  here = same_open book next old.counts.items new.counts.items old.here.words
+  here = same_open book spec.next old.counts.items new.counts.items old.here.words
       new.here.words [] [] (ap (λ v. v.items) counts) (ap (λ s. s.words) here) refl h.here;
   dead = λ (cut list : List ℕ) there. elim (only cut list there) [
     | inl before ↦ h.dead cut list before
     | inr now ↦
-        subst (λ (c : List ℕ). IsDeadEnd book next c list) (sym now.0)
-        (subst (λ (l : List ℕ). IsDeadEnd book next old.counts.items l) (sym now.1)
-        (dead_end book next old.counts.items old.here.words h.here))
+        subst (λ (c : List ℕ). IsDeadEnd book spec.next c list) (sym now.0)
+        (subst (λ (l : List ℕ). IsDeadEnd book spec.next old.counts.items l) (sym now.1)
+        (dead_end book spec.next old.counts.items old.here.words h.here))
   ];
   memo = memo;
   callers = callers ∙ h.callers;
@@ -107,29 +109,31 @@ walk-remember book prefix init next old new h frames counts here memo callers on
 }
 
 -- A walk goes without a place that leads to a remembered dead end, and weighs less then.
-pub walk-skip : (book : List Page) (prefix : Prefix) (init : List ℕ)
-    (next : List ℕ → ℕ → List ℕ × ℕ) (old new : Walk) (place : Place)
-    → IsWalk book prefix init next old (place ∷ places_of old.choices.items) → Remembers old.memo
-    (raised old.counts.items place.caller) (list_after book next old.here.words place)
-    → new.frames ≡ old.frames → new.counts.items ≡ old.counts.items → new.here ≡ old.here
-    → new.choices ≡ old.choices → new.memo ≡ old.memo
-    → IsWalk book prefix init next new (places_of new.choices.items)
+pub walk-skip : (book : List Page) (prefix : Prefix) (spec : SeqSpec) (old new : Walk)
+    (place : Place) → IsWalk book prefix spec old (place ∷ places_of old.choices.items)
+    → Remembers old.memo (raised old.counts.items place.caller)
+    (list_after book spec.next old.here.words place) → new.frames ≡ old.frames
+    → new.counts.items ≡ old.counts.items → new.here ≡ old.here → new.choices ≡ old.choices
+    → new.memo ≡ old.memo → IsWalk book prefix spec new (places_of new.choices.items)
     × (weight new < weigh CAPACITY old.frames.items (length old.choices.items + 1))
-walk-skip book prefix init next old new place h there frames counts here choices memo =
+walk-skip book prefix spec old new place h there frames counts here choices memo =
     let dead = h.dead (raised old.counts.items place.caller)
-    (list_after book next old.here.words place) there in
+    (list_after book spec.next old.here.words place) there in
     let same : weight new ≡ weigh CAPACITY old.frames.items (length old.choices.items) =
     ap (λ v. weigh CAPACITY v.items (length new.choices.items)) frames
     ∙ ap (λ v. weigh CAPACITY old.frames.items (length v.items)) choices in (
       record {
         begins = h.begins;
-        leads = same_leads book next prefix.cut prefix.here.words old.frames.items new.frames.items
+        leads =
+            same_leads book spec.next prefix.cut prefix.here.words old.frames.items new.frames.items
             old.counts.items new.counts.items old.here.words new.here.words
             (ap (λ v. v.items) frames) counts (ap (λ s. s.words) here) h.leads;
-        here = same_open book next old.counts.items new.counts.items old.here.words new.here.words
+        here =
+            same_open book spec.next old.counts.items new.counts.items old.here.words new.here.words
             (places_of old.choices.items) (places_of new.choices.items)
             counts (ap (λ s. s.words) here) (ap (λ v. places_of v.items) choices) (open-rest book
-            next old.counts.items old.here.words place (places_of old.choices.items) dead h.here);
+            spec.next old.counts.items old.here.words place
+            (places_of old.choices.items) dead h.here);
         dead = λ cut list at. h.dead cut list (subst (λ m. Remembers m cut list) memo at);
         memo = subst (λ m. IsMemo m) (sym memo) h.memo;
         callers = ap (λ m. m.callers) memo ∙ h.callers;
@@ -150,35 +154,34 @@ pub record IsDeeper (book : List Page) (next : List ℕ → ℕ → List ℕ × 
   pub room : new.here.room ≡ old.here.room
   pub memo : new.memo ≡ old.memo
 
-deeper-leads : (book : List Page) (prefix : Prefix) (init : List ℕ) (next : List ℕ → ℕ → List ℕ × ℕ)
-    (old new : Walk) (frame : WalkFrame)
-    → IsWalk book prefix init next old (frame.place ∷ places_of old.choices.items)
-    → IsDeeper book next old new frame
-    → Leads book next prefix.cut prefix.here.words new.frames.items new.counts.items new.here.words
-deeper-leads book prefix init next old new frame h d =
-    let here : IsOpen book next old.counts.items old.here.words
+deeper-leads : (book : List Page) (prefix : Prefix) (spec : SeqSpec) (old new : Walk)
+    (frame : WalkFrame) → IsWalk book prefix spec old (frame.place ∷ places_of old.choices.items)
+    → IsDeeper book spec.next old new frame → Leads book spec.next prefix.cut prefix.here.words
+    new.frames.items new.counts.items new.here.words
+deeper-leads book prefix spec old new frame h d =
+    let here : IsOpen book spec.next old.counts.items old.here.words
     (frame.place ∷ places_of frame.choices.items) =
-    subst (λ (cs : List Choice). IsOpen book next old.counts.items old.here.words
+    subst (λ (cs : List Choice). IsOpen book spec.next old.counts.items old.here.words
     (frame.place ∷ places_of cs)) (sym d.choices) h.here in
-    same_leads book next prefix.cut prefix.here.words (old.frames.items ++ frame ∷ [])
+    same_leads book spec.next prefix.cut prefix.here.words (old.frames.items ++ frame ∷ [])
     new.frames.items (raised old.counts.items frame.place.caller) new.counts.items
-    (list_after book next old.here.words frame.place) new.here.words d.frames d.counts d.here
-    (leads-push book next prefix.cut prefix.here.words old.frames.items old.counts.items
+    (list_after book spec.next old.here.words frame.place) new.here.words d.frames d.counts d.here
+    (leads-push book spec.next prefix.cut prefix.here.words old.frames.items old.counts.items
     old.here.words frame h.leads d.words here)
 
 -- A walk that is one frame deeper is right, with less weight, where its choices are what is to be
 -- tried and are no more than the callers of the book.
-pub walk-deeper : (book : List Page) (prefix : Prefix) (init : List ℕ)
-    (next : List ℕ → ℕ → List ℕ × ℕ) (old new : Walk) (frame : WalkFrame)
-    → ((list : List ℕ) (op : ℕ) → length (next list op).0 ≤ length list + 1)
-    → IsWalk book prefix init next old (frame.place ∷ places_of old.choices.items)
-    → IsDeeper book next old new frame
-    → IsOpen book next new.counts.items new.here.words (places_of new.choices.items)
+pub walk-deeper : (book : List Page) (prefix : Prefix) (spec : SeqSpec) (old new : Walk)
+    (frame : WalkFrame)
+    → ((list : List ℕ) (op : ℕ) → length (spec.next list op).0 ≤ length list + 1)
+    → IsWalk book prefix spec old (frame.place ∷ places_of old.choices.items)
+    → IsDeeper book spec.next old new frame
+    → IsOpen book spec.next new.counts.items new.here.words (places_of new.choices.items)
     → length new.choices.items ≤ length book
-    → IsWalk book prefix init next new (places_of new.choices.items)
+    → IsWalk book prefix spec new (places_of new.choices.items)
     × (weight new < weigh CAPACITY old.frames.items (length old.choices.items + 1))
-walk-deeper book prefix init next old new frame grows h d here few =
-    let s = standing book prefix init next old.frames.items old.counts.items old.here.words
+walk-deeper book prefix spec old new frame grows h d here few =
+    let s = standing book prefix spec old.frames.items old.counts.items old.here.words
     frame.place h.begins grows h.leads h.here.sound.0.may_come in
     let callers = h.begins.stands.small.callers in
     let same : weight new
@@ -189,7 +192,7 @@ walk-deeper book prefix init next old new frame grows h d here few =
     ap (λ (cs : List Choice). weigh CAPACITY old.frames.items (length cs + 1)) d.choices in (
       record {
         begins = h.begins;
-        leads = deeper-leads book prefix init next old new frame h d;
+        leads = deeper-leads book prefix spec old new frame h d;
         here = here;
         dead = λ cut list at. h.dead cut list (subst (λ m. Remembers m cut list) d.memo at);
         memo = subst (λ m. IsMemo m) (sym d.memo) h.memo;
@@ -206,14 +209,13 @@ walk-deeper book prefix init next old new frame grows h d here few =
 
 -- Where the cut of a walk that is one frame deeper holds all answered calls, the places of the
 -- prefix and then of the frames are a legal order.
-pub walk-found : (book : List Page) (prefix : Prefix) (init : List ℕ)
-    (next : List ℕ → ℕ → List ℕ × ℕ) (old new : Walk) (frame : WalkFrame)
-    → IsWalk book prefix init next old (frame.place ∷ places_of old.choices.items)
-    → IsDeeper book next old new frame → HoldsAnswered book new.counts.items
-    → IsLegalOrder init next book (prefix.places.items ++ order_of new.frames.items)
-walk-found book prefix init next old new frame h d all =
-    legal-from_leads book prefix init next new.frames.items new.counts.items new.here.words h.begins
-    (deeper-leads book prefix init next old new frame h d) all
+pub walk-found : (book : List Page) (prefix : Prefix) (spec : SeqSpec) (old new : Walk)
+    (frame : WalkFrame) → IsWalk book prefix spec old (frame.place ∷ places_of old.choices.items)
+    → IsDeeper book spec.next old new frame → HoldsAnswered book new.counts.items
+    → IsLegalOrder spec book (prefix.places.items ++ order_of new.frames.items)
+walk-found book prefix spec old new frame h d all =
+    legal-from_leads book prefix spec new.frames.items new.counts.items new.here.words h.begins
+    (deeper-leads book prefix spec old new frame h d) all
 
 -- The cut and the list to which a frame with the list and the choices of a walk leads from there:
 -- the ones after the call at its place.
@@ -225,31 +227,30 @@ pub record LeadsTo (book : List Page) (next : List ℕ → ℕ → List ℕ × �
   pub cut_is : cut ≡ raised old.counts.items frame.place.caller
   pub list_is : list ≡ list_after book next old.here.words frame.place
 
-leads-to : (book : List Page) (prefix : Prefix) (init : List ℕ) (next : List ℕ → ℕ → List ℕ × ℕ)
-    (old : Walk) (frame : WalkFrame) (cut list : List ℕ)
-    → IsWalk book prefix init next old (frame.place ∷ places_of old.choices.items)
-    → LeadsTo book next old frame cut list
-    → Leads book next prefix.cut prefix.here.words (old.frames.items ++ frame ∷ []) cut list
-leads-to book prefix init next old frame cut list h to =
-    let here : IsOpen book next old.counts.items old.here.words
+leads-to : (book : List Page) (prefix : Prefix) (spec : SeqSpec) (old : Walk) (frame : WalkFrame)
+    (cut list : List ℕ) → IsWalk book prefix spec old (frame.place ∷ places_of old.choices.items)
+    → LeadsTo book spec.next old frame cut list
+    → Leads book spec.next prefix.cut prefix.here.words (old.frames.items ++ frame ∷ []) cut list
+leads-to book prefix spec old frame cut list h to =
+    let here : IsOpen book spec.next old.counts.items old.here.words
     (frame.place ∷ places_of frame.choices.items) =
-    subst (λ (cs : List Choice). IsOpen book next old.counts.items old.here.words
+    subst (λ (cs : List Choice). IsOpen book spec.next old.counts.items old.here.words
     (frame.place ∷ places_of cs)) (sym to.choices) h.here in
-    same_leads book next prefix.cut prefix.here.words (old.frames.items ++ frame ∷ [])
+    same_leads book spec.next prefix.cut prefix.here.words (old.frames.items ++ frame ∷ [])
     (old.frames.items ++ frame ∷ []) (raised old.counts.items frame.place.caller) cut
-    (list_after book next old.here.words frame.place) list refl to.cut_is to.list_is
-    (leads-push book next prefix.cut prefix.here.words old.frames.items old.counts.items
+    (list_after book spec.next old.here.words frame.place) list refl to.cut_is to.list_is
+    (leads-push book spec.next prefix.cut prefix.here.words old.frames.items old.counts.items
     old.here.words frame h.leads to.words here)
 
 -- Where a frame leads from a walk to a cut after which an answered call is due, one more word fits
 -- the list there.
-pub deeper-fits : (book : List Page) (prefix : Prefix) (init : List ℕ)
-    (next : List ℕ → ℕ → List ℕ × ℕ) (old : Walk) (frame : WalkFrame)
-    (cut list : List ℕ) (first : ℕ)
-    → ((list : List ℕ) (op : ℕ) → length (next list op).0 ≤ length list + 1)
-    → IsWalk book prefix init next old (frame.place ∷ places_of old.choices.items)
-    → LeadsTo book next old frame cut list → IsLeast book cut (length book) first → MayGrow cut list
-deeper-fits book prefix init next old frame cut list first grows h to least =
+pub deeper-fits : (book : List Page) (prefix : Prefix) (spec : SeqSpec) (old : Walk)
+    (frame : WalkFrame) (cut list : List ℕ) (first : ℕ)
+    → ((list : List ℕ) (op : ℕ) → length (spec.next list op).0 ≤ length list + 1)
+    → IsWalk book prefix spec old (frame.place ∷ places_of old.choices.items)
+    → LeadsTo book spec.next old frame cut list → IsLeast book cut (length book) first
+    → MayGrow cut list
+deeper-fits book prefix spec old frame cut list first grows h to least =
     let valid = h.begins.stands.valid in
     let place : Place = record { caller = first; number = get_or cut first 0; reply = 0 } in
     let there = answer_stands book (next_call cut first) least.answered in
@@ -258,44 +259,44 @@ deeper-fits book prefix init next old frame cut list first grows h to least =
     may_come-from_least book cut first first there.0.view valid least
     (λ (r : Record) at. ap (λ (x : Record). x.view) (same_Some r there.0 (sym at ∙ there.1)))
     (omega (arith, own)) in
-    (standing book prefix init next (old.frames.items ++ frame ∷ []) cut list place h.begins grows
-    (leads-to book prefix init next old frame cut list h to) may).fits
+    (standing book prefix spec (old.frames.items ++ frame ∷ []) cut list place h.begins grows
+    (leads-to book prefix spec old frame cut list h to) may).fits
 
 -- Some order reaches the cut and the list to which a frame leads from a walk, and whatever places
 -- continue it from there make a legal order with it.
-pub deeper-reached : (book : List Page) (prefix : Prefix) (init : List ℕ)
-    (next : List ℕ → ℕ → List ℕ × ℕ) (old : Walk) (frame : WalkFrame) (cut list : List ℕ)
-    → IsWalk book prefix init next old (frame.place ∷ places_of old.choices.items)
-    → LeadsTo book next old frame cut list → IsReached init next book cut list
-deeper-reached book prefix init next old frame cut list h to =
-    reached-from_leads init next book prefix (old.frames.items ++ frame ∷ []) cut list h.begins
-    (leads-to book prefix init next old frame cut list h to)
+pub deeper-reached : (book : List Page) (prefix : Prefix) (spec : SeqSpec) (old : Walk)
+    (frame : WalkFrame) (cut list : List ℕ)
+    → IsWalk book prefix spec old (frame.place ∷ places_of old.choices.items)
+    → LeadsTo book spec.next old frame cut list → IsReached spec book cut list
+deeper-reached book prefix spec old frame cut list h to =
+    reached-from_leads spec book prefix (old.frames.items ++ frame ∷ []) cut list h.begins
+    (leads-to book prefix spec old frame cut list h to)
 
 -- A walk that goes back by one frame from a dead end is right, with less weight.
-pub walk-back : (book : List Page) (prefix : Prefix) (init : List ℕ)
-    (next : List ℕ → ℕ → List ℕ × ℕ) (old new : Walk) (frame : WalkFrame)
-    → IsWalk book prefix init next old [] → old.frames.items ≡ new.frames.items ++ frame ∷ []
-    → new.counts.items ≡ set old.counts.items frame.place.caller frame.place.number
+pub walk-back : (book : List Page) (prefix : Prefix) (spec : SeqSpec) (old new : Walk)
+    (frame : WalkFrame) → IsWalk book prefix spec old [] → old.frames.items ≡ new.frames.items
+    ++ frame ∷ [] → new.counts.items ≡ set old.counts.items frame.place.caller frame.place.number
     → new.here.words ≡ frame.words.items → new.here.room ≡ old.here.room
     → new.choices ≡ frame.choices → new.memo ≡ old.memo
-    → IsWalk book prefix init next new (places_of new.choices.items)
+    → IsWalk book prefix spec new (places_of new.choices.items)
     × (weight new < weigh CAPACITY old.frames.items 0)
-walk-back book prefix init next old new frame h frames counts here room choices memo =
-    let back = leads-pop book next prefix.cut prefix.here.words new.frames.items frame
+walk-back book prefix spec old new frame h frames counts here room choices memo =
+    let back = leads-pop book spec.next prefix.cut prefix.here.words new.frames.items frame
     old.counts.items old.here.words
     (subst
-    (λ (ls : List WalkFrame). Leads book next prefix.cut prefix.here.words ls old.counts.items
+    (λ (ls : List WalkFrame). Leads book spec.next prefix.cut prefix.here.words ls old.counts.items
     old.here.words) frames h.leads) in
     let cut : new.counts.items ≡ back.from =
     counts ∙ (ap (λ (c : List ℕ). set c frame.place.caller frame.place.number) back.to_cut_is
     ∙ lowered back.from frame.place.caller frame.place.number back.here.sound.0.may_come.next) in
-    let dead : IsDeadEnd book next (raised back.from frame.place.caller)
-    (list_after book next frame.words.items frame.place) =
+    let dead : IsDeadEnd book spec.next (raised back.from frame.place.caller)
+    (list_after book spec.next frame.words.items frame.place) =
     subst
-    (λ (c : List ℕ). IsDeadEnd book next c (list_after book next frame.words.items frame.place))
+    (λ (c : List ℕ).
+    IsDeadEnd book spec.next c (list_after book spec.next frame.words.items frame.place))
     back.to_cut_is
-    (subst (λ (l : List ℕ). IsDeadEnd book next old.counts.items l) back.to_list_is
-    (dead_end book next old.counts.items old.here.words h.here)) in
+    (subst (λ (l : List ℕ). IsDeadEnd book spec.next old.counts.items l) back.to_list_is
+    (dead_end book spec.next old.counts.items old.here.words h.here)) in
     let same : weight new ≡ weigh CAPACITY new.frames.items (length frame.choices.items) =
     ap (λ v. weigh CAPACITY new.frames.items (length v.items)) choices in
     let old_is : weigh CAPACITY old.frames.items 0
@@ -303,11 +304,13 @@ walk-back book prefix init next old new frame h frames counts here room choices 
     ap (λ (ls : List WalkFrame). weigh CAPACITY ls 0) frames in (
       record {
         begins = h.begins;
-        leads = same_leads book next prefix.cut prefix.here.words new.frames.items new.frames.items
+        leads =
+            same_leads book spec.next prefix.cut prefix.here.words new.frames.items new.frames.items
             back.from new.counts.items frame.words.items new.here.words refl cut here back.leads;
-        here = same_open book next back.from new.counts.items frame.words.items new.here.words
+        here = same_open book spec.next back.from new.counts.items frame.words.items new.here.words
             (places_of frame.choices.items) (places_of new.choices.items) cut here
-            (ap (λ v. places_of v.items) choices) (open-rest book next back.from frame.words.items
+            (ap (λ v. places_of v.items) choices)
+            (open-rest book spec.next back.from frame.words.items
             frame.place (places_of frame.choices.items) dead back.here);
         dead = λ c l at. h.dead c l (subst (λ m. Remembers m c l) memo at);
         memo = subst (λ m. IsMemo m) (sym memo) h.memo;
@@ -324,17 +327,18 @@ pub record LastLevel (old : Walk) (frame : WalkFrame) : Type 0 where
   pub words : length frame.words.items ≤ CAPACITY
 
 -- The bounds hold for the last frame of each walk with nothing left to try.
-pub last_level : (book : List Page) (prefix : Prefix) (init : List ℕ)
-    (next : List ℕ → ℕ → List ℕ × ℕ) (old : Walk) (frames : List WalkFrame) (frame : WalkFrame)
-    → ((list : List ℕ) (op : ℕ) → length (next list op).0 ≤ length list + 1)
-    → IsWalk book prefix init next old [] → old.frames.items
-    ≡ frames ++ frame ∷ [] → LastLevel old frame
-last_level book prefix init next old frames frame grows h is =
+pub last_level : (book : List Page) (prefix : Prefix) (spec : SeqSpec) (old : Walk)
+    (frames : List WalkFrame) (frame : WalkFrame)
+    → ((list : List ℕ) (op : ℕ) → length (spec.next list op).0 ≤ length list + 1)
+    → IsWalk book prefix spec old [] → old.frames.items ≡ frames ++ frame ∷ [] → LastLevel old frame
+last_level book prefix spec old frames frame grows h is =
     let back =
-    leads-pop book next prefix.cut prefix.here.words frames frame old.counts.items old.here.words
+    leads-pop book spec.next prefix.cut prefix.here.words frames frame old.counts.items
+    old.here.words
     (subst (λ (ls : List WalkFrame).
-    Leads book next prefix.cut prefix.here.words ls old.counts.items old.here.words) is h.leads) in
-    let s = standing book prefix init next frames back.from frame.words.items frame.place h.begins
+    Leads book spec.next prefix.cut prefix.here.words ls old.counts.items old.here.words)
+    is h.leads) in
+    let s = standing book prefix spec frames back.from frame.words.items frame.place h.begins
     grows back.leads back.here.sound.0.may_come in
     let long : length old.counts.items ≡ length back.from =
     ap (λ (c : List ℕ). length c) back.to_cut_is
@@ -346,31 +350,30 @@ last_level book prefix init next old frames frame grows h is =
     }
 
 -- Where a walk without frames has nothing left to try, the end of the prefix is a dead end.
-pub walk-none : (book : List Page) (prefix : Prefix) (init : List ℕ)
-    (next : List ℕ → ℕ → List ℕ × ℕ) (walk : Walk)
-    → IsWalk book prefix init next walk [] → walk.frames.items ≡ []
-    → IsDeadEnd book next prefix.cut prefix.here.words
-walk-none book prefix init next walk h none =
-    let leads : Leads book next prefix.cut prefix.here.words [] walk.counts.items walk.here.words =
+pub walk-none : (book : List Page) (prefix : Prefix) (spec : SeqSpec) (walk : Walk)
+    → IsWalk book prefix spec walk [] → walk.frames.items
+    ≡ [] → IsDeadEnd book spec.next prefix.cut prefix.here.words
+walk-none book prefix spec walk h none =
+    let leads : Leads book spec.next prefix.cut prefix.here.words [] walk.counts.items
+    walk.here.words =
     subst
-    (λ (ls : List WalkFrame). Leads book next prefix.cut prefix.here.words ls walk.counts.items
+    (λ (ls : List WalkFrame). Leads book spec.next prefix.cut prefix.here.words ls walk.counts.items
     walk.here.words) none h.leads in
-    subst (λ (c : List ℕ). IsDeadEnd book next c prefix.here.words) (sym leads.0)
-    (subst (λ (l : List ℕ). IsDeadEnd book next walk.counts.items l) (sym leads.1)
-    (dead_end book next walk.counts.items walk.here.words h.here))
+    subst (λ (c : List ℕ). IsDeadEnd book spec.next c prefix.here.words) (sym leads.0)
+    (subst (λ (l : List ℕ). IsDeadEnd book spec.next walk.counts.items l) (sym leads.1)
+    (dead_end book spec.next walk.counts.items walk.here.words h.here))
 
 -- A walk without frames, at the cut and the list of a prefix and with an empty memo, is right with
 -- what is to be tried there.
-pub walk-start : (book : List Page) (prefix : Prefix) (init : List ℕ)
-    (next : List ℕ → ℕ → List ℕ × ℕ) (walk : Walk) → IsPrefix init next book prefix
-    → walk.frames.items ≡ [] → walk.counts.items ≡ prefix.cut → walk.here.words ≡ prefix.here.words
-    → walk.here.room ≡ CAPACITY → IsMemo walk.memo → walk.memo.callers ≡ length book
-    → ((cut list : List ℕ) → Remembers walk.memo cut list → ⊥)
-    → IsOpen book next walk.counts.items walk.here.words (places_of walk.choices.items)
-    → IsWalk book prefix init next walk (places_of walk.choices.items)
-walk-start book prefix init next walk f frames counts here room memo callers none start = record {
+pub walk-start : (book : List Page) (prefix : Prefix) (spec : SeqSpec) (walk : Walk)
+    → IsPrefix spec book prefix → walk.frames.items ≡ [] → walk.counts.items ≡ prefix.cut
+    → walk.here.words ≡ prefix.here.words → walk.here.room ≡ CAPACITY → IsMemo walk.memo
+    → walk.memo.callers ≡ length book → ((cut list : List ℕ) → Remembers walk.memo cut list → ⊥)
+    → IsOpen book spec.next walk.counts.items walk.here.words (places_of walk.choices.items)
+    → IsWalk book prefix spec walk (places_of walk.choices.items)
+walk-start book prefix spec walk f frames counts here room memo callers none start = record {
   begins = f;
-  leads = subst (λ (ls : List WalkFrame). Leads book next prefix.cut prefix.here.words ls
+  leads = subst (λ (ls : List WalkFrame). Leads book spec.next prefix.cut prefix.here.words ls
       walk.counts.items walk.here.words) (sym frames) (sym counts, sym here);
   here = start;
   dead = λ cut list there. absurd (none cut list there);
@@ -380,12 +383,11 @@ walk-start book prefix init next walk f frames counts here room memo callers non
 }
 
 -- One more word fits the list of a prefix after whose cut an answered call is due.
-pub prefix-fits : (book : List Page) (prefix : Prefix) (init : List ℕ)
-    (next : List ℕ → ℕ → List ℕ × ℕ) (cut list : List ℕ) (first : ℕ)
-    → ((list : List ℕ) (op : ℕ) → length (next list op).0 ≤ length list + 1)
-    → IsPrefix init next book prefix → cut ≡ prefix.cut → list ≡ prefix.here.words
+pub prefix-fits : (book : List Page) (prefix : Prefix) (spec : SeqSpec) (cut list : List ℕ)
+    (first : ℕ) → ((list : List ℕ) (op : ℕ) → length (spec.next list op).0 ≤ length list + 1)
+    → IsPrefix spec book prefix → cut ≡ prefix.cut → list ≡ prefix.here.words
     → IsLeast book cut (length book) first → MayGrow cut list
-prefix-fits book prefix init next cut list first grows f same_cut same_list least =
+prefix-fits book prefix spec cut list first grows f same_cut same_list least =
     let valid = f.stands.valid in
     let place : Place = record { caller = first; number = get_or cut first 0; reply = 0 } in
     let there = answer_stands book (next_call cut first) least.answered in
@@ -394,5 +396,5 @@ prefix-fits book prefix init next cut list first grows f same_cut same_list leas
     may_come-from_least book cut first first there.0.view valid least
     (λ (r : Record) at. ap (λ (x : Record). x.view) (same_Some r there.0 (sym at ∙ there.1)))
     (omega (arith, own)) in
-    (standing book prefix init next [] cut list place f grows
+    (standing book prefix spec [] cut list place f grows
     (sym same_cut, sym same_list) may).fits

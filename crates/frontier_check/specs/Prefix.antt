@@ -2,6 +2,7 @@
 use Rattle.std.specs.Prelude.{◌≡◌, ℕ, ◌+◌, ◌≤◌, List, [], ◌∷◌, ◌++◌, length, replicate, sum, slice_index, Some}
 use Rattle.book_base.specs.declared.call.Place.{Place}
 use Rattle.book_base.specs.declared.call.Record.{Record}
+use Rattle.book_base.specs.SeqSpec.{SeqSpec}
 use Rattle.book_base.specs.Cut.{IsWithin}
 use Rattle.book_base.specs.Book.{Page, IsCall, IsValid, IsSmall, calls_of, record_of}
 use Rattle.book_base.specs.Order.{call_at, step_at, IsLegalOrder}
@@ -40,27 +41,24 @@ LeavesOpen book cut = (i : ℕ) (r : Record) → record_of book (next_call cut i
 -- The places of a prefix reach its cut and its list, in a valid and small book. The cut has one
 -- count for each caller of the book, none of them above the caller's number of calls in the book,
 -- and the list has at most one word more than the cut counts calls.
-pub record PrefixReaches (init : List ℕ) (next : List ℕ → ℕ → List ℕ × ℕ) (book : List Page)
-    (prefix : Prefix) : Type 0 where
+pub record PrefixReaches (spec : SeqSpec) (book : List Page) (prefix : Prefix) : Type 0 where
   pub valid : IsValid book
   pub small : IsSmall book
   pub wide : length prefix.cut ≡ length book
   pub within : (i : ℕ) → slice_index prefix.cut i ≤ calls_of book i
   pub words : length prefix.here.words ≤ sum prefix.cut + 1
-  pub reaches : Reaches init next book prefix.places.items prefix.cut prefix.here.words
+  pub reaches : Reaches spec book prefix.places.items prefix.cut prefix.here.words
 
 -- A prefix is put in a book: its places reach its cut and its list, and follow one another from the
 -- cut without calls and the first list of the object.
-pub record IsPut (init : List ℕ) (next : List ℕ → ℕ → List ℕ × ℕ) (book : List Page)
-    (prefix : Prefix) : Type 0 where
-  pub stands : PrefixReaches init next book prefix
-  pub follow : Follow book next
-      (no_calls book) init prefix.places.items prefix.cut prefix.here.words
+pub record IsPut (spec : SeqSpec) (book : List Page) (prefix : Prefix) : Type 0 where
+  pub stands : PrefixReaches spec book prefix
+  pub follow : Follow book spec.next
+      (no_calls book) spec.init prefix.places.items prefix.cut prefix.here.words
 
 -- The places of a prefix reach its cut and its list, and whatever places continue an order from
 -- there make a legal order after those of the prefix.
-pub record IsPrefix (init : List ℕ) (next : List ℕ → ℕ → List ℕ × ℕ) (book : List Page)
-    (prefix : Prefix) : Type 0 where
-  pub stands : PrefixReaches init next book prefix
-  pub legal : (rest : List Place) → Continues book next prefix.cut prefix.here.words rest
-      → IsLegalOrder init next book (prefix.places.items ++ rest)
+pub record IsPrefix (spec : SeqSpec) (book : List Page) (prefix : Prefix) : Type 0 where
+  pub stands : PrefixReaches spec book prefix
+  pub legal : (rest : List Place) → Continues book spec.next prefix.cut prefix.here.words rest
+      → IsLegalOrder spec book (prefix.places.items ++ rest)

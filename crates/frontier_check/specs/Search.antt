@@ -3,6 +3,7 @@ use Rattle.std.specs.Prelude.{◌≡◌, ℕ, zero, suc, ◌+◌, ◌*◌, ◌-�
 use Rattle.std.specs.List.{AllByRecursion}
 use Rattle.book_base.specs.declared.call.Place.{Place}
 use Rattle.book_base.specs.declared.TheConstants.{MAX_CALLERS}
+use Rattle.book_base.specs.SeqSpec.{SeqSpec}
 use Rattle.book_base.specs.Order.{IsLegalOrder}
 use Rattle.book_base.specs.Book.{Page}
 use Rattle.book_base.specs.PruningRules.{HasEarly}
@@ -119,13 +120,13 @@ AllDead book next walk = (cut list : List ℕ) → Remembers walk.memo cut list
 -- What holds of a walk of a search after a prefix: its frames lead from the cut and the list of the
 -- prefix to those of the walk, where these places are still to be tried; its memo remembers dead
 -- ends alone, and is for as many callers as the book has; and its state has the whole capacity.
-pub record IsWalk (book : List Page) (prefix : Prefix) (init : List ℕ)
-    (next : List ℕ → ℕ → List ℕ × ℕ) (walk : Walk) (places : List Place) : Type 0 where
-  pub begins : IsPrefix init next book prefix
-  pub leads : Leads book next prefix.cut prefix.here.words walk.frames.items walk.counts.items
+pub record IsWalk (book : List Page) (prefix : Prefix) (spec : SeqSpec) (walk : Walk)
+    (places : List Place) : Type 0 where
+  pub begins : IsPrefix spec book prefix
+  pub leads : Leads book spec.next prefix.cut prefix.here.words walk.frames.items walk.counts.items
       walk.here.words
-  pub here : IsOpen book next walk.counts.items walk.here.words places
-  pub dead : AllDead book next walk
+  pub here : IsOpen book spec.next walk.counts.items walk.here.words places
+  pub dead : AllDead book spec.next walk
   pub memo : IsMemo walk.memo
   pub callers : walk.memo.callers ≡ length book
   pub room : walk.here.room ≡ CAPACITY
@@ -158,11 +159,10 @@ weight walk = weigh CAPACITY walk.frames.items (length walk.choices.items)
 -- the frames are a legal order; with `NoneLeft` the cut and the list of the prefix are a dead end;
 -- and with `GoesOn` the walk is a right one, with the places of its choices still to be tried, and
 -- weighs less than the number before.
-abbrev pub IsRightOutcome : List Page → Prefix → List ℕ → (List ℕ → ℕ → List ℕ × ℕ) → ℕ → Walk
-    → StepOutcome → Type 0
-IsRightOutcome book prefix init next before walk Found =
-    IsLegalOrder init next book (prefix.places.items ++ order_of walk.frames.items)
-IsRightOutcome book prefix init next before walk NoneLeft =
-    IsDeadEnd book next prefix.cut prefix.here.words
-IsRightOutcome book prefix init next before walk GoesOn =
-    IsWalk book prefix init next walk (places_of walk.choices.items) × (weight walk < before)
+abbrev pub IsRightOutcome : List Page → Prefix → SeqSpec → ℕ → Walk → StepOutcome → Type 0
+IsRightOutcome book prefix spec before walk Found =
+    IsLegalOrder spec book (prefix.places.items ++ order_of walk.frames.items)
+IsRightOutcome book prefix spec before walk NoneLeft =
+    IsDeadEnd book spec.next prefix.cut prefix.here.words
+IsRightOutcome book prefix spec before walk GoesOn =
+    IsWalk book prefix spec walk (places_of walk.choices.items) × (weight walk < before)

@@ -3,6 +3,7 @@ use Rattle.std.specs.Prelude.{◌≡◌, ℕ, ◌<◌, ◌≤◌, ◌⊎◌, ◌
 use Rattle.book_base.specs.declared.call.Call.{Call}
 use Rattle.book_base.specs.declared.call.Place.{Place}
 use Rattle.book_base.specs.declared.call.Record.{Record}
+use Rattle.book_base.specs.SeqSpec.{SeqSpec}
 use Rattle.book_base.specs.Book.{Page, answers_of, answered, operation_of, record_of}
 use Rattle.frontier_check.specs.declared.prefix.Prefix.{Prefix}
 use Rattle.frontier_check.specs.declared.kept_order.OrderMark.{OrderMark}
@@ -27,8 +28,8 @@ IsQuiet cut before book = (i : ℕ) → i < length book → (slice_index cut i �
 -- A mark is one of an order where the order begins with the places of a prefix that is put in this
 -- book, or in one from which this book has grown; the mark has the number of these places, the cut
 -- and the words of the prefix, and how many records of each caller that book had.
-pub record IsMark (init : List ℕ) (next : List ℕ → ℕ → List ℕ × ℕ) (book : List Page)
-    (order : List Place) (mark : OrderMark) : Type 0 where
+pub record IsMark (spec : SeqSpec) (book : List Page) (order : List Place)
+    (mark : OrderMark) : Type 0 where
   pub earlier : List Page
   pub grown : HasGrown earlier book
   pub records : mark.answered ≡ answered earlier
@@ -38,23 +39,21 @@ pub record IsMark (init : List ℕ) (next : List ℕ → ℕ → List ℕ × ℕ
   pub len : mark.len ≡ length prefix.places.items
   pub cut : prefix.cut ≡ mark.cut
   pub words : prefix.here.words ≡ mark.words.items
-  pub put : IsPut init next earlier prefix
+  pub put : IsPut spec earlier prefix
 
 -- These are marks of an order; the first of them counts no fewer places than the least number, and
 -- each other one no fewer than the mark before it.
-abbrev pub AreMarks : (init : List ℕ) → (next : List ℕ → ℕ → List ℕ × ℕ) → List Page → List Place
-    → ℕ → List OrderMark → Type 0
-AreMarks init next book order least [] = Unit {0}
-AreMarks init next book order least (mark ∷ marks) =
-    (least ≤ mark.len) × IsMark init next book order mark
-    × AreMarks init next book order mark.len marks
+abbrev pub AreMarks : SeqSpec → List Page → List Place → ℕ → List OrderMark → Type 0
+AreMarks spec book order least [] = Unit {0}
+AreMarks spec book order least (mark ∷ marks) =
+    (least ≤ mark.len) × IsMark spec book order mark
+    × AreMarks spec book order mark.len marks
 
 -- The marks of a kept order are marks of its places, in this book or in ones from which it has
 -- grown.
-abbrev pub IsStandingFor : (init : List ℕ) → (next : List ℕ → ℕ → List ℕ × ℕ) → List Page
-    → KeptOrder → Type 0
-IsStandingFor init next book standing =
-    AreMarks init next book standing.order.items 0 standing.marks.items
+abbrev pub IsStandingFor : SeqSpec → List Page → KeptOrder → Type 0
+IsStandingFor spec book standing =
+    AreMarks spec book standing.order.items 0 standing.marks.items
 
 -- The cut of a mark and its numbers of records have one count for each caller of a book.
 abbrev pub IsAsWide : List Page → OrderMark → Type 0
@@ -79,7 +78,7 @@ pub record IsMarkAtEnd (prefix : Prefix) (records : List ℕ) (mark : OrderMark)
 -- places too.
 abbrev pub AddsMarks : Prefix → List ℕ → List OrderMark → List OrderMark → Type 0
 AddsMarks prefix records marks more =
-    (init : List ℕ) (next : List ℕ → ℕ → List ℕ × ℕ) (book : List Page)
-    → IsPut init next book prefix → records ≡ answered book
-    → AreMarks init next book prefix.places.items 0 marks
-    → AreMarks init next book prefix.places.items 0 more
+    (spec : SeqSpec) (book : List Page)
+    → IsPut spec book prefix → records ≡ answered book
+    → AreMarks spec book prefix.places.items 0 marks
+    → AreMarks spec book prefix.places.items 0 more

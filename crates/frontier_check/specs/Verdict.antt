@@ -1,6 +1,7 @@
 -- Which verdicts of the search are right.
-use Rattle.std.specs.Prelude.{◌≡◌, ℕ, List}
+use Rattle.std.specs.Prelude.{◌≡◌, List}
 use Rattle.book_base.specs.declared.call.Place.{Place}
+use Rattle.book_base.specs.SeqSpec.{SeqSpec}
 use Rattle.book_base.specs.Book.{Page}
 use Rattle.book_base.specs.Order.{IsLegalOrder, HasLegalOrder}
 use Rattle.frontier_check.specs.declared.verdict.Verdict.{Verdict}
@@ -8,9 +9,9 @@ use Rattle.frontier_check.specs.declared.verdict.Verdict.TheVariants.{Legal, Ill
 
 -- A verdict on a book is right: `Legal` carries a legal order of the book, and with `Illegal` the
 -- book has no legal order.
-abbrev pub IsRight : List ℕ → (List ℕ → ℕ → List ℕ × ℕ) → List Page → Verdict → Type 0
-IsRight init next book (Legal order) = IsLegalOrder init next book order.items
-IsRight init next book Illegal = HasLegalOrder init next book → ⊥
+abbrev pub IsRight : SeqSpec → List Page → Verdict → Type 0
+IsRight spec book (Legal order) = IsLegalOrder spec book order.items
+IsRight spec book Illegal = HasLegalOrder spec book → ⊥
 
 -- A guide has the places of the legal order that a verdict carries, and with `Illegal` those that
 -- it had before.

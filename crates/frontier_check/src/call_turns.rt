@@ -17,9 +17,9 @@ pub struct CallTurns {
 }
 
 impl CallTurns {
-    /// A call_turns for the calls after a prefix: first come the calls of a guide's later places, in the
-    /// order of these places; then the other answered calls, the one whose view counts the fewest
-    /// calls first; and last all others.
+    /// A call_turns for the calls after a prefix: first come the calls of a guide's later places,
+    /// in the order of these places; then the other answered calls, the one whose view counts the
+    /// fewest calls first; and last all others.
     pub fn new(
         alloc: Global,
         book: &Book,

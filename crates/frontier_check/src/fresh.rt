@@ -36,7 +36,7 @@ fn next_place<S: SeqObject>(
     limit: &Cut,
     caller: u32,
 ) -> Option<Place>
-    requires put { IsPut (S.init object.now) (S.next object.now) book.now prefix.now }
+    requires put { IsPut (S.spec object.now) book.now prefix.now }
     requires limit { length limit.now ≡ length book.now }
     requires caller { caller < length book.now }
     requires room { spare.old.room ≡ CAPACITY }
@@ -111,7 +111,7 @@ fn choice_of<S: SeqObject>(
     view: &Cut,
     caller: u32,
 ) -> Option<Choice>
-    requires put { IsPut (S.init object.now) (S.next object.now) book.now prefix.now }
+    requires put { IsPut (S.spec object.now) book.now prefix.now }
     requires counts { length guess.now.counts ≡ length book.now }
     requires taken { length guess.now.taken ≡ length book.now }
     requires view { length view.now ≡ length book.now }
@@ -135,7 +135,7 @@ fn best_choice<S: SeqObject>(
     guess: &Guess,
     view: &Cut,
 ) -> Option<Choice>
-    requires put { IsPut (S.init object.now) (S.next object.now) book.now prefix.now }
+    requires put { IsPut (S.spec object.now) book.now prefix.now }
     requires counts { length guess.now.counts ≡ length book.now }
     requires taken { length guess.now.taken ≡ length book.now }
     requires view { length view.now ≡ length book.now }
@@ -196,7 +196,7 @@ fn enabling_place<S: SeqObject>(
     spare: &mut State,
     view: &Cut,
 ) -> Option<Place>
-    requires put { IsPut (S.init object.now) (S.next object.now) book.now prefix.now }
+    requires put { IsPut (S.spec object.now) book.now prefix.now }
     requires view { length view.now ≡ length book.now }
     requires room { spare.old.room ≡ CAPACITY }
     ensures room { spare.new.room ≡ CAPACITY }
@@ -223,7 +223,7 @@ fn enables_recorded_reply<S: SeqObject>(
     view: &Cut,
     place: Place,
 ) -> bool
-    requires put { IsPut (S.init object.now) (S.next object.now) book.now prefix.now }
+    requires put { IsPut (S.spec object.now) book.now prefix.now }
     requires view { length view.now ≡ length book.now }
     requires next { IsNext book.now prefix.now.cut place }
     requires room { spare.old.room ≡ CAPACITY }
@@ -261,7 +261,7 @@ fn place_after<S: SeqObject>(
     spare: &mut State,
     guess: &Guess,
 ) -> Option<Place>
-    requires put { IsPut (S.init object.now) (S.next object.now) book.now prefix.now }
+    requires put { IsPut (S.spec object.now) book.now prefix.now }
     requires counts { length guess.now.counts ≡ length book.now }
     requires taken { length guess.now.taken ≡ length book.now }
     requires room { spare.old.room ≡ CAPACITY }
@@ -305,15 +305,14 @@ pub fn put_fresh<S: SeqObject>(
     prefix: &mut Prefix,
     marks: &mut Vec<OrderMark>,
 ) -> Result<bool, NoMemory>
-    requires put { IsPut (S.init object.now) (S.next object.now) book.now prefix.old }
+    requires put { IsPut (S.spec object.now) book.now prefix.old }
     requires room { prefix.old.here.room ≡ CAPACITY }
-    requires marks { AreMarks (S.init object.now)
-        (S.next object.now) book.now prefix.old.places.items 0 marks.old.items }
-    ensures put { IfOk result (λ given. IsTrue given
-        → IsPut (S.init object.now) (S.next object.now) book.now prefix.new) }
+    requires marks { AreMarks (S.spec object.now) book.now prefix.old.places.items 0
+        marks.old.items }
+    ensures put { IfOk result
+        (λ given. IsTrue given → IsPut (S.spec object.now) book.now prefix.new) }
     ensures marks { IfOk result (λ given. IsTrue given
-        → AreMarks (S.init object.now)
-        (S.next object.now) book.now prefix.new.places.items 0 marks.new.items) }
+        → AreMarks (S.spec object.now) book.now prefix.new.places.items 0 marks.new.items) }
 {
     let answered = answers_in(book);
     let mut spare = State::with_room(alloc, CAPACITY)?;

@@ -23,11 +23,11 @@ pub struct Prefix {
 impl Prefix {
     /// The prefix without places, at the cut without calls and the object's first list.
     pub fn new<S: SeqObject>(alloc: Global, object: &S, book: &Book) -> Result<Prefix, NoMemory>
-        ensures put { IfOk result (IsPut (S.init object.now) (S.next object.now) book.now) }
-        ensures prefix { IfOk result (IsPrefix (S.init object.now) (S.next object.now) book.now) }
+        ensures put { IfOk result (IsPut (S.spec object.now) book.now) }
+        ensures prefix { IfOk result (IsPrefix (S.spec object.now) book.now) }
         ensures places { IfOk result (λ prefix. prefix.places.items ≡ []) }
         ensures cut { IfOk result (λ prefix. prefix.cut ≡ no_calls book.now) }
-        ensures list { IfOk result (λ prefix. prefix.here.words ≡ S.init object.now) }
+        ensures list { IfOk result (λ prefix. prefix.here.words ≡ (S.spec object.now).init) }
         ensures room { IfOk result (λ prefix. prefix.here.room ≡ CAPACITY) }
     {
         let mut here = State::with_room(alloc, CAPACITY)?;
@@ -52,8 +52,7 @@ impl Prefix {
         book: &Book,
         places: &[Place],
     ) -> Result<Option<Prefix>, NoMemory>
-        ensures { IfOk result (λ found. IfSome found
-            (IsPrefix (S.init object.now) (S.next object.now) book.now)) }
+        ensures { IfOk result (λ found. IfSome found (IsPrefix (S.spec object.now) book.now)) }
     {
         let limit = limit_of(book, &Cut::zero(book.callers()), places);
         let mut prefix = Prefix::new(alloc, object, book)?;
@@ -74,10 +73,10 @@ impl Prefix {
         places: &[Place],
     ) -> Result<bool, NoMemory>
         requires limit { length limit.now ≡ length book.now }
-        requires put { IsPut (S.init object.now) (S.next object.now) book.now self.old }
+        requires put { IsPut (S.spec object.now) book.now self.old }
         requires room { self.old.here.room ≡ CAPACITY }
-        ensures { IfOk result (λ given. IsTrue given
-            → IsPut (S.init object.now) (S.next object.now) book.now self.new) }
+        ensures { IfOk result
+            (λ given. IsTrue given → IsPut (S.spec object.now) book.now self.new) }
     {
         for place in places {
             if !self.may_take(book, limit, *place) {
@@ -103,16 +102,15 @@ impl Prefix {
         marks: &mut Vec<OrderMark>,
     ) -> Result<bool, NoMemory>
         requires limit { length limit.now ≡ length book.now }
-        requires put { IsPut (S.init object.now) (S.next object.now) book.now self.old }
+        requires put { IsPut (S.spec object.now) book.now self.old }
         requires room { self.old.here.room ≡ CAPACITY }
-        requires marks { AreMarks (S.init object.now)
-            (S.next object.now) book.now self.old.places.items 0 marks.old.items }
-        ensures put { IfOk result (λ given. IsTrue given
-            → IsPut (S.init object.now) (S.next object.now) book.now self.new) }
+        requires marks { AreMarks (S.spec object.now) book.now self.old.places.items 0
+            marks.old.items }
+        ensures put { IfOk result
+            (λ given. IsTrue given → IsPut (S.spec object.now) book.now self.new) }
         ensures room { IfOk result (λ given. IsTrue given → self.new.here.room ≡ CAPACITY) }
         ensures marks { IfOk result (λ given. IsTrue given
-            → AreMarks (S.init object.now)
-            (S.next object.now) book.now self.new.places.items 0 marks.new.items) }
+            → AreMarks (S.spec object.now) book.now self.new.places.items 0 marks.new.items) }
     {
         let answered = answers_in(book);
         for place in places {
@@ -227,11 +225,11 @@ impl Prefix {
         book: &Book,
         place: Place,
     ) -> Result<bool, NoMemory>
-        requires put { IsPut (S.init object.now) (S.next object.now) book.now self.old }
+        requires put { IsPut (S.spec object.now) book.now self.old }
         requires next { IsNext book.now self.old.cut place }
         requires room { self.old.here.room ≡ CAPACITY }
-        ensures put { IfOk result (λ given. IsTrue given
-            → IsPut (S.init object.now) (S.next object.now) book.now self.new) }
+        ensures put { IfOk result
+            (λ given. IsTrue given → IsPut (S.spec object.now) book.now self.new) }
         ensures places { OnOk result (self.new.places.items ≡ self.old.places.items ++ place ∷ []) }
         ensures room { self.new.here.room ≡ CAPACITY }
     {

@@ -107,13 +107,11 @@ pub fn resume<S: SeqObject>(
     order: Vec<Place>,
     marks: &mut Vec<OrderMark>,
 ) -> Result<(Prefix, Vec<Place>), NoMemory>
-    requires marks { AreMarks (S.init object.now)
-        (S.next object.now) book.now order.items 0 marks.old.items }
-    ensures put { IfOk result (λ r. IsPut (S.init object.now) (S.next object.now) book.now r.0) }
+    requires marks { AreMarks (S.spec object.now) book.now order.items 0 marks.old.items }
+    ensures put { IfOk result (λ r. IsPut (S.spec object.now) book.now r.0) }
     ensures room { IfOk result (λ r. r.0.here.room ≡ CAPACITY) }
-    ensures marks { IfOk result (λ r.
-        AreMarks (S.init object.now)
-        (S.next object.now) book.now r.0.places.items 0 marks.new.items) }
+    ensures marks { IfOk result
+        (λ r. AreMarks (S.spec object.now) book.now r.0.places.items 0 marks.new.items) }
     ensures fewer { OnOk result ((n : ℕ) × (marks.new.items ≡ take n marks.old.items)) }
 {
     match last_standing(book, marks) {

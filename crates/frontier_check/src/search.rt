@@ -57,18 +57,19 @@ impl<S> Drop for Search<'_, S> {
 impl<S: SeqObject> Search<'_, S> {
     /// Finds places that make a legal order after those of the prefix, if there are any.
     pub fn run(&self) -> Result<Option<Vec<Place>>, NoMemory>
-        requires pruning_rules { ArePruningRules (S.init self.now.object.now)
-            (S.next self.now.object.now) self.now.book.now self.now.known.now }
+        requires pruning_rules { ArePruningRules (S.spec self.now.object.now) self.now.book.now
+            self.now.known.now }
         requires open { IsTrue self.now.one_open → HasOneOpen self.now.book.now }
         requires sight { IfSome self.now.sight.now (λ sight. HasOneOpen self.now.book.now
             × S.sees self.now.object.now self.now.book.now sight) }
-        requires prefix { IsPrefix (S.init self.now.object.now)
-            (S.next self.now.object.now) self.now.book.now self.now.prefix.now }
-        ensures found { IfOk result (λ found. IfSome found
-            (λ rest. IsLegalOrder (S.init self.now.object.now) (S.next self.now.object.now)
+        requires prefix { IsPrefix (S.spec self.now.object.now) self.now.book.now
+            self.now.prefix.now }
+        ensures found { IfOk result
+            (λ found. IfSome found (λ rest. IsLegalOrder (S.spec self.now.object.now)
             self.now.book.now (self.now.prefix.now.places.items ++ rest.items))) }
-        ensures none { IfOk result (λ found. IfNone found (IsDeadEnd self.now.book.now
-            (S.next self.now.object.now) self.now.prefix.now.cut self.now.prefix.now.here.words)) }
+        ensures none { IfOk result
+            (λ found. IfNone found (IsDeadEnd self.now.book.now (S.spec self.now.object.now).next
+            self.now.prefix.now.cut self.now.prefix.now.here.words)) }
     {
         let mut spare = State::with_room(self.alloc, CAPACITY)?;
         match self.begin(&mut spare)? {
@@ -81,15 +82,15 @@ impl<S: SeqObject> Search<'_, S> {
     /// steps. `None` says nothing of the book: there may be such places, and no clause says how far
     /// the search looks.
     pub fn run_few(&self, steps: u64) -> Result<Option<Vec<Place>>, NoMemory>
-        requires pruning_rules { ArePruningRules (S.init self.now.object.now)
-            (S.next self.now.object.now) self.now.book.now self.now.known.now }
+        requires pruning_rules { ArePruningRules (S.spec self.now.object.now) self.now.book.now
+            self.now.known.now }
         requires open { IsTrue self.now.one_open → HasOneOpen self.now.book.now }
         requires sight { IfSome self.now.sight.now (λ sight. HasOneOpen self.now.book.now
             × S.sees self.now.object.now self.now.book.now sight) }
-        requires prefix { IsPrefix (S.init self.now.object.now)
-            (S.next self.now.object.now) self.now.book.now self.now.prefix.now }
-        ensures found { IfOk result (λ found. IfSome found
-            (λ rest. IsLegalOrder (S.init self.now.object.now) (S.next self.now.object.now)
+        requires prefix { IsPrefix (S.spec self.now.object.now) self.now.book.now
+            self.now.prefix.now }
+        ensures found { IfOk result
+            (λ found. IfSome found (λ rest. IsLegalOrder (S.spec self.now.object.now)
             self.now.book.now (self.now.prefix.now.places.items ++ rest.items))) }
     {
         let mut spare = State::with_room(self.alloc, CAPACITY)?;
@@ -102,18 +103,17 @@ impl<S: SeqObject> Search<'_, S> {
     // The walk without frames, at the cut and the list of the prefix. `None` comes where that cut
     // holds all answered calls.
     fn begin(&self, spare: &mut State) -> Result<Option<Walk>, NoMemory>
-        requires pruning_rules { ArePruningRules (S.init self.now.object.now)
-            (S.next self.now.object.now) self.now.book.now self.now.known.now }
+        requires pruning_rules { ArePruningRules (S.spec self.now.object.now) self.now.book.now
+            self.now.known.now }
         requires open { IsTrue self.now.one_open → HasOneOpen self.now.book.now }
         requires sight { IfSome self.now.sight.now (λ sight. HasOneOpen self.now.book.now
             × S.sees self.now.object.now self.now.book.now sight) }
-        requires prefix { IsPrefix (S.init self.now.object.now)
-            (S.next self.now.object.now) self.now.book.now self.now.prefix.now }
+        requires prefix { IsPrefix (S.spec self.now.object.now) self.now.book.now
+            self.now.prefix.now }
         requires room { spare.old.room ≡ CAPACITY }
         ensures room { spare.new.room ≡ CAPACITY }
-        ensures walk { IfOk result (λ begun. IfSome begun
-            (λ walk. IsWalk self.now.book.now self.now.prefix.now (S.init self.now.object.now)
-            (S.next self.now.object.now) walk (places_of walk.choices.items))) }
+        ensures walk { IfOk result (λ begun. IfSome begun (λ walk. IsWalk self.now.book.now
+            self.now.prefix.now (S.spec self.now.object.now) walk (places_of walk.choices.items))) }
         ensures none { IfOk result
             (λ begun. IfNone begun (HoldsAnswered self.now.book.now self.now.prefix.now.cut)) }
     {
@@ -137,19 +137,20 @@ impl<S: SeqObject> Search<'_, S> {
     // Makes steps of a walk until a legal order is found or nothing is left to try. `None` comes
     // where no places continue an order from the end of the prefix.
     fn go_on(&self, walk: &mut Walk, spare: &mut State) -> Result<Option<Vec<Place>>, NoMemory>
-        requires pruning_rules { ArePruningRules (S.init self.now.object.now)
-            (S.next self.now.object.now) self.now.book.now self.now.known.now }
+        requires pruning_rules { ArePruningRules (S.spec self.now.object.now) self.now.book.now
+            self.now.known.now }
         requires open { IsTrue self.now.one_open → HasOneOpen self.now.book.now }
         requires sight { IfSome self.now.sight.now (λ sight. HasOneOpen self.now.book.now
             × S.sees self.now.object.now self.now.book.now sight) }
-        requires walk { IsWalk self.now.book.now self.now.prefix.now (S.init self.now.object.now)
-            (S.next self.now.object.now) walk.old (places_of walk.old.choices.items) }
+        requires walk { IsWalk self.now.book.now self.now.prefix.now
+            (S.spec self.now.object.now) walk.old (places_of walk.old.choices.items) }
         requires room { spare.old.room ≡ CAPACITY }
-        ensures found { IfOk result (λ found. IfSome found
-            (λ rest. IsLegalOrder (S.init self.now.object.now) (S.next self.now.object.now)
+        ensures found { IfOk result
+            (λ found. IfSome found (λ rest. IsLegalOrder (S.spec self.now.object.now)
             self.now.book.now (self.now.prefix.now.places.items ++ rest.items))) }
-        ensures none { IfOk result (λ found. IfNone found (IsDeadEnd self.now.book.now
-            (S.next self.now.object.now) self.now.prefix.now.cut self.now.prefix.now.here.words)) }
+        ensures none { IfOk result
+            (λ found. IfNone found (IsDeadEnd self.now.book.now (S.spec self.now.object.now).next
+            self.now.prefix.now.cut self.now.prefix.now.here.words)) }
     {
         'steps: loop {
             match self.advance(walk, spare)? {
@@ -168,16 +169,16 @@ impl<S: SeqObject> Search<'_, S> {
         spare: &mut State,
         steps: u64,
     ) -> Result<Option<Vec<Place>>, NoMemory>
-        requires pruning_rules { ArePruningRules (S.init self.now.object.now)
-            (S.next self.now.object.now) self.now.book.now self.now.known.now }
+        requires pruning_rules { ArePruningRules (S.spec self.now.object.now) self.now.book.now
+            self.now.known.now }
         requires open { IsTrue self.now.one_open → HasOneOpen self.now.book.now }
         requires sight { IfSome self.now.sight.now (λ sight. HasOneOpen self.now.book.now
             × S.sees self.now.object.now self.now.book.now sight) }
-        requires walk { IsWalk self.now.book.now self.now.prefix.now (S.init self.now.object.now)
-            (S.next self.now.object.now) walk.old (places_of walk.old.choices.items) }
+        requires walk { IsWalk self.now.book.now self.now.prefix.now
+            (S.spec self.now.object.now) walk.old (places_of walk.old.choices.items) }
         requires room { spare.old.room ≡ CAPACITY }
-        ensures found { IfOk result (λ found. IfSome found
-            (λ rest. IsLegalOrder (S.init self.now.object.now) (S.next self.now.object.now)
+        ensures found { IfOk result
+            (λ found. IfSome found (λ rest. IsLegalOrder (S.spec self.now.object.now)
             self.now.book.now (self.now.prefix.now.places.items ++ rest.items))) }
     {
         for _ in 0..steps {
@@ -193,17 +194,17 @@ impl<S: SeqObject> Search<'_, S> {
     // Makes one step of a walk: it tries the last choice, which is the best one; where no choice is
     // left, it remembers the cut and the list as a dead end and goes back by one frame.
     fn advance(&self, walk: &mut Walk, spare: &mut State) -> Result<StepOutcome, NoMemory>
-        requires pruning_rules { ArePruningRules (S.init self.now.object.now)
-            (S.next self.now.object.now) self.now.book.now self.now.known.now }
+        requires pruning_rules { ArePruningRules (S.spec self.now.object.now) self.now.book.now
+            self.now.known.now }
         requires open { IsTrue self.now.one_open → HasOneOpen self.now.book.now }
         requires sight { IfSome self.now.sight.now (λ sight. HasOneOpen self.now.book.now
             × S.sees self.now.object.now self.now.book.now sight) }
-        requires walk { IsWalk self.now.book.now self.now.prefix.now (S.init self.now.object.now)
-            (S.next self.now.object.now) walk.old (places_of walk.old.choices.items) }
+        requires walk { IsWalk self.now.book.now self.now.prefix.now
+            (S.spec self.now.object.now) walk.old (places_of walk.old.choices.items) }
         requires room { spare.old.room ≡ CAPACITY }
         ensures room { spare.new.room ≡ CAPACITY }
         ensures outcome { IfOk result (IsRightOutcome self.now.book.now self.now.prefix.now
-            (S.init self.now.object.now) (S.next self.now.object.now) (weight walk.old) walk.new) }
+            (S.spec self.now.object.now) (weight walk.old) walk.new) }
     {
         match walk.choices.pop() {
             Some(choice) => self.enter(walk, spare, choice.place),
@@ -223,17 +224,17 @@ impl<S: SeqObject> Search<'_, S> {
         spare: &mut State,
         place: Place,
     ) -> Result<StepOutcome, NoMemory>
-        requires pruning_rules { ArePruningRules (S.init self.now.object.now)
-            (S.next self.now.object.now) self.now.book.now self.now.known.now }
+        requires pruning_rules { ArePruningRules (S.spec self.now.object.now) self.now.book.now
+            self.now.known.now }
         requires open { IsTrue self.now.one_open → HasOneOpen self.now.book.now }
         requires sight { IfSome self.now.sight.now (λ sight. HasOneOpen self.now.book.now
             × S.sees self.now.object.now self.now.book.now sight) }
-        requires walk { IsWalk self.now.book.now self.now.prefix.now (S.init self.now.object.now)
-            (S.next self.now.object.now) walk.old (place ∷ places_of walk.old.choices.items) }
+        requires walk { IsWalk self.now.book.now self.now.prefix.now
+            (S.spec self.now.object.now) walk.old (place ∷ places_of walk.old.choices.items) }
         requires room { spare.old.room ≡ CAPACITY }
         ensures room { spare.new.room ≡ CAPACITY }
-        ensures outcome { IfOk result (IsRightOutcome self.now.book.now self.now.prefix.now
-            (S.init self.now.object.now) (S.next self.now.object.now)
+        ensures outcome { IfOk result
+            (IsRightOutcome self.now.book.now self.now.prefix.now (S.spec self.now.object.now)
             (weigh CAPACITY walk.old.frames.items (length walk.old.choices.items + 1)) walk.new) }
     {
         self.step(walk, spare, place);
@@ -269,13 +270,14 @@ impl<S: SeqObject> Search<'_, S> {
     // Applies the operation of a place that may come next to the list of a walk, and raises the
     // count of its caller. The spare state keeps the list before.
     fn step(&self, walk: &mut Walk, spare: &mut State, place: Place)
-        requires walk { IsWalk self.now.book.now self.now.prefix.now (S.init self.now.object.now)
-            (S.next self.now.object.now) walk.old (place ∷ places_of walk.old.choices.items) }
+        requires walk { IsWalk self.now.book.now self.now.prefix.now
+            (S.spec self.now.object.now) walk.old (place ∷ places_of walk.old.choices.items) }
         requires room { spare.old.room ≡ CAPACITY }
         ensures spare { spare.new ≡ record spare.old { words = walk.old.here.words } }
         ensures here { walk.new.here ≡ record walk.old.here {
           words =
-              list_after self.now.book.now (S.next self.now.object.now) walk.old.here.words place;
+              list_after self.now.book.now
+              (S.spec self.now.object.now).next walk.old.here.words place;
         } }
         ensures counts { walk.new.counts.items ≡ raised walk.old.counts.items place.caller }
         ensures frames { walk.new.frames ≡ walk.old.frames }
@@ -294,10 +296,10 @@ impl<S: SeqObject> Search<'_, S> {
     // Goes back by one frame from a dead end: the walk has the cut, the list and the choices of its
     // last frame again. `NoneLeft` comes where the walk has no frame.
     fn retreat(&self, walk: &mut Walk) -> StepOutcome
-        requires walk { IsWalk self.now.book.now self.now.prefix.now (S.init self.now.object.now)
-            (S.next self.now.object.now) walk.old [] }
-        ensures { IsRightOutcome self.now.book.now self.now.prefix.now (S.init self.now.object.now)
-            (S.next self.now.object.now) (weigh CAPACITY walk.old.frames.items 0) walk.new result }
+        requires walk { IsWalk self.now.book.now self.now.prefix.now
+            (S.spec self.now.object.now) walk.old [] }
+        ensures { IsRightOutcome self.now.book.now self.now.prefix.now (S.spec self.now.object.now)
+            (weigh CAPACITY walk.old.frames.items 0) walk.new result }
     {
         let Some(frame) = walk.frames.pop() else {
             return StepOutcome::NoneLeft;
@@ -328,20 +330,20 @@ impl<S: SeqObject> Search<'_, S> {
         spare: &mut State,
         first: u32,
     ) -> Result<Vec<Choice>, NoMemory>
-        requires pruning_rules { ArePruningRules (S.init self.now.object.now)
-            (S.next self.now.object.now) self.now.book.now self.now.known.now }
+        requires pruning_rules { ArePruningRules (S.spec self.now.object.now) self.now.book.now
+            self.now.known.now }
         requires open { IsTrue self.now.one_open → HasOneOpen self.now.book.now }
         requires sight { IfSome self.now.sight.now (λ sight. HasOneOpen self.now.book.now
             × S.sees self.now.object.now self.now.book.now sight) }
-        requires reached { IsReached (S.init self.now.object.now)
-            (S.next self.now.object.now) self.now.book.now counts.now here.now.words }
+        requires reached { IsReached (S.spec self.now.object.now) self.now.book.now counts.now
+            here.now.words }
         requires wide { length counts.now ≡ length self.now.book.now }
         requires first { IsLeast self.now.book.now counts.now (length self.now.book.now) first }
         requires fits { MayGrow counts.now here.now.words }
         requires room { spare.old.room ≡ CAPACITY }
         ensures room { spare.new.room ≡ CAPACITY }
         ensures open { IfOk result (λ choices. IsOpen self.now.book.now
-            (S.next self.now.object.now) counts.now here.now.words (places_of choices.items)) }
+            (S.spec self.now.object.now).next counts.now here.now.words (places_of choices.items)) }
         ensures few { IfOk result (λ choices. length choices.items ≤ length self.now.book.now) }
     {
         let _callers = self.book.callers();
@@ -367,15 +369,15 @@ impl<S: SeqObject> Search<'_, S> {
     fn to_try(&self, cut: &Cut, view: &Cut, here: &State, first: u32) -> MarkedCallers
         requires sight { IfSome self.now.sight.now (λ sight. HasOneOpen self.now.book.now
             × S.sees self.now.object.now self.now.book.now sight) }
-        requires reached { IsReached (S.init self.now.object.now)
-            (S.next self.now.object.now) self.now.book.now cut.now here.now.words }
+        requires reached { IsReached (S.spec self.now.object.now) self.now.book.now cut.now
+            here.now.words }
         requires wide { length cut.now ≡ length self.now.book.now }
         requires first { IsLeast self.now.book.now cut.now (length self.now.book.now) first }
         requires view { (r : Record)
             → record_of self.now.book.now (next_call cut.now first) ≡ Some r → r.view ≡ view.now }
         requires views { length view.now ≡ length self.now.book.now }
         ensures { AreToTry self.now.book.now
-            (S.next self.now.object.now) cut.now here.now.words result }
+            (S.spec self.now.object.now).next cut.now here.now.words result }
     {
         let marks = all_next(self.book, cut, view, first);
         match self.sight {
@@ -405,7 +407,7 @@ impl<S: SeqObject> Search<'_, S> {
         requires room { spare.old.room ≡ CAPACITY }
         ensures room { spare.new.room ≡ CAPACITY }
         ensures some { IfSome result (StandsAtOnce self.now.book.now
-            (S.next self.now.object.now) counts.now here.now.words) }
+            (S.spec self.now.object.now).next counts.now here.now.words) }
     {
         for caller in 0..self.book.callers() {
             if u64::from(counts[caller as usize]) < view.get(caller) {
@@ -435,7 +437,7 @@ impl<S: SeqObject> Search<'_, S> {
         requires room { spare.old.room ≡ CAPACITY }
         ensures room { spare.new.room ≡ CAPACITY }
         ensures some { IfSome result (StandsAtOnce self.now.book.now
-            (S.next self.now.object.now) counts.now here.now.words) }
+            (S.spec self.now.object.now).next counts.now here.now.words) }
     {
         let number = u64::from(counts[caller as usize]);
         if number >= self.book.answers(caller) {
@@ -484,11 +486,10 @@ impl<S: SeqObject> Search<'_, S> {
     fn is_infeasible(&self, cut: &Cut, here: &State, earliest: Option<u64>, caller: u32) -> bool
         requires caller { caller < length cut.now }
         requires earliest { IfSome earliest (IsRankIn self.now.known.now.ranks here.now.words) }
-        requires pruning_rules { ArePruningRules (S.init self.now.object.now)
-            (S.next self.now.object.now) self.now.book.now self.now.known.now }
-        ensures { IsTrue result
-            → IsInfeasible (S.init self.now.object.now) (S.next self.now.object.now)
-            self.now.book.now cut.now here.now.words (next_call cut.now caller) }
+        requires pruning_rules { ArePruningRules (S.spec self.now.object.now) self.now.book.now
+            self.now.known.now }
+        ensures { IsTrue result → IsInfeasible (S.spec self.now.object.now) self.now.book.now
+            cut.now here.now.words (next_call cut.now caller) }
     {
         let call = Call {
             caller,
@@ -522,12 +523,12 @@ impl<S: SeqObject> Search<'_, S> {
         requires may { MayComeNext self.now.book.now counts.now (next_call counts.now caller) }
         requires fits { MayGrow counts.now here.now.words }
         requires room { spare.old.room ≡ CAPACITY }
-        requires sound { AllByRecursion
-            (MayStandNext self.now.book.now (S.next self.now.object.now) counts.now here.now.words)
+        requires sound { AllByRecursion (MayStandNext self.now.book.now
+            (S.spec self.now.object.now).next counts.now here.now.words)
             (places_of choices.old.items) }
         ensures room { spare.new.room ≡ CAPACITY }
         ensures more { OnOk result
-            (IsOneMore self.now.book.now (S.next self.now.object.now) counts.now here.now.words
+            (IsOneMore self.now.book.now (S.spec self.now.object.now).next counts.now here.now.words
             caller (places_of choices.old.items) (places_of choices.new.items)) }
         ensures few { length choices.new.items ≤ length choices.old.items + 1 }
     {

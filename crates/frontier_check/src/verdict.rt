@@ -35,8 +35,7 @@ pub enum Verdict {
 /// and a list, and remembers those that are dead ends (after Wing and Gong 1993, and Lowe 2017).
 pub fn check<S: SeqObject>(alloc: Global, object: &S, book: &Book) -> Result<Verdict, NoMemory>
     // A verdict `Legal` carries a legal order of the book, and with `Illegal` the book has none.
-    ensures verdict { IfOk result
-        (λ verdict. IsRight (S.init object.now) (S.next object.now) book.now verdict) }
+    ensures verdict { IfOk result (λ verdict. IsRight (S.spec object.now) book.now verdict) }
 {
     match order_anywhere(alloc, object, book, &[])? {
         None => Ok(Verdict::Illegal),
@@ -57,8 +56,7 @@ pub fn check_from<S: SeqObject>(
     guide: &mut Guide,
 ) -> Result<Verdict, NoMemory>
     // A verdict `Legal` carries a legal order of the book, and with `Illegal` the book has none.
-    ensures verdict { IfOk result
-        (λ verdict. IsRight (S.init object.now) (S.next object.now) book.now verdict) }
+    ensures verdict { IfOk result (λ verdict. IsRight (S.spec object.now) book.now verdict) }
     // With `Legal` the guide keeps the order that was found, and with `Illegal` the one that it
     // had.
     ensures guide { IfOk result (KeepsLastOrder guide.old guide.new) }
@@ -92,18 +90,17 @@ pub fn check_after<S: SeqObject>(
 ) -> Result<Option<KeptOrder>, NoMemory>
     // The marks of an order that is given are marks of its places for this object, in this book or
     // in ones from which it has grown.
-    requires standing { IfSome standing
-        (IsStandingFor (S.init object.now) (S.next object.now) book.now) }
+    requires standing { IfSome standing (IsStandingFor (S.spec object.now) book.now) }
     // An order that is found is a legal one of the book.
-    ensures legal { IfOk result (λ found. IfSome found
-        (λ s. IsLegalOrder (S.init object.now) (S.next object.now) book.now s.order.items)) }
+    ensures legal { IfOk result
+        (λ found. IfSome found (λ s. IsLegalOrder (S.spec object.now) book.now s.order.items)) }
     // The marks of an order that is found are marks of its places for this object, in this book or
     // in ones from which it has grown.
-    ensures stands { IfOk result (λ found. IfSome found
-        (IsStandingFor (S.init object.now) (S.next object.now) book.now)) }
+    ensures stands { IfOk result
+        (λ found. IfSome found (IsStandingFor (S.spec object.now) book.now)) }
     // Where memory sufficed and no order is found, the book has no legal order.
-    ensures illegal { IfOk result (λ found. IfNone found
-        (HasLegalOrder (S.init object.now) (S.next object.now) book.now → ⊥)) }
+    ensures illegal { IfOk result
+        (λ found. IfNone found (HasLegalOrder (S.spec object.now) book.now → ⊥)) }
 {
     match standing {
         None => {
@@ -124,13 +121,13 @@ fn check_on<S: SeqObject>(
     book: &Book,
     standing: KeptOrder,
 ) -> Result<Option<KeptOrder>, NoMemory>
-    requires standing { IsStandingFor (S.init object.now) (S.next object.now) book.now standing }
-    ensures legal { IfOk result (λ found. IfSome found
-        (λ s. IsLegalOrder (S.init object.now) (S.next object.now) book.now s.order.items)) }
-    ensures stands { IfOk result (λ found. IfSome found
-        (IsStandingFor (S.init object.now) (S.next object.now) book.now)) }
-    ensures illegal { IfOk result (λ found. IfNone found
-        (HasLegalOrder (S.init object.now) (S.next object.now) book.now → ⊥)) }
+    requires standing { IsStandingFor (S.spec object.now) book.now standing }
+    ensures legal { IfOk result
+        (λ found. IfSome found (λ s. IsLegalOrder (S.spec object.now) book.now s.order.items)) }
+    ensures stands { IfOk result
+        (λ found. IfSome found (IsStandingFor (S.spec object.now) book.now)) }
+    ensures illegal { IfOk result
+        (λ found. IfNone found (HasLegalOrder (S.spec object.now) book.now → ⊥)) }
 {
     let KeptOrder { order, mut marks } = standing;
     let (mut prefix, later) = resume(alloc, object, book, order, &mut marks)?;
@@ -178,14 +175,13 @@ fn check_before<S: SeqObject>(
     order: Vec<Place>,
     marks: Vec<OrderMark>,
 ) -> Result<Option<KeptOrder>, NoMemory>
-    requires marks { AreMarks (S.init object.now)
-        (S.next object.now) book.now order.items 0 marks.items }
-    ensures legal { IfOk result (λ found. IfSome found
-        (λ s. IsLegalOrder (S.init object.now) (S.next object.now) book.now s.order.items)) }
-    ensures stands { IfOk result (λ found. IfSome found
-        (IsStandingFor (S.init object.now) (S.next object.now) book.now)) }
-    ensures illegal { IfOk result (λ found. IfNone found
-        (HasLegalOrder (S.init object.now) (S.next object.now) book.now → ⊥)) }
+    requires marks { AreMarks (S.spec object.now) book.now order.items 0 marks.items }
+    ensures legal { IfOk result
+        (λ found. IfSome found (λ s. IsLegalOrder (S.spec object.now) book.now s.order.items)) }
+    ensures stands { IfOk result
+        (λ found. IfSome found (IsStandingFor (S.spec object.now) book.now)) }
+    ensures illegal { IfOk result
+        (λ found. IfNone found (HasLegalOrder (S.spec object.now) book.now → ⊥)) }
 {
     let mut order = order;
     let mut marks = marks;
@@ -217,12 +213,11 @@ fn order_put<S: SeqObject>(
     order: Vec<Place>,
     marks: &mut Vec<OrderMark>,
 ) -> Result<(Vec<Place>, bool), NoMemory>
-    requires marks { AreMarks (S.init object.now)
-        (S.next object.now) book.now order.items 0 marks.old.items }
-    ensures legal { IfOk result (λ r. IsTrue r.1
-        → IsLegalOrder (S.init object.now) (S.next object.now) book.now r.0.items) }
-    ensures marks { IfOk result (λ r.
-        AreMarks (S.init object.now) (S.next object.now) book.now r.0.items 0 marks.new.items) }
+    requires marks { AreMarks (S.spec object.now) book.now order.items 0 marks.old.items }
+    ensures legal { IfOk result
+        (λ r. IsTrue r.1 → IsLegalOrder (S.spec object.now) book.now r.0.items) }
+    ensures marks { IfOk result
+        (λ r. AreMarks (S.spec object.now) book.now r.0.items 0 marks.new.items) }
 {
     let (mut prefix, _later) = resume(alloc, object, book, order, marks)?;
     if !put_fresh(alloc, object, book, &mut prefix, marks)? {
@@ -250,14 +245,13 @@ fn check_at_marks<S: SeqObject>(
     order: Vec<Place>,
     marks: Vec<OrderMark>,
 ) -> Result<Option<KeptOrder>, NoMemory>
-    requires marks { AreMarks (S.init object.now)
-        (S.next object.now) book.now order.items 0 marks.items }
-    ensures legal { IfOk result (λ found. IfSome found
-        (λ s. IsLegalOrder (S.init object.now) (S.next object.now) book.now s.order.items)) }
-    ensures stands { IfOk result (λ found. IfSome found
-        (IsStandingFor (S.init object.now) (S.next object.now) book.now)) }
-    ensures illegal { IfOk result (λ found. IfNone found
-        (HasLegalOrder (S.init object.now) (S.next object.now) book.now → ⊥)) }
+    requires marks { AreMarks (S.spec object.now) book.now order.items 0 marks.items }
+    ensures legal { IfOk result
+        (λ found. IfSome found (λ s. IsLegalOrder (S.spec object.now) book.now s.order.items)) }
+    ensures stands { IfOk result
+        (λ found. IfSome found (IsStandingFor (S.spec object.now) book.now)) }
+    ensures illegal { IfOk result
+        (λ found. IfNone found (HasLegalOrder (S.spec object.now) book.now → ⊥)) }
 {
     let mut order = order;
     let mut marks = marks;
@@ -289,12 +283,11 @@ fn order_after_mark<S: SeqObject>(
     order: Vec<Place>,
     marks: &mut Vec<OrderMark>,
 ) -> Result<(Vec<Place>, bool), NoMemory>
-    requires marks { AreMarks (S.init object.now)
-        (S.next object.now) book.now order.items 0 marks.old.items }
-    ensures legal { IfOk result (λ r. IsTrue r.1
-        → IsLegalOrder (S.init object.now) (S.next object.now) book.now r.0.items) }
-    ensures marks { IfOk result (λ r.
-        AreMarks (S.init object.now) (S.next object.now) book.now r.0.items 0 marks.new.items) }
+    requires marks { AreMarks (S.spec object.now) book.now order.items 0 marks.old.items }
+    ensures legal { IfOk result
+        (λ r. IsTrue r.1 → IsLegalOrder (S.spec object.now) book.now r.0.items) }
+    ensures marks { IfOk result
+        (λ r. AreMarks (S.spec object.now) book.now r.0.items 0 marks.new.items) }
 {
     let (prefix, later) = resume(alloc, object, book, order, marks)?;
     match decided_after(alloc, object, book, &prefix)? {
@@ -314,14 +307,13 @@ fn order_by<S: SeqObject>(
     mut prefix: Prefix,
     marks: &mut Vec<OrderMark>,
 ) -> Result<(Vec<Place>, bool), NoMemory>
-    requires put { IsPut (S.init object.now) (S.next object.now) book.now prefix }
+    requires put { IsPut (S.spec object.now) book.now prefix }
     requires room { prefix.here.room ≡ CAPACITY }
-    requires marks { AreMarks (S.init object.now)
-        (S.next object.now) book.now prefix.places.items 0 marks.old.items }
-    ensures legal { IfOk result (λ r. IsTrue r.1
-        → IsLegalOrder (S.init object.now) (S.next object.now) book.now r.0.items) }
-    ensures marks { IfOk result (λ r.
-        AreMarks (S.init object.now) (S.next object.now) book.now r.0.items 0 marks.new.items) }
+    requires marks { AreMarks (S.spec object.now) book.now prefix.places.items 0 marks.old.items }
+    ensures legal { IfOk result
+        (λ r. IsTrue r.1 → IsLegalOrder (S.spec object.now) book.now r.0.items) }
+    ensures marks { IfOk result
+        (λ r. AreMarks (S.spec object.now) book.now r.0.items 0 marks.new.items) }
 {
     let limit = limit_of(book, &prefix.cut, places);
     if !prefix.put_marked(alloc, object, book, &limit, places, marks)? {
@@ -355,13 +347,12 @@ fn order_on<S: SeqObject>(
     _marks: &[OrderMark],
     more: u64,
 ) -> Result<(Vec<Place>, bool), NoMemory>
-    requires put { IsPut (S.init object.now) (S.next object.now) book.now prefix }
-    requires marks { AreMarks (S.init object.now)
-        (S.next object.now) book.now prefix.places.items 0 _marks.now }
-    ensures legal { IfOk result (λ r. IsTrue r.1
-        → IsLegalOrder (S.init object.now) (S.next object.now) book.now r.0.items) }
-    ensures marks { IfOk result (λ r.
-        AreMarks (S.init object.now) (S.next object.now) book.now r.0.items 0 _marks.now) }
+    requires put { IsPut (S.spec object.now) book.now prefix }
+    requires marks { AreMarks (S.spec object.now) book.now prefix.places.items 0 _marks.now }
+    ensures legal { IfOk result
+        (λ r. IsTrue r.1 → IsLegalOrder (S.spec object.now) book.now r.0.items) }
+    ensures marks { IfOk result
+        (λ r. AreMarks (S.spec object.now) book.now r.0.items 0 _marks.now) }
 {
     let found = rest_after(alloc, object, book, later, &prefix, more)?;
     let Prefix {
@@ -389,12 +380,12 @@ fn check_anew<S: SeqObject>(
     book: &Book,
     guide: &[Place],
 ) -> Result<Option<KeptOrder>, NoMemory>
-    ensures legal { IfOk result (λ found. IfSome found
-        (λ s. IsLegalOrder (S.init object.now) (S.next object.now) book.now s.order.items)) }
-    ensures stands { IfOk result (λ found. IfSome found
-        (IsStandingFor (S.init object.now) (S.next object.now) book.now)) }
-    ensures illegal { IfOk result (λ found. IfNone found
-        (HasLegalOrder (S.init object.now) (S.next object.now) book.now → ⊥)) }
+    ensures legal { IfOk result
+        (λ found. IfSome found (λ s. IsLegalOrder (S.spec object.now) book.now s.order.items)) }
+    ensures stands { IfOk result
+        (λ found. IfSome found (IsStandingFor (S.spec object.now) book.now)) }
+    ensures illegal { IfOk result
+        (λ found. IfNone found (HasLegalOrder (S.spec object.now) book.now → ⊥)) }
 {
     match order_anywhere(alloc, object, book, guide)? {
         None => Ok(None),
@@ -415,9 +406,9 @@ fn rest_after<S: SeqObject>(
     prefix: &Prefix,
     more: u64,
 ) -> Result<Option<Vec<Place>>, NoMemory>
-    requires { IsPut (S.init object.now) (S.next object.now) book.now prefix.now }
-    ensures { IfOk result (λ found. IfSome found (λ rest. IsLegalOrder (S.init object.now)
-        (S.next object.now) book.now (prefix.now.places.items ++ rest.items))) }
+    requires { IsPut (S.spec object.now) book.now prefix.now }
+    ensures { IfOk result (λ found. IfSome found (λ rest.
+        IsLegalOrder (S.spec object.now) book.now (prefix.now.places.items ++ rest.items))) }
 {
     if !leaves_open(book, &prefix.cut) {
         return Ok(None);
@@ -448,8 +439,8 @@ fn order_near<S: SeqObject>(
     book: &Book,
     guide: &[Place],
 ) -> Result<Option<Vec<Place>>, NoMemory>
-    ensures { IfOk result (λ found. IfSome found
-        (λ order. IsLegalOrder (S.init object.now) (S.next object.now) book.now order.items)) }
+    ensures { IfOk result
+        (λ found. IfSome found (λ order. IsLegalOrder (S.spec object.now) book.now order.items)) }
 {
     let mut taken = guide.len();
     let mut fewer = book.callers() as usize;
@@ -477,9 +468,9 @@ fn order_after<S: SeqObject>(
     guide: &[Place],
     prefix: Prefix,
 ) -> Result<Option<Vec<Place>>, NoMemory>
-    requires { IsPrefix (S.init object.now) (S.next object.now) book.now prefix }
-    ensures { IfOk result (λ found. IfSome found
-        (λ order. IsLegalOrder (S.init object.now) (S.next object.now) book.now order.items)) }
+    requires { IsPrefix (S.spec object.now) book.now prefix }
+    ensures { IfOk result
+        (λ found. IfSome found (λ order. IsLegalOrder (S.spec object.now) book.now order.items)) }
 {
     let known = PruningRules::none(alloc);
     let later = later_of(guide, prefix.places.len());
@@ -516,11 +507,10 @@ fn places_after<S: SeqObject>(
     prefix: &Prefix,
     more: u64,
 ) -> Result<Option<Vec<Place>>, NoMemory>
-    requires pruning_rules { ArePruningRules (S.init object.now)
-        (S.next object.now) book.now known.now }
-    requires prefix { IsPrefix (S.init object.now) (S.next object.now) book.now prefix.now }
-    ensures { IfOk result (λ found. IfSome found (λ rest. IsLegalOrder (S.init object.now)
-        (S.next object.now) book.now (prefix.now.places.items ++ rest.items))) }
+    requires pruning_rules { ArePruningRules (S.spec object.now) book.now known.now }
+    requires prefix { IsPrefix (S.spec object.now) book.now prefix.now }
+    ensures { IfOk result (λ found. IfSome found (λ rest.
+        IsLegalOrder (S.spec object.now) book.now (prefix.now.places.items ++ rest.items))) }
 {
     let call_turns = CallTurns::new(alloc, book, later, prefix)?;
     let sight: Option<Sight> = None;
@@ -546,10 +536,10 @@ fn order_anywhere<S: SeqObject>(
     book: &Book,
     guide: &[Place],
 ) -> Result<Option<Vec<Place>>, NoMemory>
-    ensures found { IfOk result (λ found. IfSome found
-        (λ order. IsLegalOrder (S.init object.now) (S.next object.now) book.now order.items)) }
-    ensures none { IfOk result (λ found. IfNone found
-        (HasLegalOrder (S.init object.now) (S.next object.now) book.now → ⊥)) }
+    ensures found { IfOk result
+        (λ found. IfSome found (λ order. IsLegalOrder (S.spec object.now) book.now order.items)) }
+    ensures none { IfOk result
+        (λ found. IfNone found (HasLegalOrder (S.spec object.now) book.now → ⊥)) }
 {
     match object.decide(alloc, book)? {
         Decision::Order(order) => Ok(Some(order)),
@@ -566,10 +556,10 @@ fn order_searched<S: SeqObject>(
     book: &Book,
     guide: &[Place],
 ) -> Result<Option<Vec<Place>>, NoMemory>
-    ensures found { IfOk result (λ found. IfSome found
-        (λ order. IsLegalOrder (S.init object.now) (S.next object.now) book.now order.items)) }
-    ensures none { IfOk result (λ found. IfNone found
-        (HasLegalOrder (S.init object.now) (S.next object.now) book.now → ⊥)) }
+    ensures found { IfOk result
+        (λ found. IfSome found (λ order. IsLegalOrder (S.spec object.now) book.now order.items)) }
+    ensures none { IfOk result
+        (λ found. IfNone found (HasLegalOrder (S.spec object.now) book.now → ⊥)) }
 {
     let one_open = has_one_open(book);
     let sight = sight_of(alloc, object, book, one_open)?;

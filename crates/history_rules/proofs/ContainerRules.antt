@@ -4,6 +4,7 @@ use Rattle.std.proofs.lemmas.Bool.{cases_lt}
 use Rattle.std.proofs.lemmas.Option.{same_Some, none-some}
 use Rattle.book_base.specs.declared.call.Call.{Call}
 use Rattle.book_base.specs.declared.call.Place.{Place}
+use Rattle.book_base.specs.SeqSpec.{SeqSpec}
 use Rattle.book_base.specs.Book.{Page}
 use Rattle.book_base.specs.Sequential.{IsRunFrom}
 use Rattle.book_base.specs.Order.{call_at, StandsAt, IsLegalOrder}
@@ -84,28 +85,27 @@ taken_before_empty reading next is list steps run empty v q e step_q step_e at_q
     )
 
 -- a value that one call alone puts in is put in at most once
-pub puts_at_most_one : (reading : Reading) (init : List ℕ) (next : List ℕ → ℕ → List ℕ × ℕ)
-    (book : List Page) (order : List Place) → IsLegalOrder init next book order
-    → (call : Call) (v : ℕ) → PutsInAlone reading book call v → (n : ℕ)
-    → how_often (put_by reading) v (take n (steps_of book order)) ≤ 1
-puts_at_most_one reading init next book order legal call v alone n =
+pub puts_at_most_one : (reading : Reading) (spec : SeqSpec) (book : List Page) (order : List Place)
+    → IsLegalOrder spec book order → (call : Call) (v : ℕ) → PutsInAlone reading book call v
+    → (n : ℕ) → how_often (put_by reading) v (take n (steps_of book order)) ≤ 1
+puts_at_most_one reading spec book order legal call v alone n =
     let steps = steps_of book order in
     elim (cases_lt (how_often (put_by reading) v (take n steps)) 1) [
       | inl none ↦ omega arith
       | inr some ↦
           let found = how_often-found (put_by reading) v steps n some in
-          let stands : StandsAt order found.0 call = put_alone reading init next book order legal
+          let stands : StandsAt order found.0 call = put_alone reading spec book order legal
           call v alone found.0 found.1 found.3 found.4 in
           how_often-once (put_by reading) v found.0 steps n
-          (put_at_one_place reading init next book order legal call v found.0 alone stands)
+          (put_at_one_place reading spec book order legal call v found.0 alone stands)
     ]
 
 pub empty_before_put : EmptyBeforePut
-empty_before_put reading init next book is none v empty take_v put_v finds takes precedes alone
+empty_before_put reading spec book is none v empty take_v put_v finds takes precedes alone
     order legal q stands =
     let steps = steps_of book order in
-    let e = answered_step reading init next book order legal empty None finds in
-    let m = answered_step reading init next book order legal take_v (Some v) takes in
+    let e = answered_step reading spec book order legal empty None finds in
+    let m = answered_step reading spec book order legal take_v (Some v) takes in
     let put = putting_step reading book order put_v v q alone.0 stands in
     let lt : e.0 < m.0 = legal.precedence e.0 m.0 empty take_v e.2 m.2 precedes in
     elim (cases_lt e.0 q) [
@@ -113,8 +113,9 @@ empty_before_put reading init next book is none v empty take_v put_v finds takes
       | inr le ↦ elim (cases_lt q e.0) [
         | inl after ↦
             let once =
-            puts_at_most_one reading init next book order legal put_v v alone (suc m.0) in
-            let early = taken_before_empty reading next is init steps legal.run none v q e.0 put.0
+            puts_at_most_one reading spec book order legal put_v v alone (suc m.0) in
+            let early =
+            taken_before_empty reading spec.next is spec.init steps legal.run none v q e.0 put.0
             e.1 put.1 put.2 e.3 e.4 e.5 after in
             let grows = how_often-grows (taken_by reading) v steps e.0 m.0 (omega arith) in
             let more = how_often-more (taken_by reading) v steps m.0 (suc m.0) m.1 m.3
@@ -125,7 +126,7 @@ empty_before_put reading init next book is none v empty take_v put_v finds takes
               early,
               grows,
               more,
-              held_after reading next is v init steps legal.run none (suc m.0),
+              held_after reading spec.next is v spec.init steps legal.run none (suc m.0),
             ))
         | inr ge ↦
             absurd (deeds_apart reading steps q e.0 put.0 e.1 v put.1 e.3 put.2 e.4 (omega arith))
@@ -133,36 +134,37 @@ empty_before_put reading init next book is none v empty take_v put_v finds takes
     ]
 
 -- a value that is put in once is taken out once
-pub taken_at_one_place : (reading : Reading) (init : List ℕ) (next : List ℕ → ℕ → List ℕ × ℕ)
-    (book : List Page) (order : List Place) → IsContainer reading next → reading.values init ≡ []
-    → IsLegalOrder init next book order → (v : ℕ) (put_v : Call) → PutsInAlone reading book put_v v
-    → (j k : ℕ) (a b : ℕ × ℕ) → slice_get (steps_of book order) j ≡ Some a → taken_by reading a
-    ≡ Some v → slice_get (steps_of book order) k ≡ Some b → taken_by reading b ≡ Some v → j < k → ⊥
-taken_at_one_place reading init next book order is none legal v put_v alone j k a b at_a is_a
+pub taken_at_one_place : (reading : Reading) (spec : SeqSpec) (book : List Page)
+    (order : List Place) → IsContainer reading spec.next
+    → reading.values spec.init ≡ [] → IsLegalOrder spec book order → (v : ℕ) (put_v : Call)
+    → PutsInAlone reading book put_v v → (j k : ℕ) (a b : ℕ × ℕ)
+    → slice_get (steps_of book order) j ≡ Some a → taken_by reading a ≡ Some v
+    → slice_get (steps_of book order) k ≡ Some b → taken_by reading b ≡ Some v → j < k → ⊥
+taken_at_one_place reading spec book order is none legal v put_v alone j k a b at_a is_a
     at_b is_b lt =
     let steps = steps_of book order in
     let first = how_often-more (taken_by reading) v steps j k a at_a is_a lt in
     let second = how_often-more (taken_by reading) v steps k (suc k) b at_b is_b (omega arith) in
-    let held = held_after reading next is v init steps legal.run none (suc k) in
+    let held = held_after reading spec.next is v spec.init steps legal.run none (suc k) in
     absurd (omega (
       arith,
       first,
       second,
       held,
-      puts_at_most_one reading init next book order legal put_v v alone (suc k),
+      puts_at_most_one reading spec book order legal put_v v alone (suc k),
     ))
 
 pub taken_once : TakenOnce
-taken_once reading init next book is none v one other put_v apart takes_one takes_other alone h =
+taken_once reading spec book is none v one other put_v apart takes_one takes_other alone h =
     let order = h.0 in
     let legal = h.1 in
-    let a = answered_step reading init next book order legal one (Some v) takes_one in
-    let b = answered_step reading init next book order legal other (Some v) takes_other in
+    let a = answered_step reading spec book order legal one (Some v) takes_one in
+    let b = answered_step reading spec book order legal other (Some v) takes_other in
     elim (cases_lt a.0 b.0) [
-      | inl lt ↦ taken_at_one_place reading init next book order is none legal v put_v alone a.0 b.0
+      | inl lt ↦ taken_at_one_place reading spec book order is none legal v put_v alone a.0 b.0
           a.1 b.1 a.3 (takes_by reading a.1 v a.4 a.5) b.3 (takes_by reading b.1 v b.4 b.5) lt
       | inr le ↦ elim (cases_lt b.0 a.0) [
-        | inl gt ↦ taken_at_one_place reading init next book order is none legal v put_v alone b.0
+        | inl gt ↦ taken_at_one_place reading spec book order is none legal v put_v alone b.0
             a.0 b.1 a.1 b.3 (takes_by reading b.1 v b.4 b.5) a.3 (takes_by reading a.1 v a.4 a.5) gt
         | inr ge ↦
             let same : a.0 ≡ b.0 = omega arith in

@@ -6,6 +6,7 @@ use Rattle.list_laws.proofs.Prefixes.{slice_get-append_within}
 use Rattle.list_laws.proofs.Pigeonhole.{pigeonhole}
 use Rattle.book_base.specs.declared.call.Call.{Call}
 use Rattle.book_base.specs.declared.call.Place.{Place}
+use Rattle.book_base.specs.SeqSpec.{SeqSpec}
 use Rattle.book_base.specs.Book.{Page}
 use Rattle.book_base.specs.Order.{call_at, StandsAt, IsLegalOrder}
 use Rattle.history_rules.specs.Container.{Reading, put_by, taken_by, times, IsContainer}
@@ -17,11 +18,11 @@ use Rattle.history_rules.proofs.Orders.{steps_of, answered_step, call_of_put}
 use Rattle.history_rules.proofs.ContainerRules.{held_after, takes_by}
 
 pub gives_what_was_put : ContainerGivesWhatWasPut
-gives_what_was_put reading init next steps v is none run =
+gives_what_was_put reading spec steps v is none run =
     omega (
       arith,
       ap (times v) none,
-      holds_what_was_put reading next is v init steps run,
+      holds_what_was_put reading spec.next is v spec.init steps run,
       times-shown (put_by reading) v steps,
       times-shown (taken_by reading) v steps,
     )
@@ -49,27 +50,28 @@ record AreMatched (reading : Reading) (book : List Page) (order : List Place) (v
   same : how_often (taken_by reading) v (take take_place (steps_of book order))
       ≡ how_often (put_by reading) v (take put_place (steps_of book order))
 
-matched : (reading : Reading) (init : List ℕ) (next : List ℕ → ℕ → List ℕ × ℕ) (book : List Page)
-    (order : List Place) → IsContainer reading next → reading.values init ≡ []
-    → IsLegalOrder init next book order → (v : ℕ) (takers putters : List Call)
+matched : (reading : Reading) (spec : SeqSpec) (book : List Page) (order : List Place)
+    → IsContainer reading spec.next → reading.values spec.init ≡ [] → IsLegalOrder spec book order
+    → (v : ℕ) (takers putters : List Call)
     → ((k : ℕ) (call : Call) → slice_get takers k ≡ Some call → TakesOut reading book call v)
     → ((call : Call) → PutsIn reading book call v → (k : ℕ) × (slice_get putters k ≡ Some call))
     → (i : ℕ) → i < length takers → (j : ℕ) × (j < length putters)
     × AreMatched reading book order v takers putters i j
-matched reading init next book order is none legal v takers putters all_take all_put i lt =
+matched reading spec book order is none legal v takers putters all_take all_put i lt =
     let steps = steps_of book order in
     let taker : Call = get_or takers i (record { caller = 0; number = 0 }) in
     let is_taker : slice_get takers i ≡ Some taker =
     slice_get-get_or takers i (record { caller = 0; number = 0 }) lt in
     let a =
-    answered_step reading init next book order legal taker (Some v) (all_take i taker is_taker) in
+    answered_step reading spec book order legal taker (Some v) (all_take i taker is_taker) in
     let takes = takes_by reading a.1 v a.4 a.5 in
     let more =
     how_often-more (taken_by reading) v steps a.0 (suc a.0) a.1 a.3 takes (omega arith) in
     let found = how_often-next (put_by reading) v steps (suc a.0)
     (how_often (taken_by reading) v (take a.0 steps))
-    (omega (arith, more, held_after reading next is v init steps legal.run none (suc a.0))) in
-    let putter = call_of_put reading init next book order legal found.0 v found.1 found.3 found.4 in
+    (omega
+    (arith, more, held_after reading spec.next is v spec.init steps legal.run none (suc a.0))) in
+    let putter = call_of_put reading spec book order legal found.0 v found.1 found.3 found.4 in
     let listed = all_put putter.0 putter.2 in (
       listed.0,
       slice_get_within putters listed.0 putter.0 listed.1,
@@ -89,12 +91,11 @@ matched reading init next book order is none legal v takers putters all_take all
       },
     )
 
-matched_apart : (reading : Reading) (init : List ℕ) (next : List ℕ → ℕ → List ℕ × ℕ)
-    (book : List Page) (order : List Place) → IsLegalOrder init next book order
-    → (v : ℕ) (takers putters : List Call) → AreDifferent takers
+matched_apart : (reading : Reading) (spec : SeqSpec) (book : List Page) (order : List Place)
+    → IsLegalOrder spec book order → (v : ℕ) (takers putters : List Call) → AreDifferent takers
     → (i k j : ℕ) → AreMatched reading book order v takers putters i j
     → AreMatched reading book order v takers putters k j → i ≡ k
-matched_apart reading init next book order legal v takers putters different i k j a b =
+matched_apart reading spec book order legal v takers putters different i k j a b =
     let steps = steps_of book order in
     let putter : a.putter ≡ b.putter =
     same_Some a.putter b.putter (sym a.is_putter ∙ b.is_putter) in
@@ -126,12 +127,12 @@ matched_apart reading init next book order legal v takers putters different i k 
     different i k b.taker (a.is_taker ∙ ap (λ (c : Call). Some c) taker) b.is_taker
 
 pub taken_no_more_than_put : TakenNoMoreThanPut
-taken_no_more_than_put reading init next book is none v takers putters different all_take
+taken_no_more_than_put reading spec book is none v takers putters different all_take
     all_put fewer h =
     let few =
     pigeonhole (AreMatched reading book h.0 v takers putters) (length takers) (length putters)
-    (matched reading init next book h.0 is none h.1 v takers putters all_take all_put)
-    (matched_apart reading init next book h.0 h.1 v takers putters different) in
+    (matched reading spec book h.0 is none h.1 v takers putters all_take all_put)
+    (matched_apart reading spec book h.0 h.1 v takers putters different) in
     absurd (omega (arith, few, fewer))
 
 -- a call of an order at a place before the end of a prefix is in this prefix
@@ -146,7 +147,7 @@ place_after [] place rest = refl
 place_after (first ∷ before) place rest = place_after before place rest
 
 pub infeasible_until_then : InfeasibleUntilThen
-infeasible_until_then init next book a b first cut list lacks before rest reply reaches legal =
+infeasible_until_then spec book a b first cut list lacks before rest reply reaches legal =
     let place : Place = record { caller = b.caller; number = b.number; reply = reply } in
     let found = first (before ++ place ∷ rest) legal (length before)
     (place, place_after before place rest, refl) in

@@ -4,6 +4,7 @@ use Rattle.std.proofs.Common.{◌≡◌, ℕ, zero, suc, ◌∙◌, List, [], �
 use Rattle.std.proofs.lemmas.Option.{same_Some, none-some, slice_get-get_or}
 use Rattle.book_base.specs.declared.call.Call.{Call}
 use Rattle.book_base.specs.declared.call.Place.{Place}
+use Rattle.book_base.specs.SeqSpec.{SeqSpec}
 use Rattle.book_base.specs.Book.{Page, page_of, IsCall, operation_of}
 use Rattle.book_base.specs.Order.{call_at, StandsAt, step_at, IsLegalOrder}
 use Rattle.history_rules.specs.Container.{Effect, Puts, Takes, Neither, Reading, value_put, value_taken, put_by}
@@ -52,13 +53,12 @@ has_operation book call h =
 
 -- an answered take is at some place of a legal order, and the step there is a take that shows what
 -- the call's reply shows
-pub answered_step : (reading : Reading) (init : List ℕ) (next : List ℕ → ℕ → List ℕ × ℕ)
-    (book : List Page) (order : List Place) → IsLegalOrder init next book order
-    → (call : Call) (shown : Option ℕ) → TakesShowing reading book call shown
-    → (k : ℕ) × (step : ℕ × ℕ) × StandsAt order k call
+pub answered_step : (reading : Reading) (spec : SeqSpec) (book : List Page) (order : List Place)
+    → IsLegalOrder spec book order → (call : Call) (shown : Option ℕ)
+    → TakesShowing reading book call shown → (k : ℕ) × (step : ℕ × ℕ) × StandsAt order k call
     × (slice_get (steps_of book order) k ≡ Some step) × (reading.deed step.0 ≡ Takes)
     × (reading.shown step.1 ≡ shown)
-answered_step reading init next book order legal call shown h =
+answered_step reading spec book order legal call shown h =
     let place : Place = record { caller = call.caller; number = call.number; reply = h.1.reply } in
     let found = legal.answered call h.1 h.3 in
     let op : (step_at book place).0 ≡ h.0 = ap (λ (o : Option ℕ). unwrap_or o 0) h.2 in (
@@ -81,11 +81,11 @@ putting_step reading book order call v k h s =
     (step_at book s.0, step_stands book order k s.0 s.1, ap reading.deed op ∙ h.2)
 
 -- a step that puts in a value belongs to a call that puts it in
-pub call_of_put : (reading : Reading) (init : List ℕ) (next : List ℕ → ℕ → List ℕ × ℕ)
-    (book : List Page) (order : List Place) → IsLegalOrder init next book order
-    → (k v : ℕ) (step : ℕ × ℕ) → slice_get (steps_of book order) k ≡ Some step → put_by reading step
-    ≡ Some v → (call : Call) × StandsAt order k call × PutsIn reading book call v
-call_of_put reading init next book order legal k v step e is =
+pub call_of_put : (reading : Reading) (spec : SeqSpec) (book : List Page) (order : List Place)
+    → IsLegalOrder spec book order → (k v : ℕ) (step : ℕ × ℕ)
+    → slice_get (steps_of book order) k ≡ Some step → put_by reading step ≡ Some v → (call : Call)
+    × StandsAt order k call × PutsIn reading book call v
+call_of_put reading spec book order legal k v step e is =
     let place = place_of_step book order k step e in
     let call : Call = call_at place.0 in
     let stands : StandsAt order k call = (place.0, place.1, refl) in
@@ -100,20 +100,18 @@ call_of_put reading init next book order legal k v step e is =
     )
 
 -- a step that puts in a value is at the place of the only call that does
-pub put_alone : (reading : Reading) (init : List ℕ) (next : List ℕ → ℕ → List ℕ × ℕ)
-    (book : List Page) (order : List Place) → IsLegalOrder init next book order
-    → (call : Call) (v : ℕ) → PutsInAlone reading book call v → (k : ℕ) (step : ℕ × ℕ)
-    → slice_get (steps_of book order) k ≡ Some step → put_by reading step ≡ Some v
-    → StandsAt order k call
-put_alone reading init next book order legal call v alone k step e is =
-    let found = call_of_put reading init next book order legal k v step e is in
+pub put_alone : (reading : Reading) (spec : SeqSpec) (book : List Page) (order : List Place)
+    → IsLegalOrder spec book order → (call : Call) (v : ℕ) → PutsInAlone reading book call v
+    → (k : ℕ) (step : ℕ × ℕ) → slice_get (steps_of book order) k ≡ Some step
+    → put_by reading step ≡ Some v → StandsAt order k call
+put_alone reading spec book order legal call v alone k step e is =
+    let found = call_of_put reading spec book order legal k v step e is in
     subst (StandsAt order k) (alone.1 found.0 found.2) found.1
 
-pub put_at_one_place : (reading : Reading) (init : List ℕ) (next : List ℕ → ℕ → List ℕ × ℕ)
-    (book : List Page) (order : List Place) → IsLegalOrder init next book order
-    → (call : Call) (v q : ℕ) → PutsInAlone reading book call v → StandsAt order q call
-    → (k : ℕ) (step : ℕ × ℕ) → slice_get (steps_of book order) k ≡ Some step
+pub put_at_one_place : (reading : Reading) (spec : SeqSpec) (book : List Page) (order : List Place)
+    → IsLegalOrder spec book order → (call : Call) (v q : ℕ) → PutsInAlone reading book call v
+    → StandsAt order q call → (k : ℕ) (step : ℕ × ℕ) → slice_get (steps_of book order) k ≡ Some step
     → put_by reading step ≡ Some v → k ≡ q
-put_at_one_place reading init next book order legal call v q alone stands k step e is =
+put_at_one_place reading spec book order legal call v q alone stands k step e is =
     legal.once k q call
-    (put_alone reading init next book order legal call v alone k step e is) stands
+    (put_alone reading spec book order legal call v alone k step e is) stands

@@ -5,7 +5,7 @@ use Rattle.book_base.specs.Book.{operation_of, Precedes}
 use Rattle.history_rules.specs.Container.{Effect, Puts, Takes, Neither, value_put, GivesFirst, IsQueue, IsStack}
 use Rattle.history_rules.specs.Calls.{PutsInAlone, TakesOut}
 use Rattle.book_base.specs.PruningRules.{IsInfeasible, MustComeFirst}
-use Rattle.history_rules.specs.SmallObjects.{sample, sample_deed, sample_shown, queue_next, stack_next, call_of, six_first}
+use Rattle.history_rules.specs.SmallObjects.{sample, sample_deed, sample_shown, queue_next, queue_spec, stack_next, call_of, six_first}
 use Rattle.history_rules.proofs.QueueRules.{puts_in_order}
 use Rattle.history_rules.proofs.MoreTaken.{infeasible_until_then}
 
@@ -104,10 +104,10 @@ takes_five = (0, record { reply = 6; view = 2 ∷ 2 ∷ [] }, refl, refl, refl, 
 six_precedes : Precedes six_first (call_of 1 1) (call_of 0 1)
 six_precedes = inl (omega arith)
 
-pub six_before_five : MustComeFirst [] queue_next six_first (call_of 1 0) (call_of 0 0)
-six_before_five = puts_in_order sample [] queue_next six_first sample_queue refl 6 5 (call_of 1 1)
+pub six_before_five : MustComeFirst queue_spec six_first (call_of 1 0) (call_of 0 0)
+six_before_five = puts_in_order sample queue_spec six_first sample_queue refl 6 5 (call_of 1 1)
     (call_of 0 1) (call_of 1 0) (call_of 0 0) takes_six takes_five six_precedes six_alone five_alone
 
-pub five_is_infeasible : IsInfeasible [] queue_next six_first (0 ∷ 0 ∷ []) [] (call_of 0 0)
-five_is_infeasible = infeasible_until_then [] queue_next six_first (call_of 1 0)
+pub five_is_infeasible : IsInfeasible queue_spec six_first (0 ∷ 0 ∷ []) [] (call_of 0 0)
+five_is_infeasible = infeasible_until_then queue_spec six_first (call_of 1 0)
     (call_of 0 0) six_before_five (0 ∷ 0 ∷ []) [] (λ held. absurd (omega (arith, held)))

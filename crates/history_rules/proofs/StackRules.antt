@@ -6,6 +6,7 @@ use Rattle.std.proofs.lemmas.List.{take_at, take-map}
 use Rattle.std.proofs.lemmas.Option.{slice_get-get_or, slice_get_within}
 use Rattle.book_base.specs.declared.call.Call.{Call}
 use Rattle.book_base.specs.declared.call.Place.{Place}
+use Rattle.book_base.specs.SeqSpec.{SeqSpec}
 use Rattle.book_base.specs.Book.{Page}
 use Rattle.book_base.specs.Sequential.{IsRunFrom}
 use Rattle.book_base.specs.Order.{step_at, StandsAt, IsLegalOrder}
@@ -101,46 +102,48 @@ difference (suc m) (suc n) le = let rest = difference m n (omega arith) in
 
 -- A value v isn't put in while x is held, where x is put in once and is taken out, and v isn't
 -- taken out before x.
-covers_none : (reading : Reading) (init : List ℕ) (next : List ℕ → ℕ → List ℕ × ℕ)
-    (book : List Page) (order : List Place) → IsStack reading next → reading.values init ≡ []
-    → IsLegalOrder init next book order → (x v : ℕ) (take_x put_x put_v : Call)
-    → TakesOut reading book take_x x → PutsInAlone reading book put_x x
-    → PutsIn reading book put_v v
-    → (q : ℕ) → StandsAt order q put_v
-    → 1 ≤ times x (reading.values (list_after_run next init (take q (steps_of book order))))
+covers_none : (reading : Reading) (spec : SeqSpec) (book : List Page) (order : List Place)
+    → IsStack reading spec.next → reading.values spec.init ≡ [] → IsLegalOrder spec book order
+    → (x v : ℕ) (take_x put_x put_v : Call) → TakesOut reading book take_x x
+    → PutsInAlone reading book put_x x → PutsIn reading book put_v v → (q : ℕ)
+    → StandsAt order q put_v → 1
+    ≤ times x (reading.values (list_after_run spec.next spec.init (take q (steps_of book order))))
     → ((a k : ℕ) (step : ℕ × ℕ) → StandsAt order a take_x → k ≤ a
     → slice_get (steps_of book order) k ≡ Some step → taken_by reading step ≡ Some v → ⊥) → ⊥
-covers_none reading init next book order is none legal x v take_x put_x put_v takes_x alone_x puts_v
+covers_none reading spec book order is none legal x v take_x put_x put_v takes_x alone_x puts_v
     q stands held never =
     let steps = steps_of book order in
-    let container = stack_is_container reading next is in
-    let a = answered_step reading init next book order legal take_x (Some x) takes_x in
+    let container = stack_is_container reading spec.next is in
+    let a = answered_step reading spec book order legal take_x (Some x) takes_x in
     let put = putting_step reading book order put_v v q puts_v stands in
     let taken_x = takes_by reading a.1 x a.4 a.5 in
-    let at_most_one = puts_at_most_one reading init next book order legal put_x x alone_x in
-    let held_at = held_after reading next container x init steps legal.run none in
+    let at_most_one = puts_at_most_one reading spec book order legal put_x x alone_x in
+    let held_at = held_after reading spec.next container x spec.init steps legal.run none in
     elim (cases_lt q a.0) [
       | inl before ↦
-          let below : List ℕ = reading.values (list_after_run next init (take q steps)) in
-          let ran = step_of_run next init steps q put.0 legal.run put.1 in
-          let top : reading.values (list_after_run next init (take (suc q) steps)) ≡ v ∷ below =
+          let below : List ℕ = reading.values (list_after_run spec.next spec.init (take q steps)) in
+          let ran = step_of_run spec.next spec.init steps q put.0 legal.run put.1 in
+          let top : reading.values (list_after_run spec.next spec.init (take (suc q) steps))
+          ≡ v ∷ below =
           ap reading.values ran.1
-          ∙ is.put (list_after_run next init (take q steps)) put.0.0 v put.2 in
+          ∙ is.put (list_after_run spec.next spec.init (take q steps)) put.0.0 v put.2 in
           let gap = difference (suc q) a.0 (omega arith) in
           let inside : a.0 < length steps = slice_get_within steps a.0 a.1 a.3 in
-          let later = stays_below reading next is init steps legal.run v below (suc q) gap.0 top
+          let later =
+          stays_below reading spec.next is spec.init steps legal.run v below (suc q) gap.0 top
           (omega (arith, gap.1, inside))
           (λ k step lt at takes. never a.0 k step a.2 (omega (arith, gap.1)) at takes) in
-          let here : List ℕ = list_after_run next init (take a.0 steps) in
+          let here : List ℕ = list_after_run spec.next spec.init (take a.0 steps) in
           let now : reading.values here ≡ later.0 ++ v ∷ below =
-          ap (λ (n : ℕ). reading.values (list_after_run next init (take n steps))) (sym gap.1)
+          ap (λ (n : ℕ). reading.values (list_after_run spec.next spec.init (take n steps)))
+          (sym gap.1)
           ∙ later.1 in
-          let shows : reading.shown (next here a.1.0).1 ≡ Some x =
-          ap reading.shown (step_of_run next init steps a.0 a.1 legal.run a.3).0 ∙ a.5 in
-          let gives : reading.values here ≡ x ∷ reading.values (next here a.1.0).0
+          let shows : reading.shown (spec.next here a.1.0).1 ≡ Some x =
+          ap reading.shown (step_of_run spec.next spec.init steps a.0 a.1 legal.run a.3).0 ∙ a.5 in
+          let gives : reading.values here ≡ x ∷ reading.values (spec.next here a.1.0).0
           = subst (λ (o : Option ℕ). GivesFirst (reading.values here) o
-          (reading.values (next here a.1.0).0)) shows (is.take here a.1.0 a.4) in
-          elim (first_of_stack x later.0 v below (reading.values (next here a.1.0).0)
+          (reading.values (spec.next here a.1.0).0)) shows (is.take here a.1.0 a.4) in
+          elim (first_of_stack x later.0 v below (reading.values (spec.next here a.1.0).0)
           (sym now ∙ gives) held) [
             | inl same ↦ never a.0 a.0 a.1 a.2 (omega arith) a.3
                 (taken_x ∙ ap (λ (n : ℕ). Some n) (sym same))
@@ -176,35 +179,36 @@ contained x xs h =
 
 -- The put of v is infeasible at a list that has x, where in each legal order no step up to the take
 -- of x takes v out.
-pub infeasible_where_covered : (reading : Reading) (init : List ℕ) (next : List ℕ → ℕ → List ℕ × ℕ)
-    (book : List Page) → IsStack reading next → reading.values init ≡ []
-    → (x v : ℕ) (take_x put_x put_v : Call) → TakesOut reading book take_x x
-    → PutsInAlone reading book put_x x → PutsIn reading book put_v v
-    → ((order : List Place) → IsLegalOrder init next book order
-    → (a k : ℕ) (step : ℕ × ℕ) → StandsAt order a take_x → k ≤ a
+pub infeasible_where_covered : (reading : Reading) (spec : SeqSpec) (book : List Page)
+    → IsStack reading spec.next → reading.values spec.init
+    ≡ [] → (x v : ℕ) (take_x put_x put_v : Call) → TakesOut reading book take_x x
+    → PutsInAlone reading book put_x x → PutsIn reading book put_v v → ((order : List Place)
+    → IsLegalOrder spec book order → (a k : ℕ) (step : ℕ × ℕ) → StandsAt order a take_x → k ≤ a
     → slice_get (steps_of book order) k ≡ Some step → taken_by reading step ≡ Some v → ⊥)
-    → (cut list : List ℕ) → Contains (reading.values list) x
-    → IsInfeasible init next book cut list put_v
-infeasible_where_covered reading init next book is none x v take_x put_x put_v takes_x alone_x
+    → (cut list : List ℕ) → Contains (reading.values list) x → IsInfeasible spec book cut list put_v
+infeasible_where_covered reading spec book is none x v take_x put_x put_v takes_x alone_x
     puts_v never cut list has before rest reply reaches legal =
     let place : Place = record { caller = put_v.caller; number = put_v.number; reply = reply } in
     let order : List Place = before ++ place ∷ rest in
-    let now : list_after_run next init (take (length before) (steps_of book order)) ≡ list =
-    ap (list_after_run next init) (steps_before book before place rest) ∙ reaches.reached in
+    let now : list_after_run spec.next spec.init
+    (take (length before) (steps_of book order)) ≡ list =
+    ap (list_after_run spec.next spec.init) (steps_before book before place rest)
+    ∙ reaches.reached in
     let held : 1 ≤ times x
-    (reading.values (list_after_run next init (take (length before) (steps_of book order))))
+    (reading.values
+    (list_after_run spec.next spec.init (take (length before) (steps_of book order))))
     = subst (λ (l : List ℕ). 1 ≤ times x (reading.values l)) (sym now)
     (contained x (reading.values list) has) in
-    covers_none reading init next book order is none legal x v take_x put_x put_v takes_x alone_x
+    covers_none reading spec book order is none legal x v take_x put_x put_v takes_x alone_x
     puts_v (length before) (place, stands_after before place rest, refl) held
     (never order legal)
 
 pub put_is_covered : PutIsCovered
-put_is_covered reading init next book is none x v take_x take_v put_x put_v takes_x takes_v precedes
+put_is_covered reading spec book is none x v take_x take_v put_x put_v takes_x takes_v precedes
     alone_x alone_v =
-    infeasible_where_covered reading init next book is none x v take_x put_x put_v takes_x alone_x
+    infeasible_where_covered reading spec book is none x v take_x put_x put_v takes_x alone_x
     alone_v.0 (λ order legal a k step stands le at takes.
-    let b = answered_step reading init next book order legal take_v (Some v) takes_v in
+    let b = answered_step reading spec book order legal take_v (Some v) takes_v in
     let lt : a < b.0 = legal.precedence a b.0 take_x take_v stands b.2 precedes in
-    taken_at_one_place reading init next book order (stack_is_container reading next is) none legal
+    taken_at_one_place reading spec book order (stack_is_container reading spec.next is) none legal
     v put_v alone_v k b.0 step b.1 at takes b.3 (takes_by reading b.1 v b.4 b.5) (omega arith))

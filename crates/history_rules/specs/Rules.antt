@@ -3,6 +3,7 @@
 use Rattle.std.specs.Prelude.{◌≡◌, ◌≢◌, ℕ, ◌+◌, ◌<◌, List, [], ◌++◌, length, Some, slice_get, Contains}
 use Rattle.std.specs.List.{filter_map}
 use Rattle.book_base.specs.declared.call.Call.{Call}
+use Rattle.book_base.specs.SeqSpec.{SeqSpec}
 use Rattle.book_base.specs.Cut.{Holds}
 use Rattle.book_base.specs.Book.{Page, Precedes}
 use Rattle.book_base.specs.Sequential.{IsLegalRun}
@@ -15,58 +16,59 @@ use Rattle.book_base.specs.PruningRules.{list_after_run, IsInfeasible, MustComeF
 -- all values put in are those given out, followed by those that the queue still holds.
 abbrev pub QueueGivesInOrder : Type 0
 QueueGivesInOrder =
-    (reading : Reading) (init : List ℕ) (next : List ℕ → ℕ → List ℕ × ℕ) (steps : List (ℕ × ℕ))
-    → IsQueue reading next → reading.values init ≡ [] → IsLegalRun init next steps
+    (reading : Reading) (spec : SeqSpec) (steps : List (ℕ × ℕ))
+    → IsQueue reading spec.next → reading.values spec.init ≡ [] → IsLegalRun spec steps
     → filter_map (put_by reading) steps
-    ≡ filter_map (taken_by reading) steps ++ reading.values (list_after_run next init steps)
+    ≡ filter_map (taken_by reading) steps
+    ++ reading.values (list_after_run spec.next spec.init steps)
 
 -- A container gives out only what was put in: after a legal run from empty, how often a value was
 -- put in is how often it was given out plus how often it is still held.
 abbrev pub ContainerGivesWhatWasPut : Type 0
-ContainerGivesWhatWasPut = (reading : Reading) (init : List ℕ) (next : List ℕ → ℕ → List ℕ × ℕ)
+ContainerGivesWhatWasPut = (reading : Reading) (spec : SeqSpec)
     (steps : List (ℕ × ℕ)) (v : ℕ)
-    → IsContainer reading next → reading.values init ≡ [] → IsLegalRun init next steps
+    → IsContainer reading spec.next → reading.values spec.init ≡ [] → IsLegalRun spec steps
     → times v (filter_map (put_by reading) steps) ≡ times v (filter_map (taken_by reading) steps)
-    + times v (reading.values (list_after_run next init steps))
+    + times v (reading.values (list_after_run spec.next spec.init steps))
 
 -- In any container, a take that found nothing and precedes the take of v comes before the put of v.
 abbrev pub EmptyBeforePut : Type 0
 EmptyBeforePut =
-    (reading : Reading) (init : List ℕ) (next : List ℕ → ℕ → List ℕ × ℕ) (book : List Page)
-    → IsContainer reading next → reading.values init ≡ []
+    (reading : Reading) (spec : SeqSpec) (book : List Page)
+    → IsContainer reading spec.next → reading.values spec.init ≡ []
     → (v : ℕ) (empty take_v put_v : Call) → FindsNothing reading book empty
     → TakesOut reading book take_v v → Precedes book empty take_v
-    → PutsInAlone reading book put_v v → MustComeFirst init next book empty put_v
+    → PutsInAlone reading book put_v v → MustComeFirst spec book empty put_v
 
 -- In a queue, where the take of x precedes the take of v, the put of x comes before the put of v.
 abbrev pub PutsInOrder : Type 0
 PutsInOrder =
-    (reading : Reading) (init : List ℕ) (next : List ℕ → ℕ → List ℕ × ℕ) (book : List Page)
-    → IsQueue reading next → reading.values init ≡ []
+    (reading : Reading) (spec : SeqSpec) (book : List Page)
+    → IsQueue reading spec.next → reading.values spec.init ≡ []
     → (x v : ℕ) (take_x take_v put_x put_v : Call) → TakesOut reading book take_x x
     → TakesOut reading book take_v v → Precedes book take_x take_v
     → PutsInAlone reading book put_x x → PutsInAlone reading book put_v v
-    → MustComeFirst init next book put_x put_v
+    → MustComeFirst spec book put_x put_v
 
 -- In a stack, where the take of x precedes the take of v, the put of v is infeasible at a list that
 -- holds x.
 abbrev pub PutIsCovered : Type 0
 PutIsCovered =
-    (reading : Reading) (init : List ℕ) (next : List ℕ → ℕ → List ℕ × ℕ) (book : List Page)
-    → IsStack reading next → reading.values init ≡ []
+    (reading : Reading) (spec : SeqSpec) (book : List Page)
+    → IsStack reading spec.next → reading.values spec.init ≡ []
     → (x v : ℕ) (take_x take_v put_x put_v : Call) → TakesOut reading book take_x x
     → TakesOut reading book take_v v → Precedes book take_x take_v
     → PutsInAlone reading book put_x x → PutsInAlone reading book put_v v
     → (cut list : List ℕ) → Contains (reading.values list) x
-    → IsInfeasible init next book cut list put_v
+    → IsInfeasible spec book cut list put_v
 
 -- In any container, a book where a value is put in once and taken out twice has no legal order.
 abbrev pub TakenOnce : Type 0
-TakenOnce = (reading : Reading) (init : List ℕ) (next : List ℕ → ℕ → List ℕ × ℕ) (book : List Page)
-    → IsContainer reading next → reading.values init ≡ []
+TakenOnce = (reading : Reading) (spec : SeqSpec) (book : List Page)
+    → IsContainer reading spec.next → reading.values spec.init ≡ []
     → (v : ℕ) (one other put_v : Call) → one ≢ other → TakesOut reading book one v
     → TakesOut reading book other v → PutsInAlone reading book put_v v
-    → ¬ HasLegalOrder init next book
+    → ¬ HasLegalOrder spec book
 
 -- no call stands twice in the list
 abbrev pub AreDifferent : List Call → Type 0
@@ -77,17 +79,17 @@ AreDifferent calls = (j k : ℕ) (call : Call) → slice_get calls j ≡ Some ca
 -- Unanswered puts count too.
 abbrev pub TakenNoMoreThanPut : Type 0
 TakenNoMoreThanPut =
-    (reading : Reading) (init : List ℕ) (next : List ℕ → ℕ → List ℕ × ℕ) (book : List Page)
-    → IsContainer reading next → reading.values init ≡ []
+    (reading : Reading) (spec : SeqSpec) (book : List Page)
+    → IsContainer reading spec.next → reading.values spec.init ≡ []
     → (v : ℕ) (takers putters : List Call) → AreDifferent takers
     → ((k : ℕ) (call : Call) → slice_get takers k ≡ Some call → TakesOut reading book call v)
     → ((call : Call) → PutsIn reading book call v → (k : ℕ) × (slice_get putters k ≡ Some call))
-    → length putters < length takers → ¬ HasLegalOrder init next book
+    → length putters < length takers → ¬ HasLegalOrder spec book
 
 -- Where call a must come first before call b, call b is infeasible next after each cut that lacks
 -- a.
 abbrev pub InfeasibleUntilThen : Type 0
 InfeasibleUntilThen =
-    (init : List ℕ) (next : List ℕ → ℕ → List ℕ × ℕ) (book : List Page) (a b : Call)
-    → MustComeFirst init next book a b
-    → (cut list : List ℕ) → ¬ Holds cut a → IsInfeasible init next book cut list b
+    (spec : SeqSpec) (book : List Page) (a b : Call)
+    → MustComeFirst spec book a b
+    → (cut list : List ℕ) → ¬ Holds cut a → IsInfeasible spec book cut list b

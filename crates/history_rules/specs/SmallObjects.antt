@@ -3,6 +3,7 @@
 use Rattle.std.specs.Prelude.{ℕ, zero, suc, List, [], ◌∷◌, ◌++◌, Option, Some, None}
 use Rattle.book_base.specs.declared.call.Call.{Call}
 use Rattle.book_base.specs.declared.call.Record.{Record}
+use Rattle.book_base.specs.SeqSpec.{SeqSpec}
 use Rattle.book_base.specs.Book.{Page}
 use Rattle.history_rules.specs.Container.{Effect, Puts, Takes, Reading}
 
@@ -22,6 +23,10 @@ abbrev pub queue_next : List ℕ → ℕ → List ℕ × ℕ
 queue_next [] zero = ([], 0)
 queue_next (x ∷ rest) zero = (rest, suc x)
 queue_next list (suc v) = (list ++ v ∷ [], 0)
+
+-- That queue, which begins empty.
+abbrev pub queue_spec : SeqSpec
+queue_spec = record { init = []; next = queue_next }
 
 -- A stack: a value comes in at the head of the list, and the first value is taken out.
 abbrev pub stack_next : List ℕ → ℕ → List ℕ × ℕ

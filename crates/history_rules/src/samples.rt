@@ -3,7 +3,7 @@
 ghost use Rattle.std.specs.Prelude.{[], ◌∷◌};
 ghost use Rattle.history_rules.specs.Container.{IsQueue, IsStack};
 ghost use Rattle.book_base.specs.PruningRules.{IsInfeasible, MustComeFirst};
-ghost use Rattle.history_rules.specs.SmallObjects.{sample, queue_next, stack_next, call_of, six_first};
+ghost use Rattle.history_rules.specs.SmallObjects.{sample, queue_next, queue_spec, stack_next, call_of, six_first};
 
 /// The small queue and the small stack can be read as the rules ask.
 pub fn small_objects_are_read_so()
@@ -17,7 +17,7 @@ pub fn small_objects_are_read_so()
 /// so that the put of 5 is infeasible at the start.
 pub fn six_is_put_first()
     // The put of 6 comes before the put of 5 in each legal order.
-    ensures order { MustComeFirst [] queue_next six_first (call_of 1 0) (call_of 0 0) }
+    ensures order { MustComeFirst queue_spec six_first (call_of 1 0) (call_of 0 0) }
     // The put of 5 is infeasible at the start.
-    ensures infeasible { IsInfeasible [] queue_next six_first (0 ∷ 0 ∷ []) [] (call_of 0 0) }
+    ensures infeasible { IsInfeasible queue_spec six_first (0 ∷ 0 ∷ []) [] (call_of 0 0) }
 {}

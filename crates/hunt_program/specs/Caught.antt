@@ -3,7 +3,7 @@ use Rattle.std.specs.Prelude.{◌≡◌, ℕ, ◌≤◌, ◌++◌, List, Option,
 use Rattle.book_base.specs.Book.{Page}
 use Rattle.book_base.specs.Order.{HasLegalOrder}
 use Rattle.seq_objects.specs.declared.kind.Kind.{Kind}
-use Rattle.seq_objects.specs.Objects.{kind_init, kind_next}
+use Rattle.seq_objects.specs.Objects.{kind_spec}
 use Rattle.text_fields.specs.declared.version.Version.TheVariants.{Second}
 use Rattle.book_text.specs.Grammar as books
 use Rattle.reports.specs.Grammar as reports
@@ -29,7 +29,7 @@ pub record IsSmallerWitness (kind : Kind) (book part : List Page) : Type 0 where
   pub names : List (List ℕ)
   pub is_part : IsPart book names part
   pub evidence : IsEvidence kind book part
-  pub illegal : ¬ HasLegalOrder (kind_init kind) (kind_next kind) part
+  pub illegal : ¬ HasLegalOrder (kind_spec kind) part
   pub minimal : IsMinimal kind part
 
 -- The text is that of a smaller witness of a book.

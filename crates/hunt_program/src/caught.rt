@@ -2,7 +2,7 @@
 
 ghost use Rattle.std.specs.Prelude.{◌≡◌, IfOk};
 ghost use Rattle.book_base.specs.Order.{HasLegalOrder};
-ghost use Rattle.seq_objects.specs.Objects.{kind_init, kind_next};
+ghost use Rattle.seq_objects.specs.Objects.{kind_spec};
 ghost use Rattle.hunt_program.specs.Caught.{IsSmallerWitness, IsSmallerText};
 ghost use Rattle.hunt_program.specs.Caught.{IsSmallerPicture, IsReportShown, IsShown};
 
@@ -24,7 +24,7 @@ pub(crate) fn caught_text(
     shown: Shown,
     catch: &Catch,
 ) -> Result<Vec<u8>, NoMemory>
-    requires { ¬ HasLegalOrder (kind_init kind) (kind_next kind) catch.now.witness }
+    requires { ¬ HasLegalOrder (kind_spec kind) catch.now.witness }
     ensures { IfOk result (λ text. IsShown kind catch.now shown text.items) }
 {
     match shown {
@@ -46,7 +46,7 @@ fn report_and_witness(alloc: Global, kind: Kind, catch: &Catch) -> Result<Vec<u8
 
 /// A witness made small.
 fn smaller(alloc: Global, kind: Kind, witness: &Book) -> Result<Book, NoMemory>
-    requires { ¬ HasLegalOrder (kind_init kind) (kind_next kind) witness.now }
+    requires { ¬ HasLegalOrder (kind_spec kind) witness.now }
     ensures { IfOk result (IsSmallerWitness kind witness.now) }
 {
     match shrink(alloc, kind, witness)? {
@@ -57,7 +57,7 @@ fn smaller(alloc: Global, kind: Kind, witness: &Book) -> Result<Book, NoMemory>
 
 /// The text of a witness made small.
 fn smaller_text(alloc: Global, kind: Kind, witness: &Book) -> Result<Vec<u8>, NoMemory>
-    requires { ¬ HasLegalOrder (kind_init kind) (kind_next kind) witness.now }
+    requires { ¬ HasLegalOrder (kind_spec kind) witness.now }
     ensures { IfOk result (λ text. IsSmallerText kind witness.now text.items) }
 {
     let book = smaller(alloc, kind, witness)?;
@@ -67,7 +67,7 @@ fn smaller_text(alloc: Global, kind: Kind, witness: &Book) -> Result<Vec<u8>, No
 
 /// The picture of a witness made small.
 fn picture(alloc: Global, kind: Kind, witness: &Book) -> Result<Vec<u8>, NoMemory>
-    requires { ¬ HasLegalOrder (kind_init kind) (kind_next kind) witness.now }
+    requires { ¬ HasLegalOrder (kind_spec kind) witness.now }
     ensures { IfOk result (λ text. IsSmallerPicture kind witness.now text.items) }
 {
     let book = smaller(alloc, kind, witness)?;

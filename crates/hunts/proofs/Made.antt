@@ -5,7 +5,7 @@ use Rattle.std.proofs.lemmas.Bool.{cases_eq}
 use Rattle.book_base.specs.Book.{Page}
 use Rattle.book_base.specs.Order.{HasLegalOrder}
 use Rattle.seq_objects.specs.declared.kind.Kind.{Kind}
-use Rattle.seq_objects.specs.Objects.{kind_init, kind_next}
+use Rattle.seq_objects.specs.Objects.{kind_spec}
 use Rattle.client_scripts.specs.Plans.{Plan}
 use Rattle.world_core.specs.Shape.{Shape}
 use Rattle.world_core.specs.Local.{Local}
@@ -28,31 +28,28 @@ if_ok_both (Err e) A B C both a b = tt
 -- a report of the locals of a bench, with passes that count, over rows of the greatest cap
 pub told_report : {T : Type 0} (made cap : T → ℕ) (told : T → Option (List (ℕ × ℕ))) (plan : Plan)
     (kind : Kind) (s : Shape) (locals : List Local) (passes : List T) (findings : Findings)
-    → kind ≡ plan.kind
-    → s ≡ outside_shape (length plan.operations)
-    → IsReportOf (kind_init kind) (kind_next kind) s locals plan (run_allotments plan) findings
+    → kind ≡ plan.kind → s ≡ outside_shape (length plan.operations)
+    → IsReportOf (kind_spec kind) s locals plan (run_allotments plan) findings
     → AreInOrder (IsCountedIn (own_count made cap told) (run_allotments plan) findings) passes
     → IsRun made told plan passes findings
 told_report made cap told plan kind s locals passes findings same shape is counted =
     let allotments = run_allotments plan in
-    let by_kind : IsLawful (kind_init plan.kind)
-    (kind_next plan.kind) s plan.operations allotments findings.lines
-    = subst (λ (k : Kind). IsLawful (kind_init k)
-    (kind_next k) s plan.operations allotments findings.lines) same is.lawful in
+    let by_kind : IsLawful (kind_spec plan.kind) s plan.operations allotments findings.lines
+    = subst (λ (k : Kind). IsLawful (kind_spec k) s plan.operations allotments findings.lines) same
+    is.lawful in
     record {
       kind = is.kind;
-      lawful = subst (λ (t : Shape). IsLawful (kind_init plan.kind)
-          (kind_next plan.kind) t plan.operations allotments findings.lines) shape by_kind;
+      lawful = subst (λ (t : Shape).
+          IsLawful (kind_spec plan.kind) t plan.operations allotments findings.lines) shape by_kind;
       told_in = counted_told made cap told allotments findings passes counted;
     }
 
 -- the witness of a run that was made has no legal order
 pub made_no_order : {T : Type 0} (made : T → ℕ) (told : T → Option (List (ℕ × ℕ))) (plan : Plan)
     (findings : Findings) (book : List Page) → IsMade made told plan findings
-    → IsWitness findings.lines book
-    → ¬ HasLegalOrder (kind_init plan.kind) (kind_next plan.kind) book
+    → IsWitness findings.lines book → ¬ HasLegalOrder (kind_spec plan.kind) book
 made_no_order made told plan findings book is witness =
-    witnesses_have_no_order (kind_init plan.kind) (kind_next plan.kind)
+    witnesses_have_no_order (kind_spec plan.kind)
     (outside_shape (length plan.operations)) plan.operations
     (run_allotments plan) findings.lines book is.1.lawful witness
 

@@ -1,7 +1,7 @@
 -- What a hunt found in the runs that it made.
 use Rattle.std.specs.Prelude.{zero, suc, ◌≡◌, ℕ, ◌+◌, ◌<◌, ◌≤◌, ◌%◌, ◌^◌, List, [], ◌∷◌, ◌++◌, length, Option, IfSome, IfNone}
 use Rattle.book_base.specs.Order.{HasLegalOrder}
-use Rattle.seq_objects.specs.Objects.{kind_init, kind_next}
+use Rattle.seq_objects.specs.Objects.{kind_spec}
 use Rattle.report_lines.specs.Lawful.{IsLawful}
 use Rattle.client_scripts.specs.Plans.{Plan}
 use Rattle.random_scripts.specs.declared.workload.Workload.{Workload}
@@ -30,9 +30,8 @@ module _ {T : Type 0} (made : T → ℕ) (told : T → Option (List (ℕ × ℕ)
   -- a list, this has the operations and the replies of these calls.
   pub record IsRun (plan : Plan) (passes : List T) (findings : Findings) : Type 0 where
     pub kind : findings.kind ≡ plan.kind
-    pub lawful : IsLawful (kind_init plan.kind) (kind_next plan.kind)
-        (outside_shape (length plan.operations)) plan.operations
-        (run_allotments plan) findings.lines
+    pub lawful : IsLawful (kind_spec plan.kind) (outside_shape (length plan.operations))
+        plan.operations (run_allotments plan) findings.lines
     pub told_in : AreInOrder (IsToldIn made told (run_allotments plan) findings) passes
 
   -- A run of the plan was made by some passes, and has these findings.
@@ -53,7 +52,7 @@ module _ {T : Type 0} (made : T → ℕ) (told : T → Option (List (ℕ × ℕ)
     pub script : catch.script ≡ drawn_plan w seed
     pub ran : IsMade catch.script catch.report
     pub witness : IsWitness catch.report.lines catch.witness
-    pub no_order : ¬ HasLegalOrder (kind_init w.kind) (kind_next w.kind) catch.witness
+    pub no_order : ¬ HasLegalOrder (kind_spec w.kind) catch.witness
 
   -- All runs of a hunt before this one were made, and were quiet.
   abbrev pub AreQuietBefore : Settings → ℕ → Type 0

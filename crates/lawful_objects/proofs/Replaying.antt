@@ -1,6 +1,7 @@
 -- A replay of a log takes one step for each entry.
 use Rattle.std.proofs.Common.{◌≡◌, ℕ, ◌+◌, ◌-◌, ◌<◌, ◌≤◌, List, [], ◌∷◌, ◌++◌, length, take, drop, get_or, refl, sym, ap, ◌∙◌, arith}
 use Rattle.std.proofs.lemmas.List.{take_more, take_all, length-take, length-drop, take-append-drop}
+use Rattle.book_base.specs.SeqSpec.{SeqSpec}
 use Rattle.shared_log.specs.declared.entry.Entry.{Entry}
 use Rattle.lawful_objects.specs.Replays.{list_after, last_reply, LastReplyIsNext}
 
@@ -52,33 +53,33 @@ module _ (next : List ℕ → ℕ → List ℕ × ℕ) (list : List ℕ) (log : 
       omega (arith, length-take i log)
 
 -- a replay that begins after the entries that it has seen
-module _ (next : List ℕ → ℕ → List ℕ × ℕ) (init : List ℕ) (log : List Entry) (known : ℕ)
-    (words : List ℕ) (seen : words ≡ list_after next init (take known log)) where
-  pub list_beyond : list_after next words (drop known log) ≡ list_after next init log
+module _ (spec : SeqSpec) (log : List Entry) (known : ℕ) (words : List ℕ)
+    (seen : words ≡ list_after spec.next spec.init (take known log)) where
+  pub list_beyond : list_after spec.next words (drop known log) ≡ list_after spec.next spec.init log
   list_beyond =
-      ap (λ (l : List ℕ). list_after next l (drop known log)) seen
-      ∙ sym (list_after-append next init (take known log) (drop known log))
-      ∙ ap (list_after next init) (take-append-drop known log)
+      ap (λ (l : List ℕ). list_after spec.next l (drop known log)) seen
+      ∙ sym (list_after-append spec.next spec.init (take known log) (drop known log))
+      ∙ ap (list_after spec.next spec.init) (take-append-drop known log)
 
   reply_of_more : (rest : List Entry) → drop known log ≡ rest → 0 < length rest
-      → last_reply next words rest ≡ last_reply next init log
+      → last_reply spec.next words rest ≡ last_reply spec.next spec.init log
   reply_of_more [] is some = absurd (omega arith)
   reply_of_more (e ∷ rest) is some =
-      ap (λ (l : List ℕ). last_reply next l (e ∷ rest)) seen
-      ∙ sym (last_reply-append next init (take known log) e rest)
-      ∙ ap (λ (l : List Entry). last_reply next init (take known log ++ l)) (sym is)
-      ∙ ap (last_reply next init) (take-append-drop known log)
+      ap (λ (l : List ℕ). last_reply spec.next l (e ∷ rest)) seen
+      ∙ sym (last_reply-append spec.next spec.init (take known log) e rest)
+      ∙ ap (λ (l : List Entry). last_reply spec.next spec.init (take known log ++ l)) (sym is)
+      ∙ ap (last_reply spec.next spec.init) (take-append-drop known log)
 
   pub reply_beyond : known < length log
-      → last_reply next words (drop known log) ≡ last_reply next init log
+      → last_reply spec.next words (drop known log) ≡ last_reply spec.next spec.init log
   reply_beyond more = reply_of_more (drop known log) refl (omega (arith, length-drop known log))
 
   -- there is capacity for the words that the remaining entries add
-  pub capacity_beyond : (room : ℕ) → length init ≤ 1
-      → ((l : List ℕ) (op : ℕ) → length (next l op).0 ≤ length l + 1) → known < length log
+  pub capacity_beyond : (room : ℕ) → length spec.init ≤ 1
+      → ((l : List ℕ) (op : ℕ) → length (spec.next l op).0 ≤ length l + 1) → known < length log
       → length log < room → length words + length (drop known log) ≤ room
   capacity_beyond room small grows more low =
-      let most = length-list_after next grows init (take known log) in
+      let most = length-list_after spec.next grows spec.init (take known log) in
       let same = ap length seen in
       omega (arith, length-take known log, length-drop known log)
 

@@ -19,9 +19,9 @@ impl<S: SeqObject> Plain<S> {
     fn replay(&self, log: &[Entry], state: &mut State) -> u64
         requires room { length state.old.words + length log.now ≤ state.old.room }
         ensures list { state.new ≡ record state.old {
-          words = list_after (S.next self.now.object) state.old.words log.now;
+          words = list_after (S.spec self.now.object).next state.old.words log.now;
         } }
-        ensures reply { result ≡ last_reply (S.next self.now.object) state.old.words log.now }
+        ensures reply { result ≡ last_reply (S.spec self.now.object).next state.old.words log.now }
     {
         let mut reply = 0;
         for entry in log {
@@ -34,9 +34,9 @@ impl<S: SeqObject> Plain<S> {
 impl<S: SeqObject> Machine for Plain<S> {
     ghost use Rattle.lawful_objects.specs.Replays.{list_after, last_reply};
 
-    ghost reply_to = { λ m log. last_reply (S.next m.object) (S.init m.object) log };
+    ghost reply_to = { λ m log. last_reply (S.spec m.object).next (S.spec m.object).init log };
 
-    ghost has_seen = { λ m log scratch. scratch.state.words ≡ list_after (S.next m.object) (S.init m.object) log };
+    ghost has_seen = { λ m log scratch. scratch.state.words ≡ list_after (S.spec m.object).next (S.spec m.object).init log };
 
     fn answer(&self, log: &[Entry], scratch: &mut Scratch) -> u64 {
         self.object.reset(&mut scratch.state);

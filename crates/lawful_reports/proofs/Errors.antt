@@ -8,12 +8,12 @@ use Rattle.reports.proofs.FirstErrors.{some_error_is_first}
 use Rattle.lawful_reports.specs.Errors.{WitnessesHaveNoOrder, NoRunLeavesAnError}
 
 pub witnesses_have_no_order : WitnessesHaveNoOrder
-witnesses_have_no_order init next s operations allotments lines book lawful witness legal =
+witnesses_have_no_order spec s operations allotments lines book lawful witness legal =
     lawful.no_order witness.call witness.cut witness.error.error
-    (subst (HasLegalOrder init next)
+    (subst (HasLegalOrder spec)
     (is_the_only_one (book_of_lines lines) witness.cut book lawful.valid witness.at) legal)
 
 pub no_run_leaves_an_error : NoRunLeavesAnError
-no_run_leaves_an_error init next s operations allotments lines lawful some t steps run same =
+no_run_leaves_an_error spec s operations allotments lines lawful some t steps run same =
     let first = some_error_is_first lines some in
     lawful.no_run first.1.0 first.0 first.1.1.error t steps run same

@@ -50,13 +50,13 @@ has_its_record l k r cut e =
     ]
 
 pub delivered_replies_stand_in_one_order : DeliveredRepliesStandInOneOrder
-delivered_replies_stand_in_one_order init next s operations allotments lines lawful =
+delivered_replies_stand_in_one_order spec s operations allotments lines lawful =
     (order, legal, stands)
   where
     order : List Place
     order = lawful.one_order.0
 
-    legal : IsLegalOrder init next (delivered_book s lines) order
+    legal : IsLegalOrder spec (delivered_book s lines) order
     legal = lawful.one_order.1
 
     locals : List Local
@@ -101,10 +101,10 @@ delivered_replies_stand_in_one_order init next s operations allotments lines law
         ∙ ap delivered_in end in
         let kept : record_of
         (book_at (delivered_cut s.callers lines) (book_in locals)) call ≡ Some r =
-        (one init next locals lines are s together).records call (lawful.holds call cut d)
+        (one spec locals lines are s together).records call (lawful.holds call cut d)
         ∙ recorded call line r cut at end in
         ap (λ (b : List Page). record_of (book_at (delivered_cut s.callers lines) b) call)
-        (same_book init next locals lines are) ∙ kept
+        (same_book spec locals lines are) ∙ kept
 
     stands : (call : Call) (line : Line) (r : Record) (cut : List ℕ)
         → line_at lines call ≡ Some line → line.end ≡ Delivered r cut

@@ -1,6 +1,7 @@
 -- Worked reports of the run in which each of two callers makes one whole call, and wrong ones.
 use Rattle.std.specs.Prelude.{ℕ, List, [], ◌∷◌}
 use Rattle.book_base.specs.declared.call.Place.{Place}
+use Rattle.book_base.specs.SeqSpec.{SeqSpec}
 use Rattle.world_core.specs.Shape.{Shape}
 use Rattle.world_core.specs.Schedules.{pair}
 use Rattle.report_lines.specs.declared.line.Line.{Line}
@@ -23,10 +24,9 @@ after_an_error =
     (failed 5 fifty (1 ∷ 0 ∷ []) ∷ pending 7 ∷ []) ∷ (failed 6 sixty (1 ∷ 1 ∷ []) ∷ []) ∷ []
 
 -- These lines are no lawful report, whatever the callers, their operations and their allotments.
-abbrev pub AreNoReport : (init : List ℕ) → (next : List ℕ → ℕ → List ℕ × ℕ)
-    → List (List Line) → Type 0
-AreNoReport init next lines = (s : Shape) (operations : List (List ℕ)) (allotments : List ℕ)
-    → ¬ IsLawful init next s operations allotments lines
+abbrev pub AreNoReport : SeqSpec → List (List Line) → Type 0
+AreNoReport spec lines = (s : Shape) (operations : List (List ℕ)) (allotments : List ℕ)
+    → ¬ IsLawful spec s operations allotments lines
 
 -- The delivered lines of a report of two callers have places in this order of its delivered book.
 abbrev pub StandInOrder : List (List Line) → List Place → Type 0

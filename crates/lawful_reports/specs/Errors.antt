@@ -1,6 +1,7 @@
 -- What a lawful report says of its error lines.
 use Rattle.std.specs.Prelude.{◌≡◌, ℕ, true, List, map}
 use Rattle.std.specs.List.{list_any}
+use Rattle.book_base.specs.SeqSpec.{SeqSpec}
 use Rattle.book_base.specs.Book.{Page}
 use Rattle.book_base.specs.Order.{HasLegalOrder}
 use Rattle.world_core.specs.Shape.{Shape}
@@ -16,34 +17,32 @@ use Rattle.reports.specs.Findings.{IsWitness}
 -- order.
 abbrev pub WitnessesHaveNoOrder : Type 0
 WitnessesHaveNoOrder =
-    (init : List ℕ) (next : List ℕ → ℕ → List ℕ × ℕ) (s : Shape) (operations : List (List ℕ))
+    (spec : SeqSpec) (s : Shape) (operations : List (List ℕ))
     (allotments : List ℕ) (lines : List (List Line)) (book : List Page)
-    → IsLawful init next s operations allotments lines → IsWitness lines book
-    → ¬ HasLegalOrder init next book
+    → IsLawful spec s operations allotments lines → IsWitness lines book
+    → ¬ HasLegalOrder spec book
 
 -- No run that ends with the calls of these lines has a linearizable object history, whatever its
 -- program, its cap and the verdicts.
-abbrev pub NoLinearizableRunHasTheseCalls : (init : List ℕ) → (next : List ℕ → ℕ → List ℕ × ℕ)
-    → List (List Line) → Type 0
-NoLinearizableRunHasTheseCalls init next lines =
+abbrev pub NoLinearizableRunHasTheseCalls : SeqSpec → List (List Line) → Type 0
+NoLinearizableRunHasTheseCalls spec lines =
     (t : Shape) (steps : List Step) → IsRun t steps → map calls_in (end_of t steps).locals
-    ≡ calls_of lines → ¬ IsLinearizable init next (history_of t steps)
+    ≡ calls_of lines → ¬ IsLinearizable spec (history_of t steps)
 
 -- No run over linearizable object calls leaves the calls of a lawful report in which a line is an
 -- error.
 abbrev pub NoRunLeavesAnError : Type 0
 NoRunLeavesAnError =
-    (init : List ℕ) (next : List ℕ → ℕ → List ℕ × ℕ) (s : Shape) (operations : List (List ℕ))
+    (spec : SeqSpec) (s : Shape) (operations : List (List ℕ))
     (allotments : List ℕ) (lines : List (List Line))
-    → IsLawful init next s operations allotments lines → list_any any_error lines ≡ true
-    → NoLinearizableRunHasTheseCalls init next lines
+    → IsLawful spec s operations allotments lines → list_any any_error lines ≡ true
+    → NoLinearizableRunHasTheseCalls spec lines
 
 -- No run that ends with these lines, each with the right verdict, has a linearizable object
 -- history. This says less than that no run with their calls has one: the lines of no run have a
 -- false error.
-abbrev pub NoLinearizableRunHasTheseLines : (init : List ℕ) → (next : List ℕ → ℕ → List ℕ × ℕ)
-    → List (List Line) → Type 0
-NoLinearizableRunHasTheseLines init next lines =
+abbrev pub NoLinearizableRunHasTheseLines : SeqSpec → List (List Line) → Type 0
+NoLinearizableRunHasTheseLines spec lines =
     (t : Shape) (steps : List Step) → IsRun t steps
-    → AreLinesOf init next (end_of t steps).locals lines
-    → ¬ IsLinearizable init next (history_of t steps)
+    → AreLinesOf spec (end_of t steps).locals lines
+    → ¬ IsLinearizable spec (history_of t steps)

@@ -3,6 +3,7 @@ use Rattle.std.specs.Prelude.{◌≡◌, ℕ, List, Some, slice_get}
 use Rattle.book_base.specs.declared.call.Call.{Call}
 use Rattle.book_base.specs.declared.call.Record.{Record}
 use Rattle.book_base.specs.declared.call.Place.{Place}
+use Rattle.book_base.specs.SeqSpec.{SeqSpec}
 use Rattle.book_base.specs.Book.{Page, operation_of}
 use Rattle.book_base.specs.BookAt.{book_at}
 use Rattle.book_base.specs.Order.{IsLegalOrder}
@@ -33,8 +34,8 @@ delivered_book s lines = book_at (delivered_cut s.callers lines) (book_of_lines 
 -- All delivered replies of a lawful report have places in one order, which is legal.
 abbrev pub DeliveredRepliesStandInOneOrder : Type 0
 DeliveredRepliesStandInOneOrder =
-    (init : List ℕ) (next : List ℕ → ℕ → List ℕ × ℕ) (s : Shape) (operations : List (List ℕ))
+    (spec : SeqSpec) (s : Shape) (operations : List (List ℕ))
     (allotments : List ℕ) (lines : List (List Line))
-    → IsLawful init next s operations allotments lines
-    → (order : List Place) × IsLegalOrder init next (delivered_book s lines) order
+    → IsLawful spec s operations allotments lines
+    → (order : List Place) × IsLegalOrder spec (delivered_book s lines) order
     × DeliveredLinesStandIn lines (delivered_book s lines) order

@@ -42,77 +42,77 @@ pub fn false_errors_are_refused()
     // The calls of the lines are those of the locals after the run.
     ensures calls { map calls_in (locals_after two_calls) ≡ calls_of both_failed }
     // The history of the run is linearizable for the object that gives ten times the operation.
-    ensures linearizable { IsLinearizable [] tenfold (history_of pair two_calls) }
+    ensures linearizable { IsLinearizable tenfold (history_of pair two_calls) }
     // The lines as errors are no lawful report for that object, whatever the operations and the
     // allotments.
-    ensures no_report { AreNoReport [] tenfold both_failed }
+    ensures no_report { AreNoReport tenfold both_failed }
     // No run with a linearizable history has these lines with these verdicts.
-    ensures of_the_lines { NoLinearizableRunHasTheseLines [] tenfold both_failed }
+    ensures of_the_lines { NoLinearizableRunHasTheseLines tenfold both_failed }
     // Some run with a linearizable history has the calls of these lines.
-    ensures of_the_calls { ¬ NoLinearizableRunHasTheseCalls [] tenfold both_failed }
+    ensures of_the_calls { ¬ NoLinearizableRunHasTheseCalls tenfold both_failed }
     // The lines as errors are a lawful report for the object that always gives 0.
-    ensures lawful { IsLawful [] silent pair five_and_six (5 ∷ 5 ∷ []) both_failed }
+    ensures lawful { IsLawful silent pair five_and_six (5 ∷ 5 ∷ []) both_failed }
     // No run with a linearizable history has these calls for the object that always gives 0.
-    ensures of_lawful_calls { NoLinearizableRunHasTheseCalls [] silent both_failed }
+    ensures of_lawful_calls { NoLinearizableRunHasTheseCalls silent both_failed }
 {}
 
 /// Lines that aren't those of the run's locals, nor of the locals after the run's first part, in
 /// which the first caller has its record and the second has announced its call.
 pub fn other_lines_are_refused()
     // Lines that leave out a call aren't those of the locals.
-    ensures call_left_out { ¬ AreLinesOf [] silent (locals_after (take 24 two_calls))
+    ensures call_left_out { ¬ AreLinesOf silent (locals_after (take 24 two_calls))
         ((unchecked 5 fifty ∷ []) ∷ [] ∷ []) }
     // Lines that leave out a record aren't those of the locals.
-    ensures record_left_out { ¬ AreLinesOf [] silent (locals_after (take 24 two_calls))
+    ensures record_left_out { ¬ AreLinesOf silent (locals_after (take 24 two_calls))
         ((pending 5 ∷ []) ∷ (pending 6 ∷ []) ∷ []) }
     // Lines that leave out all calls aren't those of the locals.
-    ensures all_left_out { ¬ AreLinesOf [] tenfold (locals_after two_calls) nothing }
+    ensures all_left_out { ¬ AreLinesOf tenfold (locals_after two_calls) nothing }
     // Lines with another operation aren't those of the locals.
-    ensures operation { ¬ AreLinesOf [] tenfold (locals_after two_calls)
+    ensures operation { ¬ AreLinesOf tenfold (locals_after two_calls)
         (with_second (delivered 7 sixty (1 ∷ 1 ∷ []) ∷ [])) }
     // Lines with another reply aren't those of the locals.
-    ensures reply { ¬ AreLinesOf [] tenfold (locals_after two_calls)
+    ensures reply { ¬ AreLinesOf tenfold (locals_after two_calls)
         (with_second (delivered 6 fifty (1 ∷ 1 ∷ []) ∷ [])) }
     // Lines with another view aren't those of the locals.
-    ensures seen_view { ¬ AreLinesOf [] tenfold (locals_after two_calls)
+    ensures seen_view { ¬ AreLinesOf tenfold (locals_after two_calls)
         (with_second (delivered 6 (answer 60 (0 ∷ 1 ∷ [])) (1 ∷ 1 ∷ []) ∷ [])) }
     // Lines with another seen cut aren't those of the locals.
-    ensures seen_cut { ¬ AreLinesOf [] tenfold (locals_after two_calls)
+    ensures seen_cut { ¬ AreLinesOf tenfold (locals_after two_calls)
         (with_second (delivered 6 sixty (0 ∷ 1 ∷ []) ∷ [])) }
     // Lines that leave out a seen cut aren't those of the locals.
-    ensures cut_left_out { ¬ AreLinesOf [] tenfold (locals_after two_calls)
+    ensures cut_left_out { ¬ AreLinesOf tenfold (locals_after two_calls)
         (with_second (unchecked 6 sixty ∷ [])) }
     // Lines with a call more aren't those of the locals.
-    ensures call_more { ¬ AreLinesOf [] tenfold (locals_after two_calls)
+    ensures call_more { ¬ AreLinesOf tenfold (locals_after two_calls)
         (with_second (delivered 6 sixty (1 ∷ 1 ∷ []) ∷ pending 7 ∷ [])) }
     // Lines with a false error aren't those of the locals, though all their calls are right.
-    ensures false_error { ¬ AreLinesOf [] tenfold (locals_after two_calls) first_failed }
+    ensures false_error { ¬ AreLinesOf tenfold (locals_after two_calls) first_failed }
     // Lines that miss an error aren't those of the locals.
-    ensures missed_error { ¬ AreLinesOf [] silent (locals_after two_calls) both_delivered }
+    ensures missed_error { ¬ AreLinesOf silent (locals_after two_calls) both_delivered }
 {}
 
 /// Reports that aren't lawful, each by one part of what makes a report lawful: `report_laws` has
 /// such a case for each part that has none here and doesn't follow from the others.
 pub fn wrong_reports_are_refused()
     // A report with an operation other than its caller was given isn't lawful.
-    ensures operations { ¬ IsLawful [] tenfold pair ((5 ∷ []) ∷ (7 ∷ []) ∷ []) (5 ∷ 5 ∷ [])
-        both_delivered }
+    ensures operations { ¬ IsLawful tenfold pair ((5 ∷ []) ∷ (7 ∷ []) ∷ [])
+        (5 ∷ 5 ∷ []) both_delivered }
     // A report with a line beyond the operations isn't lawful.
-    ensures beyond_operations { ¬ IsLawful [] tenfold pair five_and_six (6 ∷ 5 ∷ [])
+    ensures beyond_operations { ¬ IsLawful tenfold pair five_and_six (6 ∷ 5 ∷ [])
         (with_first (delivered 5 fifty (1 ∷ 0 ∷ []) ∷ pending 0 ∷ [])) }
     // A report with a call that is judged beyond its caller's stop isn't lawful.
-    ensures beyond_stop { ¬ IsLawful [] tenfold pair five_and_six (4 ∷ 5 ∷ []) both_delivered }
+    ensures beyond_stop { ¬ IsLawful tenfold pair five_and_six (4 ∷ 5 ∷ []) both_delivered }
     // A report with an error beyond a stop isn't lawful.
-    ensures error_beyond_stop { ¬ IsLawful [] silent pair five_and_six (4 ∷ 5 ∷ []) both_failed }
+    ensures error_beyond_stop { ¬ IsLawful silent pair five_and_six (4 ∷ 5 ∷ []) both_failed }
     // A report with a line after an error isn't lawful.
-    ensures after_error { ¬ IsLawful [] silent pair ((5 ∷ 7 ∷ []) ∷ (6 ∷ []) ∷ []) (10 ∷ 5 ∷ [])
-        after_an_error }
+    ensures after_error { ¬ IsLawful silent pair ((5 ∷ 7 ∷ []) ∷ (6 ∷ []) ∷ [])
+        (10 ∷ 5 ∷ []) after_an_error }
     // Lines with a view that lacks its own call are no lawful report.
-    ensures view_without_call { AreNoReport [] tenfold
+    ensures view_without_call { AreNoReport tenfold
         (with_first (delivered 5 (answer 50 (0 ∷ 1 ∷ [])) (1 ∷ 0 ∷ []) ∷ [])) }
     // Lines with a seen cut that lacks a caller's count are no lawful report.
-    ensures narrow_cut { AreNoReport [] tenfold (with_first (delivered 5 fifty (1 ∷ []) ∷ [])) }
+    ensures narrow_cut { AreNoReport tenfold (with_first (delivered 5 fifty (1 ∷ []) ∷ [])) }
     // Lines with a seen cut that lacks its own call are no lawful report.
-    ensures cut_without_call { AreNoReport [] tenfold
+    ensures cut_without_call { AreNoReport tenfold
         (with_second (delivered 6 sixty (1 ∷ 0 ∷ []) ∷ [])) }
 {}

@@ -1,7 +1,8 @@
 -- A log has a place for each call.
-use Rattle.std.proofs.Common.{◌≡◌, ◌≢◌, ℕ, zero, suc, ◌+◌, ◌*◌, ◌<◌, ◌⊎◌, List, refl, sym, ap, ◌∙◌, arith, inl, inr}
+use Rattle.std.proofs.Common.{◌≡◌, ◌≢◌, ℕ, zero, suc, ◌+◌, ◌*◌, ◌<◌, ◌⊎◌, refl, sym, ap, ◌∙◌, arith, inl, inr}
 use Rattle.std.proofs.lemmas.Bool.{cases_eq}
 use Rattle.list_laws.proofs.Pigeonhole.{pigeonhole}
+use Rattle.book_base.specs.SeqSpec.{SeqSpec}
 use Rattle.world_core.specs.Shape.{Shape}
 use Rattle.world_core.specs.World.{World, local_of}
 use Rattle.object_orders.proofs.AskedCalls.{reachable_kept, asked}
@@ -25,10 +26,9 @@ cases_free f (suc m) =
       ]
     ]
 
-module _ (init : List ℕ) (next : List ℕ → ℕ → List ℕ × ℕ) (n cap : ℕ) (w : World)
-    (log : IsLog (log_shape init next n cap) w) where
+module _ (spec : SeqSpec) (n cap : ℕ) (w : World) (log : IsLog (log_shape spec n cap) w) where
   abbrev s : Shape
-  s = log_shape init next n cap
+  s = log_shape spec n cap
 
   abbrev total : ℕ
   total = n * cap
@@ -53,7 +53,7 @@ module _ (init : List ℕ) (next : List ℕ → ℕ → List ℕ × ℕ) (n cap 
               let below : p < total = omega (arith, p_low, before) in
               let t = log.named p below (all p below) in (
                 number_of cap t.i t.k,
-                number_low init next n cap t.i t.k t.call.caller t.call.few,
+                number_low spec n cap t.i t.k t.call.caller t.call.few,
                 inl (below, t.ticket),
               )
         ]
@@ -74,10 +74,10 @@ module _ (init : List ℕ) (next : List ℕ → ℕ → List ℕ × ℕ) (n cap 
         ]
 
 pub some_place_is_free : SomePlaceIsFree
-some_place_is_free init next n cap w i reach low asking none =
-    let sh : Shape = log_shape init next n cap in
-    let log = rules_hold init next n cap w reach in
+some_place_is_free spec n cap w i reach low asking none =
+    let sh : Shape = log_shape spec n cap in
+    let log = rules_hold spec n cap w reach in
     let call = asked sh w i (reachable_kept sh w reach) low asking in
-    free_place init next n cap w log (number_of cap i (local_of w i).published)
-    (number_low init next n cap i (local_of w i).published low call.few)
-    (unplaced_nowhere init next n cap w i (local_of w i).published log call.few none)
+    free_place spec n cap w log (number_of cap i (local_of w i).published)
+    (number_low spec n cap i (local_of w i).published low call.few)
+    (unplaced_nowhere spec n cap w i (local_of w i).published log call.few none)

@@ -4,6 +4,7 @@ use Rattle.std.proofs.lemmas.Bool.{cases_eq, cases_lt, cases_Bool, lt-ltb, ltb-t
 use Rattle.std.proofs.lemmas.Option.{same_Some, none-some}
 use Rattle.std.proofs.lemmas.Nat.{same_from_place}
 use Rattle.list_laws.proofs.Places.{get_or-replicate_default}
+use Rattle.book_base.specs.SeqSpec.{SeqSpec}
 use Rattle.book_base.specs.OperationWord.{low_of, high_of, joined}
 use Rattle.world_core.specs.Layout.{object_index}
 use Rattle.world_core.specs.Shape.{Shape, words_of}
@@ -43,9 +44,9 @@ both_none : (b : Bool) → (if b then nothing else nothing) ≡ nothing
 both_none true = refl
 both_none false = refl
 
-module _ (init : List ℕ) (next : List ℕ → ℕ → List ℕ × ℕ) (n cap : ℕ) where
+module _ (spec : SeqSpec) (n cap : ℕ) where
   abbrev s : Shape
-  s = log_shape init next n cap
+  s = log_shape spec n cap
 
   abbrev total : ℕ
   total = n * cap
@@ -71,9 +72,9 @@ module _ (init : List ℕ) (next : List ℕ → ℕ → List ℕ × ℕ) (n cap 
           let t = log.named q low filled in
           let same : number_of cap t.i t.k ≡ number = omega (arith, t.ticket, is) in (
             subst (λ (x : ℕ). f (low_place x) ≡ g (low_place x)) same (sym
-                (held (low_place (number_of cap t.i t.k)) (logs.holds_low init next n cap w q t))),
+                (held (low_place (number_of cap t.i t.k)) (logs.holds_low spec n cap w q t))),
             subst (λ (x : ℕ). f (high_place x) ≡ g (high_place x)) same (sym (held
-                (high_place (number_of cap t.i t.k)) (logs.holds_high init next n cap w q t))),
+                (high_place (number_of cap t.i t.k)) (logs.holds_high spec n cap w q t))),
           )
 
       operation_stays : joined (f (low_place number)) (f (high_place number))
@@ -103,35 +104,36 @@ module _ (init : List ℕ) (next : List ℕ → ℕ → List ℕ × ℕ) (n cap 
     -- the reply of a call whose ticket is in the log stays where the tickets below it stay
     reply_stays : (number : ℕ) (o : Option ℕ) → ((p : ℕ) → o ≡ Some p → (p < total)
         × (ticket w p ≡ ticket_of number) × ((q : ℕ) → q < p → ticket w q ≡ ticket u q))
-        → reply_there next init f total number o ≡ reply_there next init g total number o
+        → reply_there spec f total number o ≡ reply_there spec g total number o
     reply_stays number None h = refl
     reply_stays number (Some p) h =
         let found = h p refl in
         let filled : ticket w p ≢ 0 = λ free. omega (arith, sym found.1 ∙ free) in
         ap (λ (xs : List ℕ). Some
-        (next (list_of next init xs) (joined (f (low_place number)) (f (high_place number)))).1)
+        (spec.next (list_of spec.next spec.init xs)
+        (joined (f (low_place number)) (f (high_place number)))).1)
         (below_stays p (omega (arith, found.0)) found.2)
-        ∙ ap (λ (x : ℕ). Some (next (list_of next init (operations_below g total p)) x).1)
+        ∙ ap
+        (λ (x : ℕ). Some (spec.next (list_of spec.next spec.init (operations_below g total p)) x).1)
         (operation_stays p found.0 filled number found.1)
 
     -- where all tickets stay, no call takes effect
-    quiet : ((q : ℕ) → q < total → ticket w q ≡ ticket u q)
-        → IsQuiet (log_effects init next n cap) w u
+    quiet : ((q : ℕ) → q < total → ticket w q ≡ ticket u q) → IsQuiet (log_effects spec n cap) w u
     quiet same =
         record {
-          list = ap (list_of next init) (sym (below_stays total (omega arith) same));
+          list = ap (list_of spec.next spec.init) (sym (below_stays total (omega arith) same));
           replies = λ call.
               let number : ℕ = number_of cap call.caller call.number in
               let places : place_with f total (ticket_of number) total
               ≡ place_with g total (ticket_of number) total =
               place_same f g total (ticket_of number) total
               (λ q low. ap (λ (x : ℕ). x == ticket_of number) (same q low)) in
-              let replies : reply_of_number next init f total number
-              ≡ reply_of_number next init g total number =
+              let replies : reply_of_number spec f total number
+              ≡ reply_of_number spec g total number =
               reply_stays number (place_with f total (ticket_of number) total)
               (λ p is. let found = place_is f total (ticket_of number) total p is in
               (found.0, found.1, λ q below. same q (omega (arith, below, found.0))))
-              ∙ ap (reply_there next init g total number) places in
+              ∙ ap (reply_there spec g total number) places in
               ap (λ (o : Option ℕ). if nat_lt call.number cap then o else None) (sym replies);
         }
 
@@ -168,37 +170,37 @@ module _ (init : List ℕ) (next : List ℕ → ℕ → List ℕ × ℕ) (n cap 
     p = step.place - 2 * (n * cap)
 
     call : IsCallOf s w who k operation
-    call = logs.call init next n cap w who kept log step may added steps
+    call = logs.call spec n cap w who kept log step may added steps
 
     p_low : p < total
-    p_low = logs.p_low init next n cap w who kept log step may added steps high
+    p_low = logs.p_low spec n cap w who kept log step may added steps high
 
     was_free : ticket w p ≡ 0
-    was_free = logs.was_free init next n cap w who kept log step may added steps high free is below
+    was_free = logs.was_free spec n cap w who kept log step may added steps high free is below
         has_low has_high none
 
     is_placed : ticket u p ≡ ticket_of number
-    is_placed = logs.is_placed init next n cap w who kept log step may added steps high free is
+    is_placed = logs.is_placed spec n cap w who kept log step may added steps high free is
         below has_low has_high none
 
     away_from : (q : ℕ) → q ≢ p → ticket u q ≡ ticket w q
-    away_from = logs.away_from init next n cap w who kept log step may added steps high free is
+    away_from = logs.away_from spec n cap w who kept log step may added steps high free is
         below has_low has_high none
 
-    m : logs.Keeps init next n cap w u
-    m = logs.keeps_placing init next n cap w who kept log step may added steps high free is below
+    m : logs.Keeps spec n cap w u
+    m = logs.keeps_placing spec n cap w who kept log step may added steps high free is below
         has_low has_high none
 
     own_low : object_word s u (low_place number) ≡ low_of operation
-    own_low = logs.own_low init next n cap w who kept log step may added steps high free is below
+    own_low = logs.own_low spec n cap w who kept log step may added steps high free is below
         has_low has_high none
 
     own_high : object_word s u (high_place number) ≡ high_of operation
-    own_high = logs.own_high init next n cap w who kept log step may added steps high free is below
+    own_high = logs.own_high spec n cap w who kept log step may added steps high free is below
         has_low has_high none
 
     nowhere : (q : ℕ) → q < total → ticket w q ≡ ticket_of number → ⊥
-    nowhere = logs.nowhere init next n cap w who kept log step may added steps high none
+    nowhere = logs.nowhere spec n cap w who kept log step may added steps high none
 
     -- from the free place on all places are free
     free_from : (q : ℕ) → p ≤ q → q < total → ticket w q ≡ 0
@@ -248,23 +250,28 @@ module _ (init : List ℕ) (next : List ℕ → ℕ → List ℕ × ℕ) (n cap 
         ∙ ap (λ (x : ℕ). operations_below (object_word s w) total p ++ x ∷ []) words_are
 
     abbrev list_was : List ℕ
-    list_was = list_of next init (operations_below (object_word s w) total total)
+    list_was = list_of spec.next spec.init (operations_below (object_word s w) total total)
 
     abbrev d : Done
-    d = record { call = call_of who k; operation = operation; reply = (next list_was operation).1 }
+    d = record {
+      call = call_of who k;
+      operation = operation;
+      reply = (spec.next list_was operation).1;
+    }
 
-    new_reply : reply_of_number next init (object_word s u) total number
-        ≡ Some (next list_was operation).1
+    new_reply : reply_of_number spec (object_word s u) total number
+        ≡ Some (spec.next list_was operation).1
     new_reply =
-        ap (reply_there next init (object_word s u) total number)
+        ap (reply_there spec (object_word s u) total number)
         (place_found (object_word s u) total (ticket_of number) total p p_low is_placed
         (λ q low at. elim (cases_eq q p) [
           | inl here ↦ here
           | inr away ↦ absurd (nowhere q low (sym (away_from q away) ∙ at))
         ]))
         ∙ ap (λ (x : ℕ).
-        Some (next (list_of next init (operations_below (object_word s u) total p)) x).1) words_are
-        ∙ ap (λ (xs : List ℕ). Some (next (list_of next init xs) operation).1)
+        Some (spec.next (list_of spec.next spec.init (operations_below (object_word s u) total p))
+        x).1) words_are
+        ∙ ap (λ (xs : List ℕ). Some (spec.next (list_of spec.next spec.init xs) operation).1)
         (sym (log_was ∙ below_is p (omega arith)))
 
     -- the replies of other calls stay
@@ -280,8 +287,8 @@ module _ (init : List ℕ) (next : List ℕ → ℕ → List ℕ × ℕ) (n cap 
           | inr off ↦ ap (λ (x : ℕ). x == ticket_of other) (sym (away_from q off))
         ]
 
-    other_replies : (other : ℕ) → other ≢ number → reply_of_number next init
-        (object_word s u) total other ≡ reply_of_number next init (object_word s w) total other
+    other_replies : (other : ℕ) → other ≢ number → reply_of_number spec
+        (object_word s u) total other ≡ reply_of_number spec (object_word s w) total other
     other_replies other away =
         sym (reply_stays w u log m.held other
         (place_with (object_word s w) total (ticket_of other) total)
@@ -295,10 +302,10 @@ module _ (init : List ℕ) (next : List ℕ → ℕ → List ℕ × ℕ) (n cap 
           found.1,
           λ q before. sym (away_from q (λ same. omega (arith, same, before, low))),
         ))
-        ∙ ap (reply_there next init (object_word s u) total other) (place_same (object_word s w)
+        ∙ ap (reply_there spec (object_word s u) total other) (place_same (object_word s w)
         (object_word s u) total (ticket_of other) total (other_tests other away)))
 
-    takes : TakesEffect next s (log_effects init next n cap) w u d
+    takes : TakesEffect spec.next s (log_effects spec n cap) w u d
     takes =
         record {
           announced = record {
@@ -306,11 +313,11 @@ module _ (init : List ℕ) (next : List ℕ → ℕ → List ℕ × ℕ) (n cap 
             is = (m.locals who).operations k operation call.there;
           };
           before =
-              cond-true (nat_lt k cap) (reply_of_number next init (object_word s w) total number)
+              cond-true (nat_lt k cap) (reply_of_number spec (object_word s w) total number)
               None (lt-ltb k cap call.few)
-              ∙ ap (reply_there next init (object_word s w) total number) (no_place
+              ∙ ap (reply_there spec (object_word s w) total number) (no_place
               (object_word s w) total (ticket_of number) total (λ q low at. nowhere q low at));
-          now = cond-true (nat_lt k cap) (reply_of_number next init (object_word s u) total number)
+          now = cond-true (nat_lt k cap) (reply_of_number spec (object_word s u) total number)
               None (lt-ltb k cap call.few) ∙ new_reply;
           others = λ c away. elim (cases_Bool (nat_lt c.number cap)) [
             | inl few ↦
@@ -322,15 +329,16 @@ module _ (init : List ℕ) (next : List ℕ → ℕ → List ℕ × ℕ) (n cap 
                 ap (λ (o : Option ℕ). if nat_lt c.number cap then o else None)
                 (other_replies (number_of cap c.caller c.number) other)
             | inr many ↦
-                cond-false (nat_lt c.number cap) (reply_of_number next init (object_word s u) total
+                cond-false (nat_lt c.number cap) (reply_of_number spec (object_word s u) total
                 (number_of cap c.caller c.number)) None many
-                ∙ sym (cond-false (nat_lt c.number cap) (reply_of_number next init
+                ∙ sym (cond-false (nat_lt c.number cap) (reply_of_number spec
                 (object_word s w) total (number_of cap c.caller c.number)) None many)
           ];
           list =
-              ap (λ (xs : List ℕ). (next (list_of next init xs) operation).0) log_was
-              ∙ sym (ap (list_of next init) log_is
-              ∙ list_of-push next init (operations_below (object_word s w) total p) operation);
+              ap (λ (xs : List ℕ). (spec.next (list_of spec.next spec.init xs) operation).0) log_was
+              ∙ sym (ap (list_of spec.next spec.init) log_is
+              ∙ list_of-push spec.next spec.init
+              (operations_below (object_word s w) total p) operation);
           reply = refl;
         }
 
@@ -388,28 +396,31 @@ module _ (init : List ℕ) (next : List ℕ → ℕ → List ℕ × ℕ) (n cap 
 
   -- What an allowed reply says: the own place in the log is known, and the operations below it.
   reply_at_is : (op reply : ℕ) (steps : List Object_step) (o : Option ℕ)
-      → known_reply next init total op steps o ≡ Some reply
-      → (p : ℕ) × (operations : List ℕ) × (o ≡ Some p) × (known_log total steps p ≡ Some operations)
-      × ((next (list_of next init operations) op).1 ≡ reply)
+      → known_reply spec total op steps o ≡ Some reply → (p : ℕ) × (operations : List ℕ)
+      × (o ≡ Some p) × (known_log total steps p ≡ Some operations)
+      × ((spec.next (list_of spec.next spec.init operations) op).1 ≡ reply)
   reply_at_is op reply steps None e = absurd (none-some reply e)
   reply_at_is op reply steps (Some p) e = by_log (known_log total steps p) refl e
     where
       by_log : (l : Option (List ℕ)) → known_log total steps p ≡ l
-          → reply_after next init op l ≡ Some reply
-          → (q : ℕ) × (operations : List ℕ) × (Some p ≡ Some q)
+          → reply_after spec op l ≡ Some reply → (q : ℕ) × (operations : List ℕ) × (Some p ≡ Some q)
           × (known_log total steps q ≡ Some operations)
-          × ((next (list_of next init operations) op).1 ≡ reply)
+          × ((spec.next (list_of spec.next spec.init operations) op).1 ≡ reply)
       by_log None is h = absurd (none-some reply h)
-      by_log (Some operations) is h =
-          (p, operations, refl, is, same_Some (next (list_of next init operations) op).1 reply h)
+      by_log (Some operations) is h = (
+        p,
+        operations,
+        refl,
+        is,
+        same_Some (spec.next (list_of spec.next spec.init operations) op).1 reply h,
+      )
 
   -- The reply of a call whose ticket is at a place of the log.
   reply_of_ticket : (w : World) (i k p op reply : ℕ) (operations : List ℕ) → IsLog s w → k < cap
-      → slice_get (local_of w i).operations k ≡ Some op
-      → p < total → ticket w p ≡ ticket_of (number_of cap i k)
-      → operations_below (object_word s w) total p ≡ operations
-      → (next (list_of next init operations) op).1 ≡ reply
-      → (log_effects init next n cap).reply w (call_of i k) ≡ Some reply
+      → slice_get (local_of w i).operations k ≡ Some op → p < total → ticket w p
+      ≡ ticket_of (number_of cap i k) → operations_below (object_word s w) total p ≡ operations
+      → (spec.next (list_of spec.next spec.init operations) op).1 ≡ reply
+      → (log_effects spec n cap).reply w (call_of i k) ≡ Some reply
   reply_of_ticket w i k p op reply operations log few there low stands below is =
       let number : ℕ = number_of cap i k in
       let word : ℕ → ℕ = object_word s w in
@@ -429,10 +440,11 @@ module _ (init : List ℕ) (next : List ℕ → ℕ → List ℕ × ℕ) (n cap 
       place_found word total (ticket_of number) total p low stands
       (λ q q_low at.
       log.once q p q_low low (λ free. omega (arith, sym at ∙ free)) (at ∙ sym stands)) in
-      cond-true (nat_lt k cap) (reply_of_number next init word total number) None (lt-ltb k cap few)
-      ∙ ap (reply_there next init word total number) found
-      ∙ ap (λ (y : ℕ). Some (next (list_of next init (operations_below word total p)) y).1) words
-      ∙ ap (λ (xs : List ℕ). Some (next (list_of next init xs) op).1) below
+      cond-true (nat_lt k cap) (reply_of_number spec word total number) None (lt-ltb k cap few)
+      ∙ ap (reply_there spec word total number) found
+      ∙ ap (λ (y : ℕ).
+      Some (spec.next (list_of spec.next spec.init (operations_below word total p)) y).1) words
+      ∙ ap (λ (xs : List ℕ). Some (spec.next (list_of spec.next spec.init xs) op).1) below
       ∙ ap Some is
 
   -- A ticket that a step left at a place is still at that place.
@@ -441,7 +453,7 @@ module _ (init : List ℕ) (next : List ℕ → ℕ → List ℕ × ℕ) (n cap 
   placed_stands w t p steps lasting is =
       let f = placed_step (IsLasting s w) total t p steps lasting is in (
         elim f.holds.kind [
-          | inl h ↦ absurd (omega (arith, f.at, logs.held_low init next n cap w f.step.place h))
+          | inl h ↦ absurd (omega (arith, f.at, logs.held_low spec n cap w f.step.place h))
           | inr high ↦ omega (arith, f.at, high.1)
         ],
         ap (object_word s w) (sym f.at) ∙ f.holds.stands ∙ f.left,
@@ -450,8 +462,7 @@ module _ (init : List ℕ) (next : List ℕ → ℕ → List ℕ × ℕ) (n cap 
   -- A call that returns has taken effect, with this reply.
   returns : (w : World) (i x reply : ℕ) → Kept s w → IsLog s w
       → IsTrue (is_possible s w (return_of i x reply))
-      → (log_effects init next n cap).reply w (call_of i (length (local_of w i).replies))
-      ≡ Some reply
+      → (log_effects spec n cap).reply w (call_of i (length (local_of w i).replies)) ≡ Some reply
   returns w i x reply kept log may =
       let me : Local = local_of w i in
       let r = return s w i x reply kept may in
@@ -460,11 +471,11 @@ module _ (init : List ℕ) (next : List ℕ → ℕ → List ℕ × ℕ) (n cap 
       let lasting = log.lasting i r.caller in
       let place : Option ℕ = placed_at total (ticket_of (number_of cap i k)) (steps_now me) in
       let parts = reply_at_is op reply (all_steps_of me) place
-      (reply_is (known_reply next init total op (all_steps_of me) place) reply r.allowed) in
+      (reply_is (known_reply spec total op (all_steps_of me) place) reply r.allowed) in
       let at =
       placed_stands w (ticket_of (number_of cap i k)) parts.0 (steps_now me)
       (each_at (Each (IsLasting s w)) me.object_steps k [] lasting r.call.has_steps) parts.2 in
-      subst (λ (j : ℕ). (log_effects init next n cap).reply w (call_of i j) ≡ Some reply)
+      subst (λ (j : ℕ). (log_effects spec n cap).reply w (call_of i j) ≡ Some reply)
       (sym r.call.replies)
       (reply_of_ticket w i k parts.0 op reply parts.1 log r.call.few r.call.operation at.0 at.1
       (known_log_is w (all_steps_of me)
@@ -473,7 +484,7 @@ module _ (init : List ℕ) (next : List ℕ → ℕ → List ℕ × ℕ) (n cap 
   -- What each step does to the effects of a log.
   same_words : (w u : World) → IsLog s w
       → ((place : ℕ) → object_word s u place ≡ object_word s w place)
-      → IsQuiet (log_effects init next n cap) w u
+      → IsQuiet (log_effects spec n cap) w u
   same_words w u log same =
       quiet w u log (λ place h. same place) (λ q low. sym (same (ticket_place total q)))
 
@@ -483,18 +494,18 @@ module _ (init : List ℕ) (next : List ℕ → ℕ → List ℕ × ℕ) (n cap 
       (local_of (after s w (record { who = who; event = Object step })) who) (Object step))
       (steps : (local_of (after s w (record { who = who; event = Object step })) who).object_steps
       ≡ with_step (local_of w who).object_steps (local_of w who).published step)
-      → logs.StepCase init next n cap w who step → IsQuietOrTakesEffect next s
-      (log_effects init next n cap) w (after s w (record { who = who; event = Object step }))
+      → logs.StepCase spec n cap w who step → IsQuietOrTakesEffect spec.next s
+      (log_effects spec n cap) w (after s w (record { who = who; event = Object step }))
   by_deed w who kept log step may added steps (logs.Leaves same lasting) =
       inl (same_words w (after s w (record { who = who; event = Object step })) log
-      (logs.words_same init next n cap w who kept log step may added steps same lasting))
+      (logs.words_same spec n cap w who kept log step may added steps same lasting))
   by_deed w who kept log step may added steps (logs.Stores half low at is) =
-      let m = logs.keeps_store init next n cap w who kept log step may added steps half low at is in
+      let m = logs.keeps_store spec n cap w who kept log step may added steps half low at is in
       inl (quiet w (after s w (record { who = who; event = Object step })) log m.held
       (λ q below.
       sym
-      (logs.word_other init next n cap w who kept log step may added steps (ticket_place total q)
-      (logs.before_tickets init next n cap w who kept log step may added steps half low at is q))))
+      (logs.word_other spec n cap w who kept log step may added steps (ticket_place total q)
+      (logs.before_tickets spec n cap w who kept log step may added steps half low at is q))))
   by_deed w who kept log step may added steps
       (logs.Places high free is below has_low has_high none) =
       inr (
@@ -505,7 +516,7 @@ module _ (init : List ℕ) (next : List ℕ → ℕ → List ℕ × ℕ) (n cap 
   by_event : (w : World) (who : ℕ) (kept : Kept s w) (log : IsLog s w) (event : Event)
       (may : IsTrue (is_possible s w (record { who = who; event = event })))
       → Adds (local_of w who) (local_of (after s w (record { who = who; event = event })) who) event
-      → IsQuietOrTakesEffect next s (log_effects init next n cap) w
+      → IsQuietOrTakesEffect spec.next s (log_effects spec n cap) w
       (after s w (record { who = who; event = event }))
   by_event w who kept log event may (Adds_nothing no_step operations steps) =
       inl (same_words w (after s w (record { who = who; event = event })) log
@@ -525,22 +536,23 @@ module _ (init : List ℕ) (next : List ℕ → ℕ → List ℕ × ℕ) (n cap 
       let added : Adds (local_of w who) (local_of (v (Object step)) who) (Object step) =
       subst (λ (ev : Event). Adds (local_of w who) (local_of (v ev) who) ev) is
       (Adds_step step is operations steps) in
-      subst (λ (ev : Event). IsQuietOrTakesEffect next s (log_effects init next n cap) w (v ev))
+      subst (λ (ev : Event). IsQuietOrTakesEffect spec.next s (log_effects spec n cap) w (v ev))
       (sym is)
       (by_deed w who kept log step here added made
-      (logs.deed init next n cap w who kept log step here))
+      (logs.deed spec n cap w who kept log step here))
 
   free_at_start : (p : ℕ) → ticket (start s) p ≡ 0
   free_at_start p =
       get_or-replicate_default (words_of s) (object_index n cap (ticket_place total p)) 0
 
-  pub has_effects : HasEffects init next s (log_effects init next n cap)
+  pub has_effects : HasEffects spec s (log_effects spec n cap)
   has_effects =
       record {
-        first = ap (list_of next init) (operations_end (object_word s (start s)) total 0 total
+        first =
+            ap (list_of spec.next spec.init) (operations_end (object_word s (start s)) total 0 total
             (omega arith) (λ q from low. free_at_start q));
         none = λ call.
-            ap (λ (o : Option ℕ). if nat_lt call.number cap then reply_there next init
+            ap (λ (o : Option ℕ). if nat_lt call.number cap then reply_there spec
             (object_word s (start s)) total (number_of cap call.caller call.number) o else None)
             (no_place (object_word s (start s)) total
             (ticket_of (number_of cap call.caller call.number)) total
@@ -548,13 +560,13 @@ module _ (init : List ℕ) (next : List ℕ → ℕ → List ℕ × ℕ) (n cap 
             ∙ both_none (nat_lt call.number cap);
         step = λ w step reach may.
             let kept = reachable_kept s w reach in
-            by_event w step.who kept (logs.rules_hold init next n cap w reach) step.event may
+            by_event w step.who kept (logs.rules_hold spec n cap w reach) step.event may
             (step_adds s w step kept may);
         returns = λ w i x reply reach may. returns w i x reply (reachable_kept s w reach)
-            (logs.rules_hold init next n cap w reach) may;
+            (logs.rules_hold spec n cap w reach) may;
       }
 
 pub logs_linearize : LogsLinearize
-logs_linearize init next n cap steps run =
-    effects_linearize init next (log_shape init next n cap) (log_effects init next n cap)
-    (has_effects init next n cap) steps run
+logs_linearize spec n cap steps run =
+    effects_linearize spec (log_shape spec n cap) (log_effects spec n cap)
+    (has_effects spec n cap) steps run

@@ -4,6 +4,7 @@ use Rattle.std.proofs.lemmas.Bool.{and_parts, cases_lt, cases_Bool, lt-ltb, ltb-
 use Rattle.std.proofs.lemmas.Nat.{same_from_place}
 use Rattle.std.proofs.lemmas.Option.{none-some}
 use Rattle.list_laws.proofs.Options.{cases_Option, none_from_never}
+use Rattle.book_base.specs.SeqSpec.{SeqSpec}
 use Rattle.book_base.specs.OperationWord.{joined}
 use Rattle.book_base.specs.declared.call.Call.{Call}
 use Rattle.world_core.specs.Shape.{Shape}
@@ -26,9 +27,9 @@ use Rattle.log_program.proofs.LogWords.{place_is, no_place_is}
 use Rattle.log_program.proofs.LogSteps.{rules_hold, tickets_stay}
 use Rattle.log_program.proofs.LogEffects.{placed_stands, has_effects}
 
-module _ (init : List ℕ) (next : List ℕ → ℕ → List ℕ × ℕ) (n cap : ℕ) where
+module _ (spec : SeqSpec) (n cap : ℕ) where
   abbrev s : Shape
-  s = log_shape init next n cap
+  s = log_shape spec n cap
 
   abbrev total : ℕ
   total = n * cap
@@ -37,7 +38,7 @@ module _ (init : List ℕ) (next : List ℕ → ℕ → List ℕ × ℕ) (n cap 
   ticket w q = object_word s w (ticket_place total q)
 
   abbrev reply : World → Call → Option ℕ
-  reply w call = (log_effects init next n cap).reply w call
+  reply w call = (log_effects spec n cap).reply w call
 
   abbrev own_ticket : Call → ℕ
   own_ticket call = ticket_of (number_of cap call.caller call.number)
@@ -49,18 +50,18 @@ module _ (init : List ℕ) (next : List ℕ → ℕ → List ℕ × ℕ) (n cap 
       elim (cases_Bool (nat_lt call.number cap)) [
         | inl few ↦ few
         | inr many ↦
-            absurd (none-some x (sym (cond-false (nat_lt call.number cap) (reply_of_number next init
+            absurd (none-some x (sym (cond-false (nat_lt call.number cap) (reply_of_number spec
             (object_word s w) total (number_of cap call.caller call.number)) None many) ∙ is))
       ]
 
   -- the ticket of a call with a reply is at a place of the log
   place_of_reply : (w : World) (number x : ℕ) (o : Option ℕ)
-      → reply_there next init (object_word s w) total number o ≡ Some x → (p : ℕ) × (o ≡ Some p)
+      → reply_there spec (object_word s w) total number o ≡ Some x → (p : ℕ) × (o ≡ Some p)
   place_of_reply w number x None is = absurd (none-some x is)
   place_of_reply w number x (Some p) is = (p, refl)
 
   no_place_of_none : (w : World) (number : ℕ) (o : Option ℕ)
-      → reply_there next init (object_word s w) total number o ≡ None → o ≡ None
+      → reply_there spec (object_word s w) total number o ≡ None → o ≡ None
   no_place_of_none w number None is = refl
   no_place_of_none w number (Some p) is = absurd cc
 
@@ -68,9 +69,9 @@ module _ (init : List ℕ) (next : List ℕ → ℕ → List ℕ × ℕ) (n cap 
       × (ticket w p ≡ own_ticket call)
   has_place w call x is =
       let number : ℕ = number_of cap call.caller call.number in
-      let there : reply_of_number next init (object_word s w) total number ≡ Some x =
+      let there : reply_of_number spec (object_word s w) total number ≡ Some x =
       sym (cond-true (nat_lt call.number cap)
-      (reply_of_number next init (object_word s w) total number) None (reply_few w call x is))
+      (reply_of_number spec (object_word s w) total number) None (reply_few w call x is))
       ∙ is in
       let found = place_of_reply w number x
       (place_with (object_word s w) total (ticket_of number) total) there in
@@ -81,9 +82,9 @@ module _ (init : List ℕ) (next : List ℕ → ℕ → List ℕ × ℕ) (n cap 
       → (q : ℕ) → q < total → ticket w q ≢ own_ticket call
   has_no_place w call few is =
       let number : ℕ = number_of cap call.caller call.number in
-      let none : reply_of_number next init (object_word s w) total number ≡ None =
+      let none : reply_of_number spec (object_word s w) total number ≡ None =
       sym (cond-true (nat_lt call.number cap)
-      (reply_of_number next init (object_word s w) total number) None few) ∙ is in
+      (reply_of_number spec (object_word s w) total number) None few) ∙ is in
       no_place_is (object_word s w) total (ticket_of number) total
       (no_place_of_none w number (place_with (object_word s w) total (ticket_of number) total) none)
 
@@ -94,7 +95,7 @@ module _ (init : List ℕ) (next : List ℕ → ℕ → List ℕ × ℕ) (n cap 
       none_from_never (reply w (call_of i k)) (λ x is.
       let few : k < cap = ltb-true k cap (reply_few w (call_of i k) x is) in
       let at = has_place w (call_of i k) x is in
-      let t = (rules_hold init next n cap w reach).named at.0 at.1
+      let t = (rules_hold spec n cap w reach).named at.0 at.1
       (λ free. omega (arith, sym at.2 ∙ free)) in
       let same = same_from_place t.i t.k i k cap t.call.few few (omega (arith, t.ticket, at.2)) in
       let made : slice_get (slice_index_or (local_of w i).object_steps k []) t.placed.j
@@ -109,7 +110,7 @@ module _ (init : List ℕ) (next : List ℕ → ℕ → List ℕ × ℕ) (n cap 
   -- the call under way has a reply where its program allows it one
   pub reply_where_allowed : (w : World) → IsReachable s w → (i answer : ℕ) → i < n
       → (local_of w i).published < length (local_of w i).operations
-      → IsTrue (log_may_reply next init n cap i (local_of w i) answer) → (x : ℕ)
+      → IsTrue (log_may_reply spec n cap i (local_of w i) answer) → (x : ℕ)
       × (reply w (call_of i (local_of w i).published) ≡ Some x)
   reply_where_allowed w reach i answer caller there may =
       let me : Local = local_of w i in
@@ -121,27 +122,27 @@ module _ (init : List ℕ) (next : List ℕ → ℕ → List ℕ × ℕ) (n cap 
       let has_steps : k < length me.object_steps =
       omega (arith, there, agrees.phase.operations, agrees.phase.object_steps) in
       let lasting = each_at (Each (IsLasting s w)) me.object_steps
-      k [] ((rules_hold init next n cap w reach).lasting i caller) has_steps in
+      k [] ((rules_hold spec n cap w reach).lasting i caller) has_steps in
       let place : Option ℕ = placed_at total (ticket_of number) (steps_now me) in
-      let allowed : known_reply next init total (operation_now me) (all_steps_of me) place
+      let allowed : known_reply spec total (operation_now me) (all_steps_of me) place
       ≡ Some answer =
-      reply_is (known_reply next init total (operation_now me) (all_steps_of me) place)
+      reply_is (known_reply spec total (operation_now me) (all_steps_of me) place)
       answer may in
       elim (cases_Option place) [
         | inl none ↦ absurd (none-some answer (sym
-            (ap (known_reply next init total (operation_now me) (all_steps_of me)) none) ∙ allowed))
+            (ap (known_reply spec total (operation_now me) (all_steps_of me)) none) ∙ allowed))
         | inr some ↦
-            let at = placed_stands init next n cap w (ticket_of number) some.0
+            let at = placed_stands spec n cap w (ticket_of number) some.0
             (steps_now me) lasting some.1 in
             elim (cases_Option (place_with word total (ticket_of number) total)) [
               | inl nowhere ↦
                   absurd (no_place_is word total (ticket_of number) total nowhere some.0 at.0 at.1)
               | inr found ↦ (
-                (next (list_of next init (operations_below word total found.0))
+                (spec.next (list_of spec.next spec.init (operations_below word total found.0))
                     (joined (word (low_place number)) (word (high_place number)))).1,
-                cond-true (nat_lt k cap) (reply_of_number next init word total number) None
+                cond-true (nat_lt k cap) (reply_of_number spec word total number) None
                     (lt-ltb k cap few)
-                    ∙ ap (reply_there next init word total number) found.1,
+                    ∙ ap (reply_there spec word total number) found.1,
               )
             ]
       ]
@@ -158,20 +159,19 @@ module _ (init : List ℕ) (next : List ℕ → ℕ → List ℕ × ℕ) (n cap 
 
   -- of two calls, the one that took effect first has the lower place
   lower : (steps : List Step) → IsRun s steps → (a b : Call) (y : ℕ)
-      → TakesEffectBefore s (log_effects init next n cap) steps a b
-      → reply (end_of s steps) b ≡ Some y → (p q : ℕ) × (p < q) × HasPlace s (end_of s steps) a p
-      × HasPlace s (end_of s steps) b q
+      → TakesEffectBefore s (log_effects spec n cap) steps a b → reply (end_of s steps) b ≡ Some y
+      → (p q : ℕ) × (p < q) × HasPlace s (end_of s steps) a p × HasPlace s (end_of s steps) b q
   lower steps run a b y t is =
       let v : World = end_of s t.before in
       let both : IsRun s (t.before ++ t.later) = subst (IsRun s) (sym t.run) run in
       let parts = and_parts (are_possible s (start s) t.before) (are_possible s v t.later)
       (sym (are_possible-append s (start s) t.before t.later) ∙ both) in
-      let log = rules_hold init next n cap v (t.before, parts.0, refl) in
+      let log = rules_hold spec n cap v (t.before, parts.0, refl) in
       let first = has_place v a t.reply t.first in
       let last = has_place (end_of s steps) b y is in
       let stays : (q : ℕ) → ticket v q ≢ 0 → ticket (end_of s steps) q ≡ ticket v q =
       λ q filled. ap (λ (sts : List Step). ticket (end_of s sts) q) (sym t.run)
-      ∙ tickets_stay init next n cap t.before t.later q both filled in
+      ∙ tickets_stay spec n cap t.before t.later q both filled in
       let filled : ticket v first.0 ≢ 0 = λ free. omega (arith, sym first.2 ∙ free) in
       let none = has_no_place v b (reply_few (end_of s steps) b y is) t.second in
       let below : first.0 < last.0 = elim (cases_lt first.0 last.0) [
@@ -191,14 +191,14 @@ module _ (init : List ℕ) (next : List ℕ → ℕ → List ℕ × ℕ) (n cap 
       )
 
 pub log_orders_are_of_tickets : LogOrdersAreOfTickets
-log_orders_are_of_tickets init next n cap steps run =
-    let sh : Shape = log_shape init next n cap in
-    let found = the_order_is_of_effects init next sh (log_effects init next n cap)
-    (has_effects init next n cap) steps run in (
+log_orders_are_of_tickets spec n cap steps run =
+    let sh : Shape = log_shape spec n cap in
+    let found = the_order_is_of_effects spec sh (log_effects spec n cap)
+    (has_effects spec n cap) steps run in (
       found.0,
       found.1,
       found.2,
       λ p q a b lt at there.
-          lower init next n cap steps run a.call b.call b.reply
+          lower spec n cap steps run a.call b.call b.reply
           (found.2.ordered p q a b lt at there) (found.2.replied b (contained found.0 q b there)),
     )

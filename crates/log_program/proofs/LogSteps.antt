@@ -5,6 +5,7 @@ use Rattle.std.proofs.lemmas.Option.{same_Some}
 use Rattle.std.proofs.lemmas.List.{get_or-set_other, get_or-set_same}
 use Rattle.std.proofs.lemmas.Nat.{mul-add-lt, same_from_place}
 use Rattle.list_laws.proofs.Places.{get_or-replicate_default, slice_get-push_old, slice_get-push_last}
+use Rattle.book_base.specs.SeqSpec.{SeqSpec}
 use Rattle.book_base.specs.OperationWord.{low_of, high_of}
 use Rattle.world_core.specs.Layout.{object_index}
 use Rattle.world_core.specs.Shape.{Shape, words_of}
@@ -70,9 +71,9 @@ adds_carries l m e low (Adds_step made event operations steps) =
           ];
     }
 
-module _ (init : List ℕ) (next : List ℕ → ℕ → List ℕ × ℕ) (n cap : ℕ) where
+module _ (spec : SeqSpec) (n cap : ℕ) where
   abbrev pub s : Shape
-  s = log_shape init next n cap
+  s = log_shape spec n cap
 
   abbrev pub total : ℕ
   total = n * cap
@@ -825,15 +826,15 @@ module _ (init : List ℕ) (next : List ℕ → ℕ → List ℕ × ℕ) (n cap 
       (λ free. filled (sym stays ∙ free)) ∙ stays
 
 pub log_rules_hold : LogRulesHold
-log_rules_hold init next n cap w reach = rules_hold init next n cap w reach
+log_rules_hold spec n cap w reach = rules_hold spec n cap w reach
 
 pub tickets_stay : TicketsStay
-tickets_stay init next n cap before later p run filled =
-    let sh : Shape = log_shape init next n cap in
+tickets_stay spec n cap before later p run filled =
+    let sh : Shape = log_shape spec n cap in
     let on = goes_on sh before later run in
     let parts =
     and_parts (are_possible sh (start sh) before) (are_possible sh (end_of sh before) later)
     (sym (are_possible-append sh (start sh) before later) ∙ run) in
-    let log = rules_hold init next n cap (end_of sh before) (before, parts.0, refl) in
+    let log = rules_hold spec n cap (end_of sh before) (before, parts.0, refl) in
     ap (λ (v : World). ticket_at sh v p) on.at
-    ∙ tickets_after init next n cap (end_of sh before) later p on.kept log on.may filled
+    ∙ tickets_after spec n cap (end_of sh before) later p on.kept log on.may filled

@@ -14,12 +14,12 @@ use Rattle.log_program.specs.LogProgram.{log_shape}
 -- before. The words of caller 0 lie at places 0 and 1, those of caller 1 at 2 and 3, and the log at
 -- 4 and 5; their tickets are 1 and 2.
 abbrev pub log_pair : Shape
-log_pair = log_shape [] numbering 2 1
+log_pair = log_shape numbering 2 1
 
 -- One caller with two calls over the log of an object whose reply is the number of operations
 -- before, with the words of its calls and the log at the same places.
 abbrev pub log_alone : Shape
-log_alone = log_shape [] numbering 1 2
+log_alone = log_shape numbering 1 2
 
 -- A caller makes an object step at a place that finds one word and leaves another.
 abbrev pub steps_at : ℕ → ℕ → ℕ → ℕ → Step

@@ -1,6 +1,7 @@
 -- What the words of a log say: its operations in order, and the reply of each call whose ticket is
 -- placed. A call takes effect as its ticket is placed.
 use Rattle.std.specs.Prelude.{◌≡◌, ℕ, zero, suc, ◌*◌, ◌<◌, ◌==◌, nat_lt, if◌then◌else◌, List, [], ◌∷◌, ◌++◌, Option, Some, None, slice_get}
+use Rattle.book_base.specs.SeqSpec.{SeqSpec}
 use Rattle.book_base.specs.OperationWord.{joined}
 use Rattle.book_base.specs.declared.call.Call.{Call}
 use Rattle.world_core.specs.Shape.{Shape}
@@ -28,27 +29,27 @@ place_with word total ticket (suc p) =
     if word (ticket_place total p) == ticket then Some p else place_with word total ticket p
 
 -- The reply of the call with this number, whose ticket is at place p.
-abbrev pub reply_there : (List ℕ → ℕ → List ℕ × ℕ) → List ℕ → (ℕ → ℕ) → ℕ → ℕ → Option ℕ → Option ℕ
-reply_there next init word total number None = None
-reply_there next init word total number (Some p) =
-    Some (next (list_of next init (operations_below word total p))
+abbrev pub reply_there : SeqSpec → (ℕ → ℕ) → ℕ → ℕ → Option ℕ → Option ℕ
+reply_there spec word total number None = None
+reply_there spec word total number (Some p) =
+    Some (spec.next (list_of spec.next spec.init (operations_below word total p))
     (joined (word (low_place number)) (word (high_place number)))).1
 
 -- The reply of the call with this number, where its ticket is placed.
-abbrev pub reply_of_number : (List ℕ → ℕ → List ℕ × ℕ) → List ℕ → (ℕ → ℕ) → ℕ → ℕ → Option ℕ
-reply_of_number next init word total number =
-    reply_there next init word total number (place_with word total (ticket_of number) total)
+abbrev pub reply_of_number : SeqSpec → (ℕ → ℕ) → ℕ → ℕ → Option ℕ
+reply_of_number spec word total number =
+    reply_there spec word total number (place_with word total (ticket_of number) total)
 
 -- The effects of a log: the list after all its operations, and the replies of the calls whose
 -- tickets are placed.
-abbrev pub log_effects : List ℕ → (List ℕ → ℕ → List ℕ × ℕ) → ℕ → ℕ → Effects
-log_effects init next n cap =
+abbrev pub log_effects : SeqSpec → ℕ → ℕ → Effects
+log_effects spec n cap =
     record {
-      list = λ w. list_of next init
-          (operations_below (object_word (log_shape init next n cap) w) (n * cap) (n * cap));
+      list = λ w. list_of spec.next spec.init
+          (operations_below (object_word (log_shape spec n cap) w) (n * cap) (n * cap));
       reply = λ w call.
           if nat_lt call.number cap
-          then reply_of_number next init (object_word (log_shape init next n cap) w) (n * cap)
+          then reply_of_number spec (object_word (log_shape spec n cap) w) (n * cap)
           (number_of cap call.caller call.number)
           else None;
     }
@@ -69,17 +70,17 @@ IsInTicketOrder s w order =
 -- callers and cap.
 abbrev pub LogsLinearize : Type 0
 LogsLinearize =
-    (init : List ℕ) (next : List ℕ → ℕ → List ℕ × ℕ) (n cap : ℕ) (steps : List Step)
-    → IsRun (log_shape init next n cap) steps
-    → IsLinearizable init next (history_of (log_shape init next n cap) steps)
+    (spec : SeqSpec) (n cap : ℕ) (steps : List Step)
+    → IsRun (log_shape spec n cap) steps
+    → IsLinearizable spec (history_of (log_shape spec n cap) steps)
 
 -- The object history of every run of a log has a linearization of just the calls whose tickets are
 -- placed, each with its reply, by the places of their tickets.
 abbrev pub LogOrdersAreOfTickets : Type 0
 LogOrdersAreOfTickets =
-    (init : List ℕ) (next : List ℕ → ℕ → List ℕ × ℕ) (n cap : ℕ) (steps : List Step)
-    → IsRun (log_shape init next n cap) steps
+    (spec : SeqSpec) (n cap : ℕ) (steps : List Step)
+    → IsRun (log_shape spec n cap) steps
     → (order : List Done)
-    × IsLinearization init next (history_of (log_shape init next n cap) steps) order
-    × IsOrderOfEffects (log_shape init next n cap) (log_effects init next n cap) steps order
-    × IsInTicketOrder (log_shape init next n cap) (end_of (log_shape init next n cap) steps) order
+    × IsLinearization spec (history_of (log_shape spec n cap) steps) order
+    × IsOrderOfEffects (log_shape spec n cap) (log_effects spec n cap) steps order
+    × IsInTicketOrder (log_shape spec n cap) (end_of (log_shape spec n cap) steps) order

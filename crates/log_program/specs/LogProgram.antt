@@ -1,6 +1,7 @@
 -- The program of the log: which object steps a call may make, in which order, and which reply it
 -- may get.
 use Rattle.std.specs.Prelude.{ℕ, ◌-◌, ◌*◌, Bool, false, not, ◌&&◌, ◌||◌, ◌==◌, nat_lt, if◌then◌else◌, List, [], ◌∷◌, Option, Some, None}
+use Rattle.book_base.specs.SeqSpec.{SeqSpec}
 use Rattle.book_base.specs.OperationWord.{low_of, high_of}
 use Rattle.world_core.specs.Shape.{Shape, Meaning}
 use Rattle.world_core.specs.Local.{Local, Object_step}
@@ -53,17 +54,16 @@ list_of next list [] = list
 list_of next list (operation ∷ operations) = list_of next (next list operation).0 operations
 
 -- The reply of a sequential object to an operation after those of a log, where the log is known.
-abbrev pub reply_after : (List ℕ → ℕ → List ℕ × ℕ) → List ℕ → ℕ → Option (List ℕ) → Option ℕ
-reply_after next init operation None = None
-reply_after next init operation (Some operations) =
-    Some (next (list_of next init operations) operation).1
+abbrev pub reply_after : SeqSpec → ℕ → Option (List ℕ) → Option ℕ
+reply_after spec operation None = None
+reply_after spec operation (Some operations) =
+    Some (spec.next (list_of spec.next spec.init operations) operation).1
 
 -- The reply to an operation whose ticket is at place p of the log, as far as some steps show.
-abbrev pub known_reply : (List ℕ → ℕ → List ℕ × ℕ) → List ℕ → ℕ → ℕ → List Object_step
-    → Option ℕ → Option ℕ
-known_reply next init total operation steps None = None
-known_reply next init total operation steps (Some p) =
-    reply_after next init operation (known_log total steps p)
+abbrev pub known_reply : SeqSpec → ℕ → ℕ → List Object_step → Option ℕ → Option ℕ
+known_reply spec total operation steps None = None
+known_reply spec total operation steps (Some p) =
+    reply_after spec operation (known_log total steps p)
 
 -- The steps that a call of a caller may make.
 abbrev pub log_may_step : ℕ → ℕ → ℕ → Local → Object_step → Bool
@@ -75,22 +75,22 @@ log_may_step n cap i l step =
 
 -- The reply that a call may get: that of the sequential object after the operations of the tickets
 -- below the call's own.
-abbrev pub log_may_reply : (List ℕ → ℕ → List ℕ × ℕ) → List ℕ → ℕ → ℕ → ℕ → Local → ℕ → Bool
-log_may_reply next init n cap i l reply =
+abbrev pub log_may_reply : SeqSpec → ℕ → ℕ → ℕ → Local → ℕ → Bool
+log_may_reply spec n cap i l reply =
     is_reply
-    (known_reply next init (n * cap) (operation_now l) (all_steps_of l)
+    (known_reply spec (n * cap) (operation_now l) (all_steps_of l)
     (placed_at (n * cap) (ticket_of (number_of cap i l.published)) (steps_now l)))
     reply
 
 -- The program of the log of a sequential object, for n callers and a cap.
-abbrev pub log_program : List ℕ → (List ℕ → ℕ → List ℕ × ℕ) → ℕ → ℕ → Meaning
-log_program init next n cap =
+abbrev pub log_program : SeqSpec → ℕ → ℕ → Meaning
+log_program spec n cap =
     record {
       objects = 3 * (n * cap);
       may_step = log_may_step n cap;
-      may_reply = log_may_reply next init n cap;
+      may_reply = log_may_reply spec n cap;
     }
 
 -- A world of n callers and a cap for the log of a sequential object.
-abbrev pub log_shape : List ℕ → (List ℕ → ℕ → List ℕ × ℕ) → ℕ → ℕ → Shape
-log_shape init next n cap = record { callers = n; cap = cap; program = log_program init next n cap }
+abbrev pub log_shape : SeqSpec → ℕ → ℕ → Shape
+log_shape spec n cap = record { callers = n; cap = cap; program = log_program spec n cap }

@@ -1,5 +1,6 @@
 -- The rules that hold in every reachable world of a log.
 use Rattle.std.specs.Prelude.{◌≡◌, ◌≢◌, ℕ, zero, suc, ◌+◌, ◌*◌, ◌<◌, ◌≤◌, ◌⊎◌, List, [], ◌++◌, Some, slice_get, slice_index_or, true, None}
+use Rattle.book_base.specs.SeqSpec.{SeqSpec}
 use Rattle.book_base.specs.OperationWord.{low_of, high_of}
 use Rattle.world_core.specs.Shape.{Shape}
 use Rattle.world_core.specs.Local.{Object_step}
@@ -79,24 +80,24 @@ pub record IsLog (s : Shape) (w : World) : Type 0 where
 -- The rules hold in every reachable world of a log.
 abbrev pub LogRulesHold : Type 0
 LogRulesHold =
-    (init : List ℕ) (next : List ℕ → ℕ → List ℕ × ℕ) (n cap : ℕ) (w : World)
-    → IsReachable (log_shape init next n cap) w → IsLog (log_shape init next n cap) w
+    (spec : SeqSpec) (n cap : ℕ) (w : World)
+    → IsReachable (log_shape spec n cap) w → IsLog (log_shape spec n cap) w
 
 -- A ticket never changes along a run.
 abbrev pub TicketsStay : Type 0
 TicketsStay =
-    (init : List ℕ) (next : List ℕ → ℕ → List ℕ × ℕ) (n cap : ℕ) (before later : List Step) (p : ℕ)
-    → IsRun (log_shape init next n cap) (before ++ later)
-    → ticket_at (log_shape init next n cap) (end_of (log_shape init next n cap) before) p ≢ 0
-    → ticket_at (log_shape init next n cap) (end_of (log_shape init next n cap) (before ++ later)) p
-    ≡ ticket_at (log_shape init next n cap) (end_of (log_shape init next n cap) before) p
+    (spec : SeqSpec) (n cap : ℕ) (before later : List Step) (p : ℕ)
+    → IsRun (log_shape spec n cap) (before ++ later)
+    → ticket_at (log_shape spec n cap) (end_of (log_shape spec n cap) before) p ≢ 0
+    → ticket_at (log_shape spec n cap) (end_of (log_shape spec n cap) (before ++ later)) p
+    ≡ ticket_at (log_shape spec n cap) (end_of (log_shape spec n cap) before) p
 
 -- While the call under way of a caller has no place in the log, some place of the log is free.
 abbrev pub SomePlaceIsFree : Type 0
 SomePlaceIsFree =
-    (init : List ℕ) (next : List ℕ → ℕ → List ℕ × ℕ) (n cap : ℕ) (w : World) (i : ℕ)
-    → IsReachable (log_shape init next n cap) w → i < n
+    (spec : SeqSpec) (n cap : ℕ) (w : World) (i : ℕ)
+    → IsReachable (log_shape spec n cap) w → i < n
     → is_asking (local_of w i).phase ≡ true
     → placed_at (n * cap) (ticket_of (number_of cap i (local_of w i).published))
     (steps_now (local_of w i)) ≡ None
-    → (p : ℕ) × (p < n * cap) × (ticket_at (log_shape init next n cap) w p ≡ 0)
+    → (p : ℕ) × (p < n * cap) × (ticket_at (log_shape spec n cap) w p ≡ 0)

@@ -6,6 +6,7 @@ use Rattle.std.specs.Option.{option_map}
 use Rattle.std.proofs.lemmas.Bool.{cases_eq, cases_lt}
 use Rattle.std.proofs.lemmas.List.Elements.{All-contains, All-map, All-weaker, Contains-get_or}
 use Rattle.std.proofs.lemmas.Option.{same_Some, none-some, slice_get_within, slice_get-get_or, slice_get-map, get_or_from_slice_get}
+use Rattle.book_base.specs.SeqSpec.{SeqSpec}
 use Rattle.book_base.specs.Sequential.{IsRunFrom}
 use Rattle.book_base.specs.Book.{Page, IsCall, operation_of}
 use Rattle.shared_log.specs.declared.entry.Entry.{Entry}
@@ -48,20 +49,21 @@ calls_of_order i (d ∷ order) =
     ]
 
 -- in a legal order the answers to the log are the replies
-pairs_of_order : (init : List ℕ) (next : List ℕ → ℕ → List ℕ × ℕ) (i : ℕ) (prefix : List Entry)
-    (order : List Done) → IsRunFrom next (list_after next init prefix) (map step_of order)
-    → pairs_after (last_reply next init) i prefix (map entry_of order)
-    ≡ map step_of (own_in i order)
-pairs_of_order init next i prefix [] run = refl
-pairs_of_order init next i prefix (d ∷ order) run =
+pairs_of_order : (spec : SeqSpec) (i : ℕ) (prefix : List Entry) (order : List Done)
+    → IsRunFrom spec.next (list_after spec.next spec.init prefix) (map step_of order) → pairs_after
+    (last_reply spec.next spec.init) i prefix (map entry_of order) ≡ map step_of (own_in i order)
+pairs_of_order spec i prefix [] run = refl
+pairs_of_order spec i prefix (d ∷ order) run =
     let more : List Entry = prefix ++ entry_of d ∷ [] in
-    let answer : ℕ = last_reply next init more in
-    let told : answer ≡ d.reply = last_reply_is_next next init prefix (entry_of d) ∙ run.0 in
-    let pairs : List (ℕ × ℕ) = pairs_after (last_reply next init) i more (map entry_of order) in
+    let answer : ℕ = last_reply spec.next spec.init more in
+    let told : answer ≡ d.reply =
+    last_reply_is_next spec.next spec.init prefix (entry_of d) ∙ run.0 in
+    let pairs : List (ℕ × ℕ) =
+    pairs_after (last_reply spec.next spec.init) i more (map entry_of order) in
     let rest : pairs ≡ map step_of (own_in i order) =
-    pairs_of_order init next i more order
-    (subst (λ (list : List ℕ). IsRunFrom next list (map step_of order))
-    (sym (list_after-append next init prefix (entry_of d ∷ []))) run.1) in
+    pairs_of_order spec i more order
+    (subst (λ (list : List ℕ). IsRunFrom spec.next list (map step_of order))
+    (sym (list_after-append spec.next spec.init prefix (entry_of d ∷ []))) run.1) in
     elim (d.call.caller == i) as (λ b. cond b ((d.operation, answer) ∷ pairs) pairs
     ≡ map step_of (cond b (d ∷ own_in i order) (own_in i order))) [
       | true ↦ (λ k. (d.operation, told k) ∷ rest k)
@@ -74,9 +76,8 @@ pub record TakesEffectAsAsked (e : Effects) (w : World) (i p : ℕ) : Type 0 whe
   pub unasked : p % 5 ≡ 1 → e.reply w (call_of i (judged p)) ≡ None
   pub asked_for : p % 5 ≡ 2 → (reply : ℕ) × (e.reply w (call_of i (judged p)) ≡ Some reply)
 
-module _ (init : List ℕ) (next : List ℕ → ℕ → List ℕ × ℕ) (s : Shape) (e : Effects)
-    (steps : List Step) (run : IsRun s steps) (order : List Done)
-    (lin : IsLinearization init next (history_of s steps) order)
+module _ (spec : SeqSpec) (s : Shape) (e : Effects) (steps : List Step) (run : IsRun s steps)
+    (order : List Done) (lin : IsLinearization spec (history_of s steps) order)
     (of : IsOrderOfEffects s e steps order) where
   abbrev last : World
   last = end_of s steps
@@ -221,17 +222,17 @@ module _ (init : List ℕ) (next : List ℕ → ℕ → List ℕ × ℕ) (s : Sh
           ∙ ap (option_map step_of) d.1
           ∙ ap₂ (λ (o r : ℕ). Some (o, r)) operation reply
 
-      replies : take (answered p) (pairs_of (last_reply next init) (map entry_of order) i)
+      replies : take (answered p) (pairs_of (last_reply spec.next spec.init) (map entry_of order) i)
           ≡ answers_in (calls_in l)
       replies =
-          ap (take (answered p)) (pairs_of_order init next i [] order lin.legal)
+          ap (take (answered p)) (pairs_of_order spec i [] order lin.legal)
           ∙ answers_are_first operations p l made (lengths i) (map step_of (own_in i order)) step_is
 
   -- where the calls that took effect are those that were asked, they are in one log
   pub effects_are_logged : (operations : ℕ → List ℕ) (phases : ℕ → ℕ)
       → ((i : ℕ) → i < s.callers → HasMade (operations i) (phases i) (local_of last i))
-      → ((i : ℕ) → i < s.callers → TakesEffectAsAsked e last i (phases i))
-      → IsLoggedBy (last_reply next init) s.callers phases (λ i. calls_in (local_at last.locals i))
+      → ((i : ℕ) → i < s.callers → TakesEffectAsAsked e last i (phases i)) → IsLoggedBy
+      (last_reply spec.next spec.init) s.callers phases (λ i. calls_in (local_at last.locals i))
   effects_are_logged operations phases made as_asked =
       record {
         log = map entry_of order;

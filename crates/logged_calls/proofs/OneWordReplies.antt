@@ -6,8 +6,9 @@ use Rattle.std.proofs.lemmas.List.Elements.{All-same, All-take, All-map}
 use Rattle.std.proofs.lemmas.List.FromFn.{length-range_with_len, get_or-range_with_len}
 use Rattle.std.proofs.lemmas.Option.{same_Some, none-some, slice_get-get_or}
 use Rattle.book_base.specs.declared.TheConstants.{BAD}
+use Rattle.book_base.specs.SeqSpec.{SeqSpec}
 use Rattle.seq_objects.specs.declared.kind.Kind.TheVariants.{Counter, Register}
-use Rattle.seq_objects.specs.Objects.{kind_init, kind_next}
+use Rattle.seq_objects.specs.Objects.{kind_spec}
 use Rattle.seq_objects.specs.Replies.{reply_done, reply_value}
 use Rattle.seq_objects.specs.Words.{is_operation_of, code_of, argument_of, extra_of}
 use Rattle.seq_objects.specs.Words as words
@@ -75,8 +76,8 @@ all_answers form operations p l made lengths each =
     each (get_or numbers k d)
     (omega (arith, within, get_or-range_with_len 0 (answered p) k d within)))))
 
-module _ (o : OneWord) (list : ℕ → List ℕ) (init : List ℕ) (next : List ℕ → ℕ → List ℕ × ℕ)
-    (serves : Serves o list init next) (n cap : ℕ) (form : ℕ → ℕ → Type 0)
+module _ (o : OneWord) (list : ℕ → List ℕ) (spec : SeqSpec) (serves : Serves o list spec)
+    (n cap : ℕ) (form : ℕ → ℕ → Type 0)
     (formed : (op reply : ℕ) → IsReplyOf o op reply → form op reply) where
   abbrev s : Shape
   s = one_word_shape n cap o
@@ -88,14 +89,14 @@ module _ (o : OneWord) (list : ℕ → List ℕ) (init : List ℕ) (next : List 
   formed_at_the_end steps run i operations p made =
       let w : World = end_of s steps in
       let l : Local = local_of w i in
-      let order = one_word_orders_are_of_steps o list init next serves n cap steps run in
+      let order = one_word_orders_are_of_steps o list spec serves n cap steps run in
       all_answers form operations p l made
       (all_lengths s w.locals (w, (steps, run, refl), refl) i) (λ k low.
       let op : ℕ = slice_index l.operations k in
       let there : slice_get l.operations k ≡ Some op =
       slice_get-get_or l.operations k 0 (omega (arith, low, has_begun operations p l made)) in
       let own : List Object_step = slice_index_or l.object_steps k [] in
-      let effect = answered_effect init next s
+      let effect = answered_effect spec s
       (one_word_effects s o list) steps run order.0 order.1 order.2 i operations p made k low in
       formed op (slice_index l.replies k) (reply_is_of o op (slice_index l.replies k) own
       (sym (ap (λ x. reply_if_announced o x own) there) ∙ effect)))
@@ -175,10 +176,10 @@ cell_form op reply (inr (none, is)) =
 
 pub runs_of_tallies_are_formed : RunsOfTalliesAreFormed
 runs_of_tallies_are_formed n cap operations phases locals h =
-    runs_are_formed tally count_in (kind_init Counter) (kind_next Counter) tally_serves_counter n
+    runs_are_formed tally count_in (kind_spec Counter) tally_serves_counter n
     cap IsTallyReply tally_form operations phases locals h
 
 pub runs_of_cells_are_formed : RunsOfCellsAreFormed
 runs_of_cells_are_formed n cap operations phases locals h =
-    runs_are_formed cell value_in (kind_init Register)
-    (kind_next Register) cell_serves_register n cap IsCellReply cell_form operations phases locals h
+    runs_are_formed cell value_in
+    (kind_spec Register) cell_serves_register n cap IsCellReply cell_form operations phases locals h

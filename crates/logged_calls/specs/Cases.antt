@@ -7,7 +7,7 @@ use Rattle.lawful_objects.specs.Replays.{last_reply}
 
 -- The answer of an object whose reply is the number of operations before.
 abbrev pub count_before : List Entry → ℕ
-count_before = last_reply numbering []
+count_before = last_reply numbering.next []
 
 -- A call of this operation that was answered with this reply.
 abbrev pub answered_with : ℕ → ℕ → Made

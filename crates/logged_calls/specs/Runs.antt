@@ -1,5 +1,6 @@
 -- What every run over an object inside the world says of the calls of its callers.
 use Rattle.std.specs.Prelude.{ℕ, ◌<◌, List}
+use Rattle.book_base.specs.SeqSpec.{SeqSpec}
 use Rattle.world_core.specs.Shape.{Shape}
 use Rattle.world_core.specs.Local.{Local}
 use Rattle.world_core.specs.Calls.{AreTogether, calls_in, local_at}
@@ -29,11 +30,11 @@ HaveAskedInTurn s phases locals = (i : ℕ) → i < s.callers
 -- object's, whatever the first list, the transition function, the number of callers and the cap.
 abbrev pub RunsOfLogsAreLogged : Type 0
 RunsOfLogsAreLogged =
-    (init : List ℕ) (next : List ℕ → ℕ → List ℕ × ℕ) (n cap : ℕ) (operations : ℕ → List ℕ)
+    (spec : SeqSpec) (n cap : ℕ) (operations : ℕ → List ℕ)
     (phases : ℕ → ℕ) (locals : List Local)
-    → HaveMadePhases (log_shape init next n cap) operations phases locals
-    → HaveAskedInTurn (log_shape init next n cap) phases locals
-    → IsLoggedBy (last_reply next init) n phases (λ i. calls_in (local_at locals i))
+    → HaveMadePhases (log_shape spec n cap) operations phases locals
+    → HaveAskedInTurn (log_shape spec n cap) phases locals
+    → IsLoggedBy (last_reply spec.next spec.init) n phases (λ i. calls_in (local_at locals i))
 
 -- In every run of a tally the reply of each answered call is a value exactly to an increment, and
 -- else bad.

@@ -3,6 +3,7 @@ use Rattle.std.proofs.Common.{◌≡◌, ◌∙◌, refl, sym, ap, subst, ℕ, �
 use Rattle.std.proofs.lemmas.Bool.{cases_lt}
 use Rattle.std.proofs.lemmas.List.{get_or_past, get_or-map}
 use Rattle.list_laws.proofs.Places.{slice_get-push_last, slice_get-push_cases}
+use Rattle.book_base.specs.SeqSpec.{SeqSpec}
 use Rattle.book_base.specs.Cut.{IsWithin}
 use Rattle.book_base.specs.Book.{Page}
 use Rattle.book_base.specs.BookAt.{book_at}
@@ -41,27 +42,27 @@ get_last {X} xs ys x = subst (λ (zs : List X). slice_get zs (length (xs ++ ys))
 one_less : (n m : ℕ) → n ≡ m + 1 → n - 1 ≡ m
 one_less n m e = omega (arith, e)
 
-module _ (init : List ℕ) (next : List ℕ → ℕ → List ℕ × ℕ) (s : Shape) (locals : List Local) (i : ℕ)
-    (t : AreTogether s locals) (low : i < s.callers) where
+module _ (spec : SeqSpec) (s : Shape) (locals : List Local) (i : ℕ) (t : AreTogether s locals)
+    (low : i < s.callers) where
   abbrev mine : Local
   mine = local_at locals i
 
   -- what caller i gathered is the book of all calls
-  legal : (cut : List ℕ) → IsLegalAt init next s.callers mine cut
-      → HasLegalOrder init next (book_at cut (book_in locals))
-  legal cut h = subst (HasLegalOrder init next)
+  legal : (cut : List ℕ) → IsLegalAt spec s.callers mine cut
+      → HasLegalOrder spec (book_at cut (book_in locals))
+  legal cut h = subst (HasLegalOrder spec)
       (gathered_is_the_book_at s locals i cut h.book t low h.gathered) h.order
 
-  illegal : (w : Witness) → IsIllegalAt init next s.callers mine w
-      → ¬ HasLegalOrder init next (book_at w.cut (book_in locals))
-  illegal w h = subst (λ (book : List Page). ¬ HasLegalOrder init next book)
+  illegal : (w : Witness) → IsIllegalAt spec s.callers mine w
+      → ¬ HasLegalOrder spec (book_at w.cut (book_in locals))
+  illegal w h = subst (λ (book : List Page). ¬ HasLegalOrder spec book)
       (gathered_is_the_book_at s locals i w.cut w.book t low h.gathered) h.none
 
   -- a witness whose cut a scan of M gave
   witness : (w : Witness) (k since : ℕ)
       → slice_get mine.cuts k ≡ Some (record { region = M; cut = w.cut; since = since })
-      → IsIllegalAt init next s.callers mine w
-      → IsWitnessOf init next locals w
+      → IsIllegalAt spec s.callers mine w
+      → IsWitnessOf spec locals w
   witness w k since there h =
       record {
         published = given_cuts_are_published s locals i k
@@ -71,8 +72,8 @@ module _ (init : List ℕ) (next : List ℕ → ℕ → List ℕ × ℕ) (s : Sh
       }
 
   judged : (most : ℕ) (rounds : List Given) (own : Option Witness)
-      → AreRounds init next s.callers most mine rounds own
-      → AreJudgedRounds init next (book_in locals) most rounds
+      → AreRounds spec s.callers most mine rounds own
+      → AreJudgedRounds spec (book_in locals) most rounds
   judged most rounds None h = record {
     few = omega (arith, h.0);
     regions = λ k given there. (h.1 k given there).region;
@@ -108,14 +109,14 @@ module _ (init : List ℕ) (next : List ℕ → ℕ → List ℕ × ℕ) (s : Sh
       }
 
 pub rounds_are_right : RoundsAreRight
-rounds_are_right init next s locals i l m own (Legal cut) t low more found =
+rounds_are_right spec s locals i l m own (Legal cut) t low more found =
     let (once, is, none) = found in
     let there = more.cuts (length l.cuts) (given_with l M cut) (given_last cut l m once) in (
       given_cuts_are_published s locals i (length l.cuts) (given_with l M cut) t low there refl,
-      legal init next s locals i t low cut
-          (legal_stays init next s.callers m (local_at locals i) cut more.peeked is),
+      legal spec s locals i t low cut
+          (legal_stays spec s.callers m (local_at locals i) cut more.peeked is),
     )
-rounds_are_right init next s locals i l m own (Illegal cut) t low more found =
+rounds_are_right spec s locals i l m own (Illegal cut) t low more found =
     let (once, w, is_own, at, is) = found in
     let mine : HasScannedOnce w.cut l m =
     subst (λ (x : List ℕ). HasScannedOnce x l m) (sym at) once in
@@ -123,16 +124,16 @@ rounds_are_right init next s locals i l m own (Illegal cut) t low more found =
       w,
       is_own,
       at,
-      witness init next s locals i t low w (length l.cuts) (length l.looked) there
-          (illegal_stays init next s.callers m (local_at locals i) w more.peeked is),
+      witness spec s locals i t low w (length l.cuts) (length l.looked) there
+          (illegal_stays spec s.callers m (local_at locals i) w more.peeked is),
     )
 
 pub rounds_are_judged : RoundsAreJudged
-rounds_are_judged init next s locals i most before own t low h =
-    (h.rounds, h.cuts, judged init next s locals i t low most h.rounds own h.are)
+rounds_are_judged spec s locals i most before own t low h =
+    (h.rounds, h.cuts, judged spec s locals i t low most h.rounds own h.are)
 
 pub own_is_a_witness : OwnIsAWitness
-own_is_a_witness init next s locals i most before w t low h =
+own_is_a_witness spec s locals i most before w t low h =
     let ends = h.are.1 in
     let given : Given = record { region = M; cut = w.cut; since = ends.since } in
     let place : ℕ = length (before.cuts ++ ends.before) in
@@ -140,7 +141,7 @@ own_is_a_witness init next s locals i most before w t low h =
     ap (λ (cuts : List Given). slice_get cuts place) h.cuts
     ∙ ap (λ (rounds : List Given). slice_get (before.cuts ++ rounds) place) ends.is
     ∙ get_last before.cuts ends.before given in
-    witness init next s locals i t low w place ends.since there ends.illegal
+    witness spec s locals i t low w place ends.since there ends.illegal
 
 -- a published cut is within all that is published
 published_within : (locals : List Local) (cut : List ℕ) → IsPublished locals cut
@@ -156,7 +157,7 @@ published_within locals cut p i =
     ]
 
 pub witnesses_are_final : WitnessesAreFinal
-witnesses_are_final init next s locals w t h =
-    larger_has_none init next (book_in locals) w.cut (published_of locals)
+witnesses_are_final spec s locals w t h =
+    larger_has_none spec (book_in locals) w.cut (published_of locals)
     (books_are_valid s locals t) (published_within locals w.cut h.published)
-    (subst (λ (book : List Page). ¬ HasLegalOrder init next book) h.book h.none)
+    (subst (λ (book : List Page). ¬ HasLegalOrder spec book) h.book h.none)

@@ -1,7 +1,8 @@
 -- Watches before and after their rounds.
-use Rattle.std.proofs.Common.{◌≡◌, ◌∙◌, sym, ap, subst, ℕ, List, Option}
+use Rattle.std.proofs.Common.{◌≡◌, ◌∙◌, sym, ap, subst, ℕ, Option}
 use Rattle.std.specs.Prelude.{◌≢◌, None}
 use Rattle.std.proofs.lemmas.Option.{same_Some}
+use Rattle.book_base.specs.SeqSpec.{SeqSpec}
 use Rattle.world_core.specs.Shape.{Meaning}
 use Rattle.world_core.specs.Local.{Local}
 use Rattle.report_lines.specs.Phases.{progress_of}
@@ -23,10 +24,10 @@ pub watch_ready : {P : Type 0} {meaning : P → ℕ → ℕ → Meaning} {r : Ro
     → IsWatchOf meaning r b i l most w → IsReady meaning r b w
 watch_ready h = record { monitor = h.monitor; here = h.here; fresh = h.fresh }
 
-module _ {P : Type 0} {init : List ℕ} {next : List ℕ → ℕ → List ℕ × ℕ}
-    {meaning : P → ℕ → ℕ → Meaning} {r : Rows P} {i : ℕ} {l : Local} {most : ℕ} where
+module _ {P : Type 0} {spec : SeqSpec} {meaning : P → ℕ → ℕ → Meaning} {r : Rows P} {i : ℕ}
+    {l : Local} {most : ℕ} where
   pub watch_done : {b : Board} {w d : Watch P} → IsWatchOf meaning r b i l most w
-      → HasWatched init next meaning r b w d → HasWatchedAs init next meaning r i l most d
+      → HasWatched spec meaning r b w d → HasWatchedAs spec meaning r i l most d
   watch_done {b} {w} {d} h done =
       let same : done.before ≡ h.monitor =
       same_Some done.before h.monitor (sym done.was ∙ h.here) in
@@ -38,14 +39,14 @@ module _ {P : Type 0} {init : List ℕ} {next : List ℕ → ℕ → List ℕ ×
         who = done.round.later.who ∙ ap (λ (m : Monitor P). who_of (caller_of m)) same ∙ h.who;
         progress = done.round.progress ∙ ap progress_of was;
         rounds = λ none.
-            subst (λ (k : ℕ). HasMadeRounds init next r.callers k l (local_of done.after)
+            subst (λ (k : ℕ). HasMadeRounds spec r.callers k l (local_of done.after)
             (own_of done.after)) h.rounds
-            (subst (λ (x : Local). HasMadeRounds init next r.callers w.rounds x
+            (subst (λ (x : Local). HasMadeRounds spec r.callers w.rounds x
             (local_of done.after) (own_of done.after)) was (done.round.rounds none));
       }
 
   -- the monitor of a watch is at hand, and off the bench
-  pub watch_at_hand : {w : Watch P} {c : Bench P} → HasWatchedAs init next meaning r i l most w
+  pub watch_at_hand : {w : Watch P} {c : Bench P} → HasWatchedAs spec meaning r i l most w
       → on_bench c i ≡ None → IsAtHand meaning r c w
   watch_at_hand {w} {c} h gone = record {
     monitor = h.monitor;
@@ -55,14 +56,14 @@ module _ {P : Type 0} {init : List ℕ} {next : List ℕ → ℕ → List ℕ ×
   }
 
   -- the caller that comes back is that of the watch
-  whose : {w : Watch P} {c d : Bench P} {left : Left} → HasWatchedAs init next meaning r i l most w
+  whose : {w : Watch P} {c d : Bench P} {left : Left} → HasWatchedAs spec meaning r i l most w
       → (h : ComesBack c d w left) → who_of (caller_of h.monitor) ≡ i
   whose watched h = ap (λ (m : Monitor P). who_of (caller_of m))
       (same_Some h.monitor watched.monitor (sym h.here ∙ watched.here)) ∙ watched.who
 
   pub watch_back : {w : Watch P} {c d : Bench P} {left : Left}
-      → HasWatchedAs init next meaning r i l most w → ComesBack c d w left
-      → IsBackFrom init next r.callers d i l most left
+      → HasWatchedAs spec meaning r i l most w → ComesBack c d w left
+      → IsBackFrom spec r.callers d i l most left
   watch_back {w} {c} {d} {left} watched h =
       let same : h.monitor ≡ watched.monitor =
       same_Some h.monitor watched.monitor (sym h.here ∙ watched.here) in
@@ -72,16 +73,16 @@ module _ {P : Type 0} {init : List ℕ} {next : List ℕ → ℕ → List ℕ ×
         progress = ap (λ (m : Monitor P). progress_of (local_of m)) same ∙ watched.progress;
         rounds = λ none.
             subst (λ (o : Option Witness).
-            HasMadeRounds init next r.callers most l (local_of h.monitor) o) (sym h.found)
+            HasMadeRounds spec r.callers most l (local_of h.monitor) o) (sym h.found)
             (subst
-            (λ (m : Monitor P). HasMadeRounds init next r.callers most l (local_of m) (own_of m))
+            (λ (m : Monitor P). HasMadeRounds spec r.callers most l (local_of m) (own_of m))
             (sym same) (watched.rounds (sym h.wanted ∙ none)));
       }
 
   -- the other callers stay
   pub others_stay : {w : Watch P} {c d : Bench P} {left : Left}
-      → HasWatchedAs init next meaning r i l most w → ComesBack c d w left
-      → (k : ℕ) → k ≢ i → IsUnmoved c d k
+      → HasWatchedAs spec meaning r i l most w → ComesBack c d w left → (k : ℕ) → k ≢ i
+      → IsUnmoved c d k
   others_stay watched h k other = h.others k (λ same. other (same ∙ whose watched h))
 
 -- a caller that two moves, one after the other, leave as it is
@@ -90,10 +91,9 @@ pub unmoved_on : {P : Type 0} {b c d : Bench P} {i : ℕ} → IsUnmoved b c i �
 unmoved_on one two = record { local = two.local ∙ one.local; stance = two.stance ∙ one.stance }
 
 -- a caller that is back stays so while another one comes back
-pub back_stays : {P : Type 0} {init : List ℕ} {next : List ℕ → ℕ → List ℕ × ℕ} {n : ℕ}
-    {c d : Bench P} {i : ℕ} {l : Local} {most : ℕ} {left : Left}
-    → IsUnmoved c d i → IsBackFrom init next n c i l most left
-    → IsBackFrom init next n d i l most left
+pub back_stays : {P : Type 0} {spec : SeqSpec} {n : ℕ} {c d : Bench P} {i : ℕ} {l : Local}
+    {most : ℕ} {left : Left} → IsUnmoved c d i → IsBackFrom spec n c i l most left
+    → IsBackFrom spec n d i l most left
 back_stays same h =
     record {
       local = h.local;

@@ -1,5 +1,6 @@
 -- Callers of a bench that watch: as they leave the bench, after their rounds, and back on it.
-use Rattle.std.specs.Prelude.{◌≡◌, ◌≢◌, ℕ, false, List, None, Some}
+use Rattle.std.specs.Prelude.{◌≡◌, ◌≢◌, ℕ, false, None, Some}
+use Rattle.book_base.specs.SeqSpec.{SeqSpec}
 use Rattle.world_core.specs.Shape.{Meaning}
 use Rattle.world_core.specs.Local.{Local, IsIdle}
 use Rattle.report_lines.specs.Phases.{progress_of}
@@ -38,16 +39,15 @@ module _ {P : Type 0} where
     pub rounds : w.rounds ≡ most
 
   -- A watch is that of caller i, which had this local, after its rounds.
-  pub record HasWatchedAs (init : List ℕ) (next : List ℕ → ℕ → List ℕ × ℕ)
-      (meaning : P → ℕ → ℕ → Meaning) (r : Rows P) (i : ℕ) (l : Local) (most : ℕ)
-      (w : Watch P) : Type 0 where
+  pub record HasWatchedAs (spec : SeqSpec) (meaning : P → ℕ → ℕ → Meaning) (r : Rows P) (i : ℕ)
+      (l : Local) (most : ℕ) (w : Watch P) : Type 0 where
     pub monitor : Monitor P
     pub here : w.monitor ≡ Some monitor
     pub of : IsMonitorOf meaning r monitor
     pub who : who_of (caller_of monitor) ≡ i
     pub progress : progress_of (local_of monitor) ≡ progress_of l
     pub rounds : w.wants_memory ≡ false
-        → HasMadeRounds init next r.callers most l (local_of monitor) (own_of monitor)
+        → HasMadeRounds spec r.callers most l (local_of monitor) (own_of monitor)
 
   -- The monitor of a watch is at hand, and its caller is off the bench.
   pub record IsAtHand (meaning : P → ℕ → ℕ → Meaning) (r : Rows P) (b : Bench P)
@@ -69,9 +69,9 @@ module _ {P : Type 0} where
 
   -- Caller i, which had this local, is back on the bench, live and idle: its progress is the same,
   -- and it made its rounds, unless it wanted memory.
-  pub record IsBackFrom (init : List ℕ) (next : List ℕ → ℕ → List ℕ × ℕ) (n : ℕ) (b : Bench P)
-      (i : ℕ) (l : Local) (most : ℕ) (left : Left) : Type 0 where
+  pub record IsBackFrom (spec : SeqSpec) (n : ℕ) (b : Bench P) (i : ℕ) (l : Local) (most : ℕ)
+      (left : Left) : Type 0 where
     pub local : Local
     pub here : IsFreeOn b i local
     pub progress : progress_of local ≡ progress_of l
-    pub rounds : left.wants_memory ≡ false → HasMadeRounds init next n most l local left.own
+    pub rounds : left.wants_memory ≡ false → HasMadeRounds spec n most l local left.own

@@ -1,5 +1,6 @@
 -- Whose a monitor is, what it has found, what it knows of its board, and what a round costs.
 use Rattle.std.specs.Prelude.{◌≡◌, ℕ, ◌+◌, ◌≤◌, Bool, List, Option, None, Some, IfSome, IsSomeAnd, length}
+use Rattle.book_base.specs.SeqSpec.{SeqSpec}
 use Rattle.world_core.specs.Shape.{Meaning}
 use Rattle.world_core.specs.Local.{Local, IsIdle}
 use Rattle.world_core.specs.Calls.{IsGathered}
@@ -31,13 +32,12 @@ pub record HasGathered (n : ℕ) (l m : Local) (g : Gathered) : Type 0 where
 -- What a round found, by the caller's local before and after it and by the own witness: either the
 -- book at the cut of its one scan has a legal order, and there is no own witness; or that book has
 -- none, and is the own witness.
-abbrev pub HasFound : List ℕ → (List ℕ → ℕ → List ℕ × ℕ) → ℕ → Local → Local → Option Witness
-    → Round → Type 0
-HasFound init next n l m own (Legal cut) = HasScannedOnce cut l m × IsLegalAt init next n m cut
+abbrev pub HasFound : SeqSpec → ℕ → Local → Local → Option Witness → Round → Type 0
+HasFound spec n l m own (Legal cut) = HasScannedOnce cut l m × IsLegalAt spec n m cut
     × (own ≡ None)
-HasFound init next n l m own (Illegal cut) =
+HasFound spec n l m own (Illegal cut) =
     HasScannedOnce cut l m × (w : Witness) × (own ≡ Some w) × (w.cut ≡ cut)
-    × IsIllegalAt init next n m w
+    × IsIllegalAt spec n m w
 
 -- What a monitor of a table of n callers keeps for its next round: after a legal round the book of
 -- that round, and after an illegal one none.

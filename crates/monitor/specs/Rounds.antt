@@ -1,6 +1,7 @@
 -- What the rounds of a monitor leave in its caller's local: for each round a cut, and a verdict on
 -- the book that was gathered at it.
 use Rattle.std.specs.Prelude.{◌≡◌, ℕ, ◌≤◌, List, [], ◌∷◌, ◌++◌, Option, None, Some, length, slice_get}
+use Rattle.book_base.specs.SeqSpec.{SeqSpec}
 use Rattle.book_base.specs.Book.{Page}
 use Rattle.book_base.specs.Order.{HasLegalOrder}
 use Rattle.world_core.specs.declared.region.Region.TheVariants.{M}
@@ -15,17 +16,17 @@ pub record HasScannedOnce (cut : List ℕ) (l m : Local) : Type 0 where
   pub adds : AddsCut M cut l m
   pub progress : progress_of m ≡ progress_of l
 
-module _ (init : List ℕ) (next : List ℕ → ℕ → List ℕ × ℕ) (n : ℕ) where
+module _ (spec : SeqSpec) (n : ℕ) where
   -- The book that a caller of n gathered at this cut has a legal order.
   pub record IsLegalAt (l : Local) (cut : List ℕ) : Type 0 where
     pub book : List Page
     pub gathered : IsGathered n l cut book
-    pub order : HasLegalOrder init next book
+    pub order : HasLegalOrder spec book
 
   -- The book of this witness is one that a caller of n gathered at its cut, and has no legal order.
   pub record IsIllegalAt (l : Local) (w : Witness) : Type 0 where
     pub gathered : IsGathered n l w.cut w.book
-    pub none : ¬ HasLegalOrder init next w.book
+    pub none : ¬ HasLegalOrder spec w.book
 
   -- A scan of M gave this cut, and the book that was gathered at it has a legal order.
   pub record IsLegalRound (l : Local) (given : Given) : Type 0 where

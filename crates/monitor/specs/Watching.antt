@@ -1,5 +1,6 @@
 -- A monitor at work: before its rounds, and after them.
-use Rattle.std.specs.Prelude.{◌≡◌, ℕ, Bool, false, List, None, Some}
+use Rattle.std.specs.Prelude.{◌≡◌, ℕ, Bool, false, None, Some}
+use Rattle.book_base.specs.SeqSpec.{SeqSpec}
 use Rattle.world_core.specs.Shape.{Meaning}
 use Rattle.report_lines.specs.Phases.{progress_of}
 use Rattle.row_table.specs.declared.rows.Rows.{Rows}
@@ -26,19 +27,18 @@ module _ {P : Type 0} where
 
   -- The monitor m has become k: its progress is the same, and it made its rounds, unless it wanted
   -- memory.
-  pub record HasGoneRound (init : List ℕ) (next : List ℕ → ℕ → List ℕ × ℕ)
-      (meaning : P → ℕ → ℕ → Meaning) (r : Rows P) (b : Board) (most : ℕ) (m k : Monitor P)
-      (wanted : Bool) : Type 0 where
+  pub record HasGoneRound (spec : SeqSpec) (meaning : P → ℕ → ℕ → Meaning) (r : Rows P) (b : Board)
+      (most : ℕ) (m k : Monitor P) (wanted : Bool) : Type 0 where
     pub later : IsLater meaning r b m k
     pub progress : progress_of (local_of k) ≡ progress_of (local_of m)
     pub rounds : wanted ≡ false
-        → HasMadeRounds init next r.callers most (local_of m) (local_of k) (own_of k)
+        → HasMadeRounds spec r.callers most (local_of m) (local_of k) (own_of k)
 
   -- The monitor of a watch is back from its rounds.
-  pub record HasWatched (init : List ℕ) (next : List ℕ → ℕ → List ℕ × ℕ)
-      (meaning : P → ℕ → ℕ → Meaning) (r : Rows P) (b : Board) (w d : Watch P) : Type 0 where
+  pub record HasWatched (spec : SeqSpec) (meaning : P → ℕ → ℕ → Meaning) (r : Rows P) (b : Board)
+      (w d : Watch P) : Type 0 where
     pub before : Monitor P
     pub after : Monitor P
     pub was : w.monitor ≡ Some before
     pub is : d.monitor ≡ Some after
-    pub round : HasGoneRound init next meaning r b w.rounds before after d.wants_memory
+    pub round : HasGoneRound spec meaning r b w.rounds before after d.wants_memory

@@ -1,5 +1,6 @@
 -- What the rounds of monitors say of the books of a reachable world.
 use Rattle.std.specs.Prelude.{◌≡◌, ℕ, ◌+◌, ◌-◌, ◌<◌, ◌≤◌, ◌⊎◌, List, ◌++◌, length, map, Option, Some, slice_get}
+use Rattle.book_base.specs.SeqSpec.{SeqSpec}
 use Rattle.book_base.specs.Book.{Page}
 use Rattle.book_base.specs.BookAt.{book_at}
 use Rattle.book_base.specs.Order.{HasLegalOrder}
@@ -24,65 +25,63 @@ published_book locals = book_at (published_of locals) (book_in locals)
 
 -- A witness is the book of these callers' calls at its cut, which they have published, and has no
 -- legal order.
-pub record IsWitnessOf (init : List ℕ) (next : List ℕ → ℕ → List ℕ × ℕ) (locals : List Local)
-    (w : Witness) : Type 0 where
+pub record IsWitnessOf (spec : SeqSpec) (locals : List Local) (w : Witness) : Type 0 where
   pub published : IsPublished locals w.cut
   pub book : w.book ≡ book_at w.cut (book_in locals)
-  pub none : ¬ HasLegalOrder init next w.book
+  pub none : ¬ HasLegalOrder spec w.book
 
 -- A round is right for the calls of these locals: its cut is published, and the book at it has a
 -- legal order, or the own witness is that book and has none.
-abbrev pub IsRightRound : List ℕ → (List ℕ → ℕ → List ℕ × ℕ) → List Local → Option Witness
-    → Round → Type 0
-IsRightRound init next locals own (Legal cut) = IsPublished locals cut
-    × HasLegalOrder init next (book_at cut (book_in locals))
-IsRightRound init next locals own (Illegal cut) = (w : Witness) × (own ≡ Some w) × (w.cut ≡ cut)
-    × IsWitnessOf init next locals w
+abbrev pub IsRightRound : SeqSpec → List Local → Option Witness → Round → Type 0
+IsRightRound spec locals own (Legal cut) = IsPublished locals cut
+    × HasLegalOrder spec (book_at cut (book_in locals))
+IsRightRound spec locals own (Illegal cut) = (w : Witness) × (own ≡ Some w) × (w.cut ≡ cut)
+    × IsWitnessOf spec locals w
 
 -- What a round of caller i found is right for the locals of each later moment.
 abbrev pub RoundsAreRight : Type 0
 RoundsAreRight =
-    (init : List ℕ) (next : List ℕ → ℕ → List ℕ × ℕ) (s : Shape) (locals : List Local) (i : ℕ)
+    (spec : SeqSpec) (s : Shape) (locals : List Local) (i : ℕ)
     (l m : Local) (own : Option Witness) (round : Round)
     → AreTogether s locals → i < s.callers → Grows m (local_at locals i)
-    → HasFound init next s.callers l m own round → IsRightRound init next locals own round
+    → HasFound spec s.callers l m own round → IsRightRound spec locals own round
 
 -- The cuts are those of at most `most` rounds over the calls of this book. A scan of M gave each;
 -- at each cut but the last the book has a legal order; and either there are `most` cuts, or the
 -- book at the last one has no legal order.
-pub record AreJudgedRounds (init : List ℕ) (next : List ℕ → ℕ → List ℕ × ℕ) (book : List Page)
-    (most : ℕ) (rounds : List Given) : Type 0 where
+pub record AreJudgedRounds (spec : SeqSpec) (book : List Page) (most : ℕ)
+    (rounds : List Given) : Type 0 where
   pub few : length rounds ≤ most
   pub regions : (k : ℕ) (given : Given) → slice_get rounds k ≡ Some given → given.region ≡ M
   pub legal : (k : ℕ) (given : Given) → slice_get rounds k ≡ Some given → k + 1 < length rounds
-      → HasLegalOrder init next (book_at given.cut book)
+      → HasLegalOrder spec (book_at given.cut book)
   pub ends : (length rounds ≡ most)
       ⊎ ((last : Given) × (slice_get rounds (length rounds - 1) ≡ Some last)
-      × ¬ HasLegalOrder init next (book_at last.cut book))
+      × ¬ HasLegalOrder spec (book_at last.cut book))
 
 -- The cuts of the rounds that caller i made, which follow the cuts that it had before, are those of
 -- rounds over the calls of all callers.
 abbrev pub RoundsAreJudged : Type 0
 RoundsAreJudged =
-    (init : List ℕ) (next : List ℕ → ℕ → List ℕ × ℕ) (s : Shape) (locals : List Local) (i most : ℕ)
+    (spec : SeqSpec) (s : Shape) (locals : List Local) (i most : ℕ)
     (before : Local) (own : Option Witness)
     → AreTogether s locals → i < s.callers
-    → HasMadeRounds init next s.callers most before (local_at locals i) own
+    → HasMadeRounds spec s.callers most before (local_at locals i) own
     → (rounds : List Given) × ((local_at locals i).cuts ≡ before.cuts ++ rounds)
-    × AreJudgedRounds init next (book_in locals) most rounds
+    × AreJudgedRounds spec (book_in locals) most rounds
 
 -- The own witness that rounds of caller i found is a witness of the calls of all callers.
 abbrev pub OwnIsAWitness : Type 0
 OwnIsAWitness =
-    (init : List ℕ) (next : List ℕ → ℕ → List ℕ × ℕ) (s : Shape) (locals : List Local) (i most : ℕ)
+    (spec : SeqSpec) (s : Shape) (locals : List Local) (i most : ℕ)
     (before : Local) (w : Witness)
     → AreTogether s locals → i < s.callers
-    → HasMadeRounds init next s.callers most before (local_at locals i) (Some w)
-    → IsWitnessOf init next locals w
+    → HasMadeRounds spec s.callers most before (local_at locals i) (Some w)
+    → IsWitnessOf spec locals w
 
 -- Where there is a witness, the book of all published records has no legal order.
 abbrev pub WitnessesAreFinal : Type 0
 WitnessesAreFinal =
-    (init : List ℕ) (next : List ℕ → ℕ → List ℕ × ℕ) (s : Shape) (locals : List Local) (w : Witness)
-    → AreTogether s locals → IsWitnessOf init next locals w
-    → ¬ HasLegalOrder init next (published_book locals)
+    (spec : SeqSpec) (s : Shape) (locals : List Local) (w : Witness)
+    → AreTogether s locals → IsWitnessOf spec locals w
+    → ¬ HasLegalOrder spec (published_book locals)

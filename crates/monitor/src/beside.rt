@@ -90,12 +90,10 @@ fn work_beside<
     requires first { IsReady P.meaning watched.now.rows.now watched.now.board.now first }
     requires second { IsReady P.meaning watched.now.rows.now watched.now.board.now second }
     ensures done { AllZip (λ w d. W.done w shared.now d) all.old all.new }
-    ensures first { HasWatched (S.init watched.now.sequential.now)
-        (S.next watched.now.sequential.now)
-        P.meaning watched.now.rows.now watched.now.board.now first result.0 }
-    ensures second { HasWatched (S.init watched.now.sequential.now)
-        (S.next watched.now.sequential.now)
-        P.meaning watched.now.rows.now watched.now.board.now second result.1 }
+    ensures first { HasWatched (S.spec watched.now.sequential.now) P.meaning watched.now.rows.now
+        watched.now.board.now first result.0 }
+    ensures second { HasWatched (S.spec watched.now.sequential.now) P.meaning watched.now.rows.now
+        watched.now.board.now second result.1 }
 {
     work_with_two(rt, shared, all, watched, &mut first, &mut second);
     (first, second)
@@ -139,13 +137,11 @@ pub fn watch_beside<
     // The one caller is back on the bench, with its progress as before, and made its rounds unless
     // it wanted memory.
     ensures one { (l : Local) → on_bench bench.old one ≡ Some l
-        → IsBackFrom (S.init sequential.now) (S.next sequential.now) rows.now.callers
-        bench.new one l rounds result.0 }
+        → IsBackFrom (S.spec sequential.now) rows.now.callers bench.new one l rounds result.0 }
     // The other caller is back on the bench, with its progress as before, and made its rounds
     // unless it wanted memory.
     ensures other { (l : Local) → on_bench bench.old other ≡ Some l
-        → IsBackFrom (S.init sequential.now) (S.next sequential.now) rows.now.callers
-        bench.new other l rounds result.1 }
+        → IsBackFrom (S.spec sequential.now) rows.now.callers bench.new other l rounds result.1 }
     // A caller of whose witness the board took a copy has an own witness.
     ensures placed { (result.0.placed ≡ true → is_some result.0.own ≡ true)
         × (result.1.placed ≡ true → is_some result.1.own ≡ true) }

@@ -1,3 +1,5 @@
+ghost use Rattle.book_base.specs.SeqSpec.{SeqSpec};
+
 use crate::board::Board;
 use crate::claim::Claim;
 use crate::round::Round;
@@ -25,7 +27,7 @@ pub struct Monitor<P = Outside> {
 }
 
 impl<P: Program> Monitor<P> {
-    ghost use Rattle.std.specs.Prelude.{◌≡◌, ℕ, List, ◌+◌, ◌≤◌, true, false, is_some, None, Some, IfOk, IfSome, IfNone, IsSomeAnd, OnErr};
+    ghost use Rattle.std.specs.Prelude.{◌≡◌, ◌+◌, ◌≤◌, true, false, is_some, None, Some, IfOk, IfSome, IfNone, IsSomeAnd, OnErr};
     ghost use Rattle.std.specs.Option.{MatchOption};
     ghost use Rattle.once_cell.specs.Once.{Agrees};
     ghost use Rattle.world_core.specs.Local.{IsIdle};
@@ -79,9 +81,8 @@ impl<P: Program> Monitor<P> {
         ensures scanned { HasScannedSome (local_of self.old) (local_of self.new) }
         ensures gathered { IfOk result
             (λ r. HasGathered rows.now.callers (local_of self.old) (local_of self.new) r.0) }
-        ensures stands { IfOk result (λ r. (init : List ℕ) (next : List ℕ → ℕ → List ℕ × ℕ)
-            → OrderStandsIn init next (kept_by self.old) standing
-            → IfSome r.1 (IsStandingFor init next r.0.book)) }
+        ensures stands { IfOk result (λ r. (spec : SeqSpec) → OrderStandsIn spec
+            (kept_by self.old) standing → IfSome r.1 (IsStandingFor spec r.0.book)) }
         ensures ticks { IfOk result
             (λ r. TicksForBook rows.now.callers (kept_by self.old) r.0 steps.old steps.new) }
         ensures rise { steps.old ≤ steps.new }
@@ -117,8 +118,8 @@ impl<P: Program> Monitor<P> {
         ensures scanned { HasScannedSome (local_of self.old) (local_of self.new) }
         // A round is legal exactly with a book at the cut of its scan that has a legal order, and
         // illegal exactly with one that has none and is the own witness.
-        ensures found { IfOk result (HasFound (S.init object.now) (S.next object.now)
-            rows.now.callers (local_of self.old) (local_of self.new) (own_of self.new)) }
+        ensures found { IfOk result (HasFound (S.spec object.now) rows.now.callers
+            (local_of self.old) (local_of self.new) (own_of self.new)) }
         // A monitor with an own witness knows the witness on the board, which is the one that it
         // knew before, where it knew one.
         ensures known { IfSome (own_of self.new)
@@ -164,16 +165,15 @@ impl<P: Program> Monitor<P> {
         // The monitor has no own witness.
         requires none { own_of self.old ≡ None }
         // The kept order stands in the book that the monitor keeps, for this object.
-        requires stands { OrderStandsIn (S.init object.now) (S.next object.now)
-            (kept_by self.old) standing.old }
+        requires stands { OrderStandsIn (S.spec object.now) (kept_by self.old) standing.old }
         // The monitor is still one of these rows and of this board, with the same number.
         ensures later { IsLater P.meaning rows.now board.now self.old self.new }
         // The monitor's caller has scanned M once.
         ensures scanned { HasScannedSome (local_of self.old) (local_of self.new) }
         // A round is legal exactly with a book at the cut of its scan that has a legal order, and
         // illegal exactly with one that has none and is the own witness.
-        ensures found { IfOk result (HasFound (S.init object.now) (S.next object.now)
-            rows.now.callers (local_of self.old) (local_of self.new) (own_of self.new)) }
+        ensures found { IfOk result (HasFound (S.spec object.now) rows.now.callers
+            (local_of self.old) (local_of self.new) (own_of self.new)) }
         // A monitor with an own witness knows the witness on the board, which is the one that it
         // knew before, where it knew one.
         ensures known { IfSome (own_of self.new)
@@ -185,8 +185,7 @@ impl<P: Program> Monitor<P> {
         ensures kept { IfOk result (λ r. IsKeptAfter rows.now.callers r (kept_by self.new)) }
         // The order that is kept afterwards stands in the book that the monitor keeps then, for
         // this object.
-        ensures stands { OrderStandsIn (S.init object.now) (S.next object.now)
-            (kept_by self.new) standing.new }
+        ensures stands { OrderStandsIn (S.spec object.now) (kept_by self.new) standing.new }
         // Without an own witness the monitor knows what it knew of the board.
         ensures unfound { own_of self.new ≡ None → (known_by self.new ≡ known_by self.old)
             × (placed_by self.new ≡ placed_by self.old) }

@@ -37,8 +37,8 @@ fn make_rounds<P: Program, S: SeqObject, L: Ledger>(
     steps: &mut Steps<L>,
 ) -> (Monitor<P>, bool)
     requires { IsFresh P.meaning shared.now.rows.now shared.now.board.now monitor }
-    ensures { HasGoneRound (S.init shared.now.sequential.now) (S.next shared.now.sequential.now)
-        P.meaning shared.now.rows.now shared.now.board.now rounds monitor result.0 result.1 }
+    ensures { HasGoneRound (S.spec shared.now.sequential.now) P.meaning shared.now.rows.now
+        shared.now.board.now rounds monitor result.0 result.1 }
 {
     let mut monitor = monitor;
     let mut standing = None;
@@ -68,8 +68,8 @@ fn make_counted<P: Program, S: SeqObject, L: Ledger>(
 ) -> (Monitor<P>, bool)
     requires blank { (blank.name ≡ L.name) × (blank.parts ≡ L.parts) × (0 < blank.parts) }
     requires fresh { IsFresh P.meaning shared.now.rows.now shared.now.board.now monitor }
-    ensures { HasGoneRound (S.init shared.now.sequential.now) (S.next shared.now.sequential.now)
-        P.meaning shared.now.rows.now shared.now.board.now rounds monitor result.0 result.1 }
+    ensures { HasGoneRound (S.spec shared.now.sequential.now) P.meaning shared.now.rows.now
+        shared.now.board.now rounds monitor result.0 result.1 }
 {
     let mut steps = Steps::<L>::new(blank);
     make_rounds(monitor, shared, rounds, &mut steps)
@@ -82,8 +82,8 @@ fn make_alone<P: Program, S: SeqObject>(
     rounds: u64,
 ) -> (Monitor<P>, bool)
     requires { IsFresh P.meaning shared.now.rows.now shared.now.board.now monitor }
-    ensures { HasGoneRound (S.init shared.now.sequential.now) (S.next shared.now.sequential.now)
-        P.meaning shared.now.rows.now shared.now.board.now rounds monitor result.0 result.1 }
+    ensures { HasGoneRound (S.spec shared.now.sequential.now) P.meaning shared.now.rows.now
+        shared.now.board.now rounds monitor result.0 result.1 }
 {
     make_counted::<P, S, Brand>(monitor, shared, rounds, Blank::new(1))
 }
@@ -91,7 +91,7 @@ fn make_alone<P: Program, S: SeqObject>(
 impl<'s, P: Program + Send + Sync, S: SeqObject + Sync> Work<Watched<'s, S, P>> for Watch<P> {
     ghost ready = { λ w shared. IsReady P.meaning shared.rows.now shared.board.now w };
 
-    ghost done = { λ w shared d. HasWatched (S.init shared.sequential.now) (S.next shared.sequential.now)
+    ghost done = { λ w shared d. HasWatched (S.spec shared.sequential.now)
         P.meaning shared.rows.now shared.board.now w d };
 
     fn work(&mut self, shared: &Watched<'s, S, P>) {

@@ -3,7 +3,7 @@ use Rattle.std.proofs.Common.{◌≡◌, refl, sym, subst, ℕ, List, Option, So
 use Rattle.std.specs.Prelude.{◌⊎◌}
 use Rattle.std.proofs.lemmas.Option.{none-some}
 use Rattle.seq_objects.specs.declared.kind.Kind.{Kind}
-use Rattle.seq_objects.specs.Objects.{kind_init, kind_next}
+use Rattle.seq_objects.specs.Objects.{kind_spec}
 use Rattle.world_core.specs.Local.{Local}
 use Rattle.monitor.specs.declared.witness.Witness.{Witness}
 use Rattle.byte_streams.specs.declared.status.Status.{Status}
@@ -15,7 +15,7 @@ use Rattle.monitor_writer.specs.MonitorTexts.{IsAnswerOutput, HasLegalRecords, I
 
 -- An answer that is exact for the object of this kind.
 abbrev IsExactFor : Kind → List Local → Option Witness → Type 0
-IsExactFor kind locals answer = IsExactAnswer (kind_init kind) (kind_next kind) locals answer
+IsExactFor kind locals answer = IsExactAnswer (kind_spec kind) locals answer
 
 -- what is written of an exact answer is a text of a monitor, for the script's kind
 text_of_run : (kind : Kind) (locals : List Local) (answer : Option Witness)

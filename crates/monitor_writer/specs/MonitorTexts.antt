@@ -3,7 +3,7 @@ use Rattle.std.specs.Prelude.{◌≡◌, ℕ, List, ◌++◌, codes, Option, Som
 use Rattle.book_base.specs.Order.{HasLegalOrder}
 use Rattle.book_text.specs.Grammar.{IsWrittenText}
 use Rattle.seq_objects.specs.declared.kind.Kind.{Kind}
-use Rattle.seq_objects.specs.Objects.{kind_init, kind_next}
+use Rattle.seq_objects.specs.Objects.{kind_spec}
 use Rattle.text_fields.specs.declared.version.Version.TheVariants.{Second}
 use Rattle.world_core.specs.Local.{Local}
 use Rattle.monitor.specs.declared.witness.Witness.{Witness}
@@ -30,7 +30,7 @@ IsAnswerOutput kind answer status text = IsAnswerText kind answer text × (statu
 -- The book of all records that these callers have published has a legal order, for this kind.
 abbrev pub HasLegalRecords : Kind → List Local → Type 0
 HasLegalRecords kind locals =
-    HasLegalOrder (kind_init kind) (kind_next kind) (published_book locals)
+    HasLegalOrder (kind_spec kind) (published_book locals)
 
 -- The text and the status that are written of these callers' calls: that the book of all published
 -- records has a legal order; or that it has none, and after that the text of the book of a witness.
@@ -38,6 +38,6 @@ abbrev pub IsMonitorText : Kind → List Local → Status → List ℕ → Type 
 IsMonitorText kind locals Fine text = HasLegalRecords kind locals × (text ≡ codes "legal\n")
 IsMonitorText kind locals Found text =
     (¬ HasLegalRecords kind locals)
-    × (w : Witness) × IsWitnessOf (kind_init kind) (kind_next kind) locals w × (shown : List ℕ)
+    × (w : Witness) × IsWitnessOf (kind_spec kind) locals w × (shown : List ℕ)
     × IsWrittenText Second shown kind w.book × (text ≡ codes "illegal\n" ++ shown)
 IsMonitorText kind locals _ text = ⊥

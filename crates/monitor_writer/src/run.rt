@@ -1,7 +1,7 @@
 //! Whole runs of a script that two monitors watch, and what is written of them.
 
 ghost use Rattle.std.specs.Prelude.{◌≡◌, ◌⊎◌, ◌≤◌, ◌<◌, ◌+◌, ℕ, Some, length, vec_len, vec_capacity};
-ghost use Rattle.seq_objects.specs.Objects.{kind_init, kind_next};
+ghost use Rattle.seq_objects.specs.Objects.{kind_spec};
 ghost use Rattle.world_core.specs.Local.{Local};
 ghost use Rattle.row_table.specs.Callers.{locals_on, on_bench, IsBenchOf, HoldsAll};
 ghost use Rattle.client_calls.specs.Asking.{fits_own, own_count};
@@ -90,10 +90,9 @@ where
     // rounds over the calls of all callers. There are at most as many as the script has calls, and
     // one more. At each cut but the last the book has a legal order. Where there are fewer cuts
     // than that, the book at the last one has no legal order.
-    ensures rounds { ¬ (result ≡ Status.NoMemory)
-        → (i : ℕ) (l : Local) → IsMonitor script.now i → on_bench bench.old i ≡ Some l
-        → HasMonitored (kind_init script.now.kind) (kind_next script.now.kind) script.now
-        (locals_on bench.new) i l }
+    ensures rounds { ¬ (result ≡ Status.NoMemory) → (i : ℕ) (l : Local) → IsMonitor script.now i
+        → on_bench bench.old i ≡ Some l
+        → HasMonitored (kind_spec script.now.kind) script.now (locals_on bench.new) i l }
 
     // The headline: what was written, with each status, is right for the locals on the bench.
     ensures ends { EndsWriting (IsMonitorText script.now.kind (locals_on bench.new))

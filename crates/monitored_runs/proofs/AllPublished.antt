@@ -1,6 +1,7 @@
 -- The one judgement of all that was published.
 use Rattle.std.proofs.Common.{◌≡◌, ◌∙◌, refl, sym, ap, subst, ℕ, List, Option, None, Some, arith}
 use Rattle.std.proofs.lemmas.List.{length-map, get_or-map}
+use Rattle.book_base.specs.SeqSpec.{SeqSpec}
 use Rattle.book_base.specs.Book.{Page}
 use Rattle.book_base.specs.BookAt.{IsBookAt, book_at}
 use Rattle.book_base.specs.Order.{HasLegalOrder}
@@ -35,22 +36,19 @@ part_is s locals part t h =
     books_at_are_one (book_in locals) (published_of locals) part (published_book locals) h
     (book_at_is_the_book_at (book_in locals) (published_of locals) (books_are_valid s locals t))
 
-module _ (init : List ℕ) (next : List ℕ → ℕ → List ℕ × ℕ) (s : Shape) (locals : List Local)
-    (t : AreTogether s locals) where
-  exact : (answer : Option Witness) → IsAnswer init next locals answer
-      → IsExactAnswer init next locals answer
+module _ (spec : SeqSpec) (s : Shape) (locals : List Local) (t : AreTogether s locals) where
+  exact : (answer : Option Witness) → IsAnswer spec locals answer → IsExactAnswer spec locals answer
   exact None h = record { is = h; exact = (λ none. h, λ order. refl) }
   exact (Some w) h = record {
     is = h;
     exact =
-        (λ none. absurd cc, λ order. absurd (witnesses_are_final init next s locals w t h order));
+        (λ none. absurd cc, λ order. absurd (witnesses_are_final spec s locals w t h order));
   }
 
-  judged : (answer : Option Witness)
-      → IsJudgedAt init next (book_in locals) (published_of locals) answer
-      → IsAnswer init next locals answer
+  judged : (answer : Option Witness) → IsJudgedAt spec (book_in locals) (published_of locals) answer
+      → IsAnswer spec locals answer
   judged None h = let (part, at, order) = h in
-      subst (HasLegalOrder init next) (part_is s locals part t at) order
+      subst (HasLegalOrder spec) (part_is s locals part t at) order
   judged (Some w) h =
       record {
         published =
@@ -61,7 +59,7 @@ module _ (init : List ℕ) (next : List ℕ → ℕ → List ℕ × ℕ) (s : Sh
       }
 
 pub answers_are_exact : AnswersAreExact
-answers_are_exact init next s locals answer t = (
-  exact init next s locals t answer,
-  λ h. exact init next s locals t answer (judged init next s locals t answer h),
+answers_are_exact spec s locals answer t = (
+  exact spec s locals t answer,
+  λ h. exact spec s locals t answer (judged spec s locals t answer h),
 )

@@ -2,6 +2,7 @@
 use Rattle.std.proofs.Common.{◌≡◌, ◌∙◌, refl, ap, ap₂, subst, ℕ, suc, ◌*◌, ◌<◌, false, Bool, List, [], ◌∷◌, ◌++◌, map, arith}
 use Rattle.std.specs.Prelude.{◌||◌, if◌then◌else◌, length}
 use Rattle.std.specs.List.{flat_map}
+use Rattle.book_base.specs.SeqSpec.{SeqSpec}
 use Rattle.book_base.specs.Book.{Page}
 use Rattle.book_base.specs.declared.call.Record.{Record}
 use Rattle.world_core.specs.Local.{Local}
@@ -11,10 +12,10 @@ use Rattle.report_lines.specs.declared.line.Line.{Line}
 use Rattle.report_lines.specs.Lines.{made_of, reached_of, is_error, any_error, book_of_lines, lines_at}
 use Rattle.report_lines.specs.Phases.{HasMade}
 use Rattle.report_lines.specs.Allotments.{phases_of}
-use Rattle.client_calls.specs.Ends.{Sequential, SaysDeferred, EndsAs, AreLinesOfCalls}
+use Rattle.client_calls.specs.Ends.{SaysDeferred, EndsAs, AreLinesOfCalls}
 use Rattle.monitored_runs.specs.Deferred.{HavePage, DeferringClientsMakeAll, LinesAreTheBook}
 
-module _ (object : Sequential) (n : ℕ) (l : Local) where
+module _ (object : SeqSpec) (n : ℕ) (l : Local) where
   -- a line that isn't judged has the record of its call, and is no error
   same_records : (reached : Reached) (end : LineEnd) → EndsAs (SaysDeferred object n l) reached end
       → records_of (reached_of end) ≡ records_of reached

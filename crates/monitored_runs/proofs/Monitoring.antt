@@ -8,6 +8,7 @@ use Rattle.std.proofs.lemmas.List.{length-map, length-take, length-append, get_o
 use Rattle.std.proofs.lemmas.List.Sums.{sum_by-cons, sum_by-take-le}
 use Rattle.std.proofs.lemmas.Option.{none-some, same_Some, slice_get_within}
 use Rattle.book_base.specs.declared.TheConstants.{MAX_CALLS}
+use Rattle.book_base.specs.SeqSpec.{SeqSpec}
 use Rattle.book_base.specs.Cut.{IsWithin}
 use Rattle.book_base.specs.Book.{Page, IsValid, answered}
 use Rattle.world_core.specs.Shape.{Meaning}
@@ -33,7 +34,7 @@ use Rattle.reports.specs.ReportLayout.{lines_in}
 use Rattle.reports.specs.Filling.{answer_in, AreOfABook}
 use Rattle.reports.proofs.Filling.{length-book}
 use Rattle.client_calls.specs.Asking.{Fits, PassCount, own_count}
-use Rattle.client_calls.specs.Ends.{Sequential, silent, SaysDeferred, EndsAs, AreLinesOfCalls}
+use Rattle.client_calls.specs.Ends.{silent, SaysDeferred, EndsAs, AreLinesOfCalls}
 use Rattle.script_workers.specs.Places.{AreInOrder}
 use Rattle.script_workers.specs.Starts.{run_allotments, course_of, IsUnused, MayBegin}
 use Rattle.script_workers.specs.Returns.{IsCountOf, AreBack, IsBackOn}
@@ -62,7 +63,7 @@ two_more : (lines : List (List Line)) (i : ℕ) → lines_at (with_monitors line
 two_more lines i = none_more (lines ++ [] ∷ []) i ∙ none_more lines i
 
 -- the line of a call with a seen cut has its record
-recorded : (object : Sequential) (n : ℕ) (l : Local) (reached : Reached) (end : LineEnd)
+recorded : (object : SeqSpec) (n : ℕ) (l : Local) (reached : Reached) (end : LineEnd)
     → EndsAs (SaysDeferred object n l) reached end → mark_of reached ≡ Seen → IsSome (answer_in end)
 recorded object n l Is_announced end h e = absurd cc
 recorded object n l (Has_record r) end h e = absurd cc
@@ -70,8 +71,8 @@ recorded object n l (Has_seen r cut) end h e =
     subst (λ (x : LineEnd). IsSome (answer_in x)) (sym h) refl
 
 -- the lines of the first calls have their records
-answered_to : (object : Sequential) (n : ℕ) (l : Local) (calls : List Made) (own : List Line)
-    (m : ℕ) (rest : List CallMark) → AreLinesOfCalls (SaysDeferred object n l) calls own
+answered_to : (object : SeqSpec) (n : ℕ) (l : Local) (calls : List Made) (own : List Line) (m : ℕ)
+    (rest : List CallMark) → AreLinesOfCalls (SaysDeferred object n l) calls own
     → marks_of calls ≡ replicate m Seen ++ rest → (k : ℕ) (line : Line)
     → slice_get own k ≡ Some line → k < m → IsSome (answer_in line.end)
 answered_to object n l calls [] m rest h e k line there low = absurd (none-some line there)
@@ -88,11 +89,10 @@ answered_to object n l (c ∷ calls) (x ∷ own) (suc m) rest h e (suc k) line t
     (omega (arith, low))
 
 -- each line but the last has its record
-all_but_last : (object : Sequential) (n : ℕ) (operations : List ℕ) (p : ℕ) (l : Local)
+all_but_last : (object : SeqSpec) (n : ℕ) (operations : List ℕ) (p : ℕ) (l : Local)
     (own : List Line) → AreLinesOfCalls (SaysDeferred object n l) (calls_in l) own
-    → HasMade operations p l
-    → (k : ℕ) (line : Line) → slice_get own k ≡ Some line → k + 1 < length own
-    → IsSome (answer_in line.end)
+    → HasMade operations p l → (k : ℕ) (line : Line) → slice_get own k ≡ Some line
+    → k + 1 < length own → IsSome (answer_in line.end)
 all_but_last object n operations p l own lines made k line there low =
     let long : length own ≡ length (marks_after p) =
     AllZip-long _ (calls_in l) own lines
@@ -102,10 +102,9 @@ all_but_last object n operations p l own lines made k line there low =
     there (omega (arith, low, long, length-marks_after p))
 
 -- there are no more lines than operations
-no_more_lines : (object : Sequential) (n : ℕ) (operations : List ℕ) (p : ℕ) (l : Local)
+no_more_lines : (object : SeqSpec) (n : ℕ) (operations : List ℕ) (p : ℕ) (l : Local)
     (own : List Line) → AreLinesOfCalls (SaysDeferred object n l) (calls_in l) own
-    → HasMade operations p l
-    → length own ≤ length operations
+    → HasMade operations p l → length own ≤ length operations
 no_more_lines object n operations p l own lines made =
     omega (
       arith,
@@ -404,71 +403,69 @@ module _ {P T : Type 0} (meaning : P → ℕ → ℕ → Meaning) (r : Rows P) (
       (subst (λ (cut : List ℕ). IsWithin cut (answered (book_in locals))) all_published
       (published_records_are_in_the_book (shape_of meaning r) locals together).1)
 
-  module _ (init : List ℕ) (next : List ℕ → ℕ → List ℕ × ℕ) where
+  module _ (spec : SeqSpec) where
     pub judged : (answer : Option Witness)
-        → IsJudgedAt init next (book_of_lines (with_monitors lines)) (published_for plan) answer
-        → IsExactAnswer init next locals answer
+        → IsJudgedAt spec (book_of_lines (with_monitors lines)) (published_for plan) answer
+        → IsExactAnswer spec locals answer
     judged answer h =
-        (answers_are_exact init next (shape_of meaning r) locals answer together).1
-        (subst (λ (cut : List ℕ). IsJudgedAt init next (book_in locals) cut answer)
+        (answers_are_exact spec (shape_of meaning r) locals answer together).1
+        (subst (λ (cut : List ℕ). IsJudgedAt spec (book_in locals) cut answer)
         (sym all_published)
-        (subst (λ (book : List Page). IsJudgedAt init next book (published_for plan) answer)
+        (subst (λ (book : List Page). IsJudgedAt spec book (published_for plan) answer)
         is_the_book h))
 
     rounds_on : (i most : ℕ) (before : Local) (own : Option Witness)
-        → HasWatched init next r.callers b i before most own
-        → HasMadeRounds init next r.callers most before (local_at locals i) own
+        → HasWatched spec r.callers b i before most own
+        → HasMadeRounds spec r.callers most before (local_at locals i) own
     rounds_on i most before own h =
-        subst (λ (l : Local). HasMadeRounds init next r.callers most before l own)
+        subst (λ (l : Local). HasMadeRounds spec r.callers most before l own)
         (sym (local_is i h.local h.here)) h.rounds
 
     monitored : (i : ℕ) (before : Local) (own : Option Witness) → IsMonitor plan i
-        → HasWatched init next r.callers b i before (most_rounds plan) own
-        → HasMonitored init next plan locals i before
+        → HasWatched spec r.callers b i before (most_rounds plan) own
+        → HasMonitored spec plan locals i before
     monitored i before own one h =
-        rounds_are_judged init next (shape_of meaning r) locals i
+        rounds_are_judged spec (shape_of meaning r) locals i
         (most_rounds plan) before own together (omega (arith, one.before, begins.callers))
         (rounds_on i (most_rounds plan) before own h)
 
     found : (i most : ℕ) (before : Local) (w : Witness) → IsMonitor plan i
-        → HasWatched init next r.callers b i before most (Some w)
-        → IsExactAnswer init next locals (Some w)
+        → HasWatched spec r.callers b i before most (Some w) → IsExactAnswer spec locals (Some w)
     found i most before w one h =
-        (answers_are_exact init next (shape_of meaning r) locals (Some w) together).0
-        (own_is_a_witness init next (shape_of meaning r) locals i most before w together
+        (answers_are_exact spec (shape_of meaning r) locals (Some w) together).0
+        (own_is_a_witness spec (shape_of meaning r) locals i most before w together
         (omega (arith, one.before, begins.callers)) (rounds_on i most before (Some w) h))
 
     -- What the two monitors leave, which were on the first bench and then watched.
-    module _ (most : ℕ) (one other : Option Witness) (watched : (l : Local)
-        → on_bench first n ≡ Some l → HasWatched init next r.callers b n l most one)
-        (watched_too : (l : Local) → on_bench first (n + 1) ≡ Some l
-        → HasWatched init next r.callers b (n + 1) l most other) where
+    module _ (most : ℕ) (one other : Option Witness) (watched : (l : Local) → on_bench first n
+        ≡ Some l → HasWatched spec r.callers b n l most one) (watched_too : (l : Local)
+        → on_bench first (n + 1) ≡ Some l → HasWatched spec r.callers b (n + 1) l most other) where
       pub all_monitored : most ≡ most_rounds plan → (i : ℕ) (l : Local) → IsMonitor plan i
-          → on_bench first i ≡ Some l → HasMonitored init next plan locals i l
+          → on_bench first i ≡ Some l → HasMonitored spec plan locals i l
       all_monitored same i before monitor there =
           each_monitor (λ k. (l : Local) → on_bench first k ≡ Some l
-          → HasMonitored init next plan locals k l) plan
+          → HasMonitored spec plan locals k l) plan
           (λ l here. monitored n l one (record { after = omega arith; before = omega arith })
-          (subst (λ (m : ℕ). HasWatched init next r.callers b n l m one) same (watched l here)))
+          (subst (λ (m : ℕ). HasWatched spec r.callers b n l m one) same (watched l here)))
           (λ l here.
           monitored (n + 1) l other (record { after = omega arith; before = omega arith })
-          (subst (λ (m : ℕ). HasWatched init next r.callers b (n + 1) l m other) same
+          (subst (λ (m : ℕ). HasWatched spec r.callers b (n + 1) l m other) same
           (watched_too l here)))
           i monitor before there
 
       pub found_by : (w : Witness) → (one ≡ Some w) ⊎ (other ≡ Some w)
-          → IsExactAnswer init next locals (Some w)
+          → IsExactAnswer spec locals (Some w)
       found_by w by =
           elim by [
             | inl is ↦
                 let me : IsMonitor plan n = record { after = omega arith; before = omega arith } in
                 let was = begins_unused meaning plan r first begins n me in
-                found n most was.local w me (subst (λ (own : Option Witness). HasWatched init next
+                found n most was.local w me (subst (λ (own : Option Witness). HasWatched spec
                 r.callers b n was.local most own) is (watched was.local was.here))
             | inr is ↦
                 let me : IsMonitor plan (n + 1) =
                 record { after = omega arith; before = omega arith } in
                 let was = begins_unused meaning plan r first begins (n + 1) me in
-                found (n + 1) most was.local w me (subst (λ (own : Option Witness). HasWatched init
-                next r.callers b (n + 1) was.local most own) is (watched_too was.local was.here))
+                found (n + 1) most was.local w me (subst (λ (own : Option Witness). HasWatched spec
+                r.callers b (n + 1) was.local most own) is (watched_too was.local was.here))
           ]

@@ -1,6 +1,7 @@
 -- The two monitors of a bench, from before the run to after it.
-use Rattle.std.proofs.Common.{◌≡◌, ◌∙◌, refl, sym, subst, inl, inr, ℕ, ◌+◌, ◌≤◌, Bool, true, false, ◌||◌, List, Some, length, arith}
+use Rattle.std.proofs.Common.{◌≡◌, ◌∙◌, refl, sym, subst, inl, inr, ℕ, ◌+◌, ◌≤◌, Bool, true, false, ◌||◌, Some, length, arith}
 use Rattle.std.proofs.lemmas.Bool.{cases_lt, false≢true}
+use Rattle.book_base.specs.SeqSpec.{SeqSpec}
 use Rattle.world_core.specs.Shape.{Meaning}
 use Rattle.world_core.specs.Local.{Local}
 use Rattle.row_table.specs.declared.rows.Rows.{Rows}
@@ -46,13 +47,13 @@ free_on n b s started i high unused = record {
   stance = (started i high).1 ∙ unused.stance;
 }
 
-module _ {P : Type 0} (init : List ℕ) (next : List ℕ → ℕ → List ℕ × ℕ) (callers n most : ℕ)
-    (b s w e : Bench P) (started : AreAlikeFrom n b s) (ended : AreAlikeFrom n w e) (left : Left)
-    (i k : ℕ) (same : k ≡ i) (high : n ≤ i) (back : (l : Local) → on_bench s k ≡ Some l
-    → IsBackFrom init next callers w k l most left) where
-  here_back : (l : Local) → on_bench s i ≡ Some l → IsBackFrom init next callers w i l most left
+module _ {P : Type 0} (spec : SeqSpec) (callers n most : ℕ) (b s w e : Bench P)
+    (started : AreAlikeFrom n b s) (ended : AreAlikeFrom n w e) (left : Left) (i k : ℕ)
+    (same : k ≡ i) (high : n ≤ i)
+    (back : (l : Local) → on_bench s k ≡ Some l → IsBackFrom spec callers w k l most left) where
+  here_back : (l : Local) → on_bench s i ≡ Some l → IsBackFrom spec callers w i l most left
   here_back = subst (λ (j : ℕ). (l : Local) → on_bench s j ≡ Some l
-      → IsBackFrom init next callers w j l most left) same back
+      → IsBackFrom spec callers w j l most left) same back
 
   -- a monitor comes back as it was, without calls
   pub back_unused : IsUnused b i → IsUnused e i
@@ -68,29 +69,27 @@ module _ {P : Type 0} (init : List ℕ) (next : List ℕ → ℕ → List ℕ ×
 
   -- a monitor that comes back has made its rounds
   pub back_watched : left.wants_memory ≡ false → (l : Local) → on_bench b i ≡ Some l
-      → HasWatched init next callers e i l most left.own
+      → HasWatched spec callers e i l most left.own
   back_watched none l here =
       let h = here_back l ((started i high).0 ∙ here) in
       record { local = h.local; here = (ended i high).0 ∙ h.here.here; rounds = h.rounds none }
 
 -- both monitors come back as they were, without calls
-pub monitors_back : {P : Type 0} (init : List ℕ) (next : List ℕ → ℕ → List ℕ × ℕ) (callers most : ℕ)
-    (plan : Plan) (meaning : P → ℕ → ℕ → Meaning) (r : Rows P) (b s w e : Bench P)
-    → MayBegin meaning plan 2 r b
+pub monitors_back : {P : Type 0} (spec : SeqSpec) (callers most : ℕ) (plan : Plan)
+    (meaning : P → ℕ → ℕ → Meaning) (r : Rows P) (b s w e : Bench P) → MayBegin meaning plan 2 r b
     → AreAlikeFrom (length plan.operations) b s → AreAlikeFrom (length plan.operations) w e
     → (one other : Left) (k : ℕ) → k ≡ length plan.operations
-    → ((l : Local) → on_bench s k ≡ Some l → IsBackFrom init next callers w k l most one)
-    → ((l : Local) → on_bench s (k + 1) ≡ Some l
-    → IsBackFrom init next callers w (k + 1) l most other)
+    → ((l : Local) → on_bench s k ≡ Some l → IsBackFrom spec callers w k l most one)
+    → ((l : Local) → on_bench s (k + 1) ≡ Some l → IsBackFrom spec callers w (k + 1) l most other)
     → (i : ℕ) → IsMonitor plan i → IsUnused e i
-monitors_back init next callers most plan meaning r b s w e begins started ended one other k count
+monitors_back spec callers most plan meaning r b s w e begins started ended one other k count
     back back_too =
     let n : ℕ = length plan.operations in
     each_monitor (λ i. IsUnused e i) plan
-    (back_unused init next callers n most b s w e started ended one n k count (omega arith) back
+    (back_unused spec callers n most b s w e started ended one n k count (omega arith) back
     (begins_unused meaning plan r b begins n
     (record { after = omega arith; before = omega arith })))
-    (back_unused init next callers n most b s w e started ended other (n + 1) (k + 1)
+    (back_unused spec callers n most b s w e started ended other (n + 1) (k + 1)
     (omega (arith, count)) (omega arith) back_too
     (begins_unused meaning plan r b begins (n + 1)
     (record { after = omega arith; before = omega arith })))

@@ -1,11 +1,12 @@
 -- What clients that judge no call leave, and the book of all their lines.
 use Rattle.std.specs.Prelude.{◌≡◌, ℕ, ◌<◌, List, length, map}
+use Rattle.book_base.specs.SeqSpec.{SeqSpec}
 use Rattle.world_core.specs.Local.{Local}
 use Rattle.world_core.specs.Calls.{page_with, calls_in, book_in, local_at}
 use Rattle.report_lines.specs.declared.line.Line.{Line}
 use Rattle.report_lines.specs.Lines.{made_of, book_of_lines, lines_at}
 use Rattle.report_lines.specs.Phases.{HasMade}
-use Rattle.client_calls.specs.Ends.{Sequential, SaysDeferred, HasLeftAt}
+use Rattle.client_calls.specs.Ends.{SaysDeferred, HasLeftAt}
 
 -- A caller's lines have the operation of each of its calls, and the call's record where it has one.
 abbrev pub HavePage : List Line → Local → Type 0
@@ -23,7 +24,7 @@ pub record HasDeferred (operations : List ℕ) (allotment p : ℕ) (l : Local)
 -- have its page.
 abbrev pub DeferringClientsMakeAll : Type 0
 DeferringClientsMakeAll =
-    (object : Sequential) (n : ℕ) (operations : List ℕ) (allotment p : ℕ) (l : Local)
+    (object : SeqSpec) (n : ℕ) (operations : List ℕ) (allotment p : ℕ) (l : Local)
     (own : List Line)
     → HasLeftAt (SaysDeferred object) n operations allotment p l own
     → HasDeferred operations allotment p l own

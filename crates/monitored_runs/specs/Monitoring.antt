@@ -1,6 +1,7 @@
 -- Runs whose callers judge nothing, while two monitors watch them: what they begin with, and what
 -- they leave.
 use Rattle.std.specs.Prelude.{◌≡◌, ℕ, ◌+◌, ◌%◌, ◌<◌, ◌≤◌, List, [], ◌∷◌, ◌++◌, Option, Some, IfSome, length, map, sum_by, slice_index}
+use Rattle.book_base.specs.SeqSpec.{SeqSpec}
 use Rattle.world_core.specs.Local.{Local, Given}
 use Rattle.world_core.specs.Calls.{calls_in, book_in, local_at}
 use Rattle.report_lines.specs.declared.line.Line.{Line}
@@ -58,13 +59,13 @@ pub record IsToldAll {T : Type 0} (made : T → ℕ) (told : T → Option (List 
   pub told_is : IfSome (told pass)
       (IsTold (slice_index (run_allotments plan) i) (calls_in (local_at locals i)))
 
-module _ (init : List ℕ) (next : List ℕ → ℕ → List ℕ × ℕ) where
+module _ (spec : SeqSpec) where
   -- The cuts that monitor i was given, after those that it had in this local, are those of its
   -- rounds over the calls of all callers.
   abbrev pub HasMonitored : Plan → List Local → ℕ → Local → Type 0
   HasMonitored plan locals i before =
       (rounds : List Given) × ((local_at locals i).cuts ≡ before.cuts ++ rounds)
-      × AreJudgedRounds init next (book_in locals) (most_rounds plan) rounds
+      × AreJudgedRounds spec (book_in locals) (most_rounds plan) rounds
 
 module _ {P : Type 0} where
   -- Each of a plan's callers whose allotment ends between two calls, or after all of them, is on
@@ -76,8 +77,8 @@ module _ {P : Type 0} where
 
   -- Caller i, which had this local, is on the bench after its rounds, which found this own witness
   -- or none.
-  pub record HasWatched (init : List ℕ) (next : List ℕ → ℕ → List ℕ × ℕ) (n : ℕ) (b : Bench P)
-      (i : ℕ) (before : Local) (most : ℕ) (own : Option Witness) : Type 0 where
+  pub record HasWatched (spec : SeqSpec) (n : ℕ) (b : Bench P) (i : ℕ) (before : Local) (most : ℕ)
+      (own : Option Witness) : Type 0 where
     pub local : Local
     pub here : on_bench b i ≡ Some local
-    pub rounds : HasMadeRounds init next n most before local own
+    pub rounds : HasMadeRounds spec n most before local own

@@ -19,7 +19,7 @@ pub fn judge_at<S: SeqObject>(
     requires wide { length cut.now ≡ length book.now }
     // Each record that the cut holds is in the book.
     requires within { IsWithin cut.now (answered book.now) }
-    ensures { IfOk result (IsJudgedAt (S.init object.now) (S.next object.now) book.now cut.now) }
+    ensures { IfOk result (IsJudgedAt (S.spec object.now) book.now cut.now) }
 {
     let part = book.at(alloc, cut)?;
     match check(alloc, object, &part)? {

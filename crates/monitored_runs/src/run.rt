@@ -69,7 +69,7 @@ fn judge_lines<S: SeqObject>(
     requires few { length script.now.operations + 2 ≤ MAX_CALLERS }
     requires within { IsWithin (published_for script.now)
         (answered (book_of_lines (with_monitors (lines_in lines.items)))) }
-    ensures { IfOk result (IsJudgedAt (S.init sequential.now) (S.next sequential.now)
+    ensures { IfOk result (IsJudgedAt (S.spec sequential.now)
         (book_of_lines (with_monitors (lines_in lines.items))) (published_for script.now)) }
 {
     let mut all = lines;
@@ -144,11 +144,9 @@ pub fn monitor_asked<
     // book at the last one has no legal order.
     ensures rounds { IfOk result
         (λ _. (i : ℕ) (l : Local) → IsMonitor script.now i → on_bench bench.old i ≡ Some l
-        → HasMonitored (S.init sequential.now) (S.next sequential.now) script.now
-        (locals_on bench.new) i l) }
+        → HasMonitored (S.spec sequential.now) script.now (locals_on bench.new) i l) }
     // An answer is a witness exactly where the book of all published records has no legal order.
-    ensures answer { IfOk result
-        (IsExactAnswer (S.init sequential.now) (S.next sequential.now) (locals_on bench.new)) }
+    ensures answer { IfOk result (IsExactAnswer (S.spec sequential.now) (locals_on bench.new)) }
 {
     let most = most_rounds(script);
     let (lines, one, other) = watch_all(
@@ -223,12 +221,10 @@ where
     // the calls of all callers.
     ensures rounds { IfOk result
         (λ _. (i : ℕ) (l : Local) → IsMonitor script.now i → on_bench bench.old i ≡ Some l
-        → HasMonitored (S.init sequential.now) (S.next sequential.now) script.now
-        (locals_on bench.new) i l) }
+        → HasMonitored (S.spec sequential.now) script.now (locals_on bench.new) i l) }
     // The answer is no witness exactly where the book of all published records has a legal order,
     // and else a witness.
-    ensures answer { IfOk result
-        (IsExactAnswer (S.init sequential.now) (S.next sequential.now) (locals_on bench.new)) }
+    ensures answer { IfOk result (IsExactAnswer (S.spec sequential.now) (locals_on bench.new)) }
 {
     passes_are_fresh(rows, object, passes, script);
     let asks = OutsideObject { object };

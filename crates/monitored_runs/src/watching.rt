@@ -51,12 +51,10 @@ fn watch_in<
     ensures done { AllZip (HasRun P.meaning shared.now.rows.now SaysDeferred (λ deferring. silent)
         (A.fits shared.now.asks.now) A.count) workers.old.items workers.new.items }
     ensures others { (i : ℕ) → i ≢ one → i ≢ one + 1 → IsUnmoved bench.old bench.new i }
-    ensures one { (l : Local) → on_bench bench.old one ≡ Some l
-        → IsBackFrom (S.init sequential.now) (S.next sequential.now) shared.now.rows.now.callers
-        bench.new one l rounds result.0 }
-    ensures other { (l : Local) → on_bench bench.old (one + 1) ≡ Some l
-        → IsBackFrom (S.init sequential.now) (S.next sequential.now) shared.now.rows.now.callers
-        bench.new (one + 1) l rounds result.1 }
+    ensures one { (l : Local) → on_bench bench.old one ≡ Some l → IsBackFrom
+        (S.spec sequential.now) shared.now.rows.now.callers bench.new one l rounds result.0 }
+    ensures other { (l : Local) → on_bench bench.old (one + 1) ≡ Some l → IsBackFrom
+        (S.spec sequential.now) shared.now.rows.now.callers bench.new (one + 1) l rounds result.1 }
 {
     watch_beside(
         rt,
@@ -115,14 +113,13 @@ pub(crate) fn watch_all<
         (length script.now.operations) (length script.now.operations)
         (course_of script.now (run_allotments script.now) silent)
         bench.new passes.new.items (lines_in left.0.items) false) }
-    ensures one { IfOk result
-        (λ left. (l : Local) → on_bench bench.old (length script.now.operations) ≡ Some l
-        → HasWatched (S.init sequential.now) (S.next sequential.now) shared.now.rows.now.callers
-        bench.new (length script.now.operations) l rounds left.1.own) }
+    ensures one { IfOk result (λ left. (l : Local) → on_bench bench.old
+        (length script.now.operations) ≡ Some l → HasWatched (S.spec sequential.now)
+        shared.now.rows.now.callers bench.new (length script.now.operations) l rounds left.1.own) }
     ensures other { IfOk result
         (λ left. (l : Local) → on_bench bench.old (length script.now.operations + 1) ≡ Some l
-        → HasWatched (S.init sequential.now) (S.next sequential.now) shared.now.rows.now.callers
-        bench.new (length script.now.operations + 1) l rounds left.2.own) }
+        → HasWatched (S.spec sequential.now) shared.now.rows.now.callers bench.new
+        (length script.now.operations + 1) l rounds left.2.own) }
 {
     let callers = script.callers();
     let ending = Deferring;

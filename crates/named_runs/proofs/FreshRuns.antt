@@ -1,11 +1,12 @@
 -- Runs that open the table of rows, and the object of a name, themselves.
 use Rattle.std.proofs.Common.{◌≡◌, ℕ, List, Option, length, sym, subst}
+use Rattle.book_base.specs.SeqSpec.{SeqSpec}
 use Rattle.world_core.specs.Shape.{Shape, Meaning}
 use Rattle.world_core.specs.Calls.{Made}
 use Rattle.report_lines.specs.Lawful.{IsLawful}
 use Rattle.client_scripts.specs.Plans.{Plan}
 use Rattle.seq_objects.specs.declared.kind.Kind.{Kind}
-use Rattle.seq_objects.specs.Objects.{kind_init, kind_next}
+use Rattle.seq_objects.specs.Objects.{kind_spec}
 use Rattle.row_table.specs.Callers.{shape_of}
 use Rattle.row_table.specs.declared.rows.Rows.{Rows}
 use Rattle.row_table.specs.declared.bench.Bench.{Bench}
@@ -15,8 +16,7 @@ use Rattle.run_writer.specs.declared.form.Form.{Form}
 use Rattle.byte_streams.specs.declared.status.Status.{Status}
 use Rattle.run_report.specs.Reporting.{outside_shape}
 use Rattle.run_writer.specs.Running.{IsToldBenchReport}
-use Rattle.client_calls.specs.Ends.{Sequential}
-use Rattle.run_writer.specs.Runs.{RunEnds, IsRunOutput, object_of_kind}
+use Rattle.run_writer.specs.Runs.{RunEnds, IsRunOutput}
 use Rattle.core_runs.specs.LoggedReports.{phases_in, calls_of_lines}
 use Rattle.named_runs.specs.NamedObjects.{AreTold, IsOfBehaviour}
 use Rattle.named_runs.specs.BehaviourRuns.{IsToldReport, IsNamedReport}
@@ -24,7 +24,7 @@ use Rattle.byte_streams.proofs.WritingLemmas.{EndsWriting-weaker}
 
 -- what is written of a run with one of some reports is written of a run with one of any reports
 -- that include these
-pub RunEnds-weaker : (object : Sequential) (A B : Findings → Type 0) (form : Form) (result : Status)
+pub RunEnds-weaker : (object : SeqSpec) (A B : Findings → Type 0) (form : Form) (result : Status)
     (taken taken' : Option (List ℕ)) → ((report : Findings) → A report → B report)
     → RunEnds object A form result taken taken' → RunEnds object B form result taken taken'
 RunEnds-weaker object A B form result taken taken' weaker ends =
@@ -34,15 +34,15 @@ RunEnds-weaker object A B form result taken taken' weaker ends =
 -- the report of a run over rows that were opened for it is lawful
 pub fresh_report : {P T : Type 0} (meaning : P → ℕ → ℕ → Meaning) (rows : Rows P) (bench : Bench P)
     (made : T → ℕ) (told : T → Option (List (ℕ × ℕ))) (passes : List T) (plan : Plan)
-    (allotments : List ℕ)
-    → shape_of meaning rows ≡ outside_shape (length plan.operations)
-    → (findings : Findings) → IsToldBenchReport (object_of_kind plan.kind) meaning rows bench made
-    told passes plan allotments findings → IsToldReport made told passes plan allotments findings
+    (allotments : List ℕ) → shape_of meaning rows ≡ outside_shape (length plan.operations)
+    → (findings : Findings) → IsToldBenchReport (kind_spec plan.kind) meaning rows bench made told
+    passes plan allotments findings → IsToldReport made told passes plan allotments findings
 fresh_report meaning rows bench made told passes plan allotments shape findings is = record {
   report = record {
     kind = is.report.kind;
-    lawful = subst (λ (s : Shape). IsLawful (kind_init plan.kind)
-        (kind_next plan.kind) s plan.operations allotments findings.lines) shape is.report.lawful;
+    lawful = subst
+        (λ (s : Shape). IsLawful (kind_spec plan.kind) s plan.operations allotments findings.lines)
+        shape is.report.lawful;
   };
   told_in = is.told_in;
 }

@@ -2,7 +2,7 @@
 use Rattle.std.proofs.Common.{◌≡◌, ◌∙◌, sym, ap, List, None, is_some, true≢false, false, length}
 use Rattle.std.specs.List.{list_any}
 use Rattle.seq_objects.specs.declared.kind.Kind.{Kind}
-use Rattle.seq_objects.specs.Objects.{kind_init, kind_next}
+use Rattle.seq_objects.specs.Objects.{kind_spec}
 use Rattle.world_core.specs.Local.{Local}
 use Rattle.report_lines.specs.Lines.{any_error}
 use Rattle.client_scripts.specs.Plans.{Plan}
@@ -18,12 +18,11 @@ use Rattle.named_runs.specs.BehaviourRuns.{IsNamedReport, IsNamedRunReport}
 -- the report of a run over an object inside the world, by other names for the behaviour and the
 -- kind
 pub named_inside : (behaviour known : Behaviour) → behaviour ≡ known → (plan : Plan) (kind : Kind)
-    → kind ≡ plan.kind → (findings : Findings)
-    → (locals : List Local) × IsReportOf (kind_init kind) (kind_next kind)
+    → kind ≡ plan.kind → (findings : Findings) → (locals : List Local) × IsReportOf (kind_spec kind)
     (world_of known kind (length plan.operations)) locals plan (run_allotments plan) findings
-    → list_any any_error findings.lines ≡ false
-    → IsOfBehaviour known kind (length findings.lines) (phases_in (run_allotments plan) findings)
-    (calls_of_lines findings) → IsNamedRunReport behaviour plan findings
+    → list_any any_error findings.lines ≡ false → IsOfBehaviour known kind (length findings.lines)
+    (phases_in (run_allotments plan) findings) (calls_of_lines findings)
+    → IsNamedRunReport behaviour plan findings
 named_inside behaviour known is plan kind same findings of none answered = record {
   named = record {
     report = record { kind = of.1.kind; lawful = rw (is, ← same) of.1.lawful };

@@ -1,7 +1,7 @@
 -- What the report of a run that opens the table of rows itself is.
 use Rattle.std.specs.Prelude.{◌≡◌, ℕ, false, List, Option, IsSome, length}
 use Rattle.std.specs.List.{list_any}
-use Rattle.seq_objects.specs.Objects.{kind_init, kind_next}
+use Rattle.seq_objects.specs.Objects.{kind_spec}
 use Rattle.world_core.specs.Shape.{Shape}
 use Rattle.report_lines.specs.Lawful.{IsLawful}
 use Rattle.report_lines.specs.Lines.{any_error}
@@ -20,8 +20,7 @@ use Rattle.named_runs.specs.Worlds.{inside_of, world_of}
 pub record IsLawfulReport (s : Shape) (plan : Plan) (allotments : List ℕ)
     (findings : Findings) : Type 0 where
   pub kind : findings.kind ≡ plan.kind
-  pub lawful : IsLawful (kind_init plan.kind)
-      (kind_next plan.kind) s plan.operations allotments findings.lines
+  pub lawful : IsLawful (kind_spec plan.kind) s plan.operations allotments findings.lines
 
 -- A lawful report of a run over an object outside the world. With these passes, in order, the
 -- object was asked for just the calls that their callers' lines determine, and where a pass tells a

@@ -5,7 +5,7 @@ use Rattle.shared_log.specs.declared.entry.Entry.{Entry}
 use Rattle.world_core.specs.Calls.{Made}
 use Rattle.report_lines.specs.Phases.{IsTold}
 use Rattle.seq_objects.specs.declared.kind.Kind.{Kind}
-use Rattle.seq_objects.specs.Objects.{kind_init, kind_next}
+use Rattle.seq_objects.specs.Objects.{kind_init, kind_next, kind_spec}
 use Rattle.lawful_objects.specs.Replays.{last_reply}
 use Rattle.lawful_objects.specs.Forms.{IsTallyReply, IsCellReply}
 use Rattle.faulty_objects.specs.Lossy.{lossy_reply}
@@ -40,13 +40,13 @@ IsOfBehaviour Lawful kind n phases calls =
 IsOfBehaviour Tally kind n phases calls = AreFormed IsTallyReply n calls
 IsOfBehaviour Cell kind n phases calls = AreFormed IsCellReply n calls
 IsOfBehaviour Lossy kind n phases calls =
-    IsLoggedBy (lossy_reply (kind_next kind) (kind_init kind)) n phases calls
+    IsLoggedBy (lossy_reply (kind_spec kind)) n phases calls
 IsOfBehaviour Twice kind n phases calls =
-    IsLoggedBy (twice_reply (kind_next kind) (kind_init kind)) n phases calls
+    IsLoggedBy (twice_reply (kind_spec kind)) n phases calls
 IsOfBehaviour Late kind n phases calls =
-    IsLoggedBy (late_reply (kind_next kind) (kind_init kind)) n phases calls
+    IsLoggedBy (late_reply (kind_spec kind)) n phases calls
 IsOfBehaviour Invent kind n phases calls =
-    IsLoggedBy (invent_reply (kind_next kind) (kind_init kind)) n phases calls
+    IsLoggedBy (invent_reply (kind_spec kind)) n phases calls
 IsOfBehaviour Split kind n phases calls = AreFormed IsTallyReply n calls
 IsOfBehaviour Onepass kind n phases calls = AreFormed IsQueueReply n calls
 

@@ -3,7 +3,7 @@ use Rattle.std.specs.Prelude.{ℕ, Option, Some, None, unwrap_or}
 use Rattle.book_base.specs.declared.TheConstants.{MAX_CALLS}
 use Rattle.seq_objects.specs.declared.kind.Kind.{Kind}
 use Rattle.seq_objects.specs.declared.kind.Kind.TheVariants.{Counter, Register}
-use Rattle.seq_objects.specs.Objects.{kind_init, kind_next}
+use Rattle.seq_objects.specs.Objects.{kind_spec}
 use Rattle.world_core.specs.Shape.{Shape}
 use Rattle.object_orders.specs.OneWord.{one_word_shape}
 use Rattle.object_orders.specs.TallyAndCell.{tally, cell}
@@ -17,7 +17,7 @@ use Rattle.faulty_objects.specs.declared.behaviour.Behaviour.TheVariants.{Lawful
 -- the tally for counters, and of the cell for registers. The shape is for a number of callers and
 -- has the greatest cap.
 abbrev pub inside_of : Behaviour → Kind → Option (ℕ → Shape)
-inside_of Lawful kind = Some (λ n. log_shape (kind_init kind) (kind_next kind) n MAX_CALLS)
+inside_of Lawful kind = Some (λ n. log_shape (kind_spec kind) n MAX_CALLS)
 inside_of Tally Counter = Some (λ n. one_word_shape n MAX_CALLS tally)
 inside_of Cell Register = Some (λ n. one_word_shape n MAX_CALLS cell)
 inside_of behaviour kind = None

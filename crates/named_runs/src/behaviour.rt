@@ -2,9 +2,10 @@
 
 ghost use Rattle.std.specs.Prelude.{◌≡◌, ◌⊎◌, ◌≤◌, ◌+◌, IsSome, length};
 ghost use Rattle.book_base.specs.declared.TheConstants.{MAX_CALLERS};
+ghost use Rattle.seq_objects.specs.Objects.{kind_spec};
 ghost use Rattle.byte_streams.specs.Fault.{LeavesSink};
 ghost use Rattle.byte_streams.specs.Writing.{EndsWriting};
-ghost use Rattle.run_writer.specs.Runs.{RunEnds, object_of_kind};
+ghost use Rattle.run_writer.specs.Runs.{RunEnds};
 ghost use Rattle.script_workers.specs.Starts.{run_allotments};
 ghost use Rattle.run_report.specs.Reporting.{outside_shape};
 ghost use Rattle.named_runs.specs.Worlds.{inside_of};
@@ -49,7 +50,7 @@ fn run_outside<R: Threads + Sync, K: Sink>(
     form: Form,
     sink: &mut K,
 ) -> Status
-    ensures ends { RunEnds (object_of_kind script.now.kind)
+    ensures ends { RunEnds (kind_spec script.now.kind)
         (IsNamedReport (outside_shape (length script.now.operations)) behaviour script.now
         (run_allotments script.now)) form result (K.taken sink.old) (K.taken sink.new) }
     ensures faults { LeavesSink K.faults result sink.old sink.new }
@@ -78,8 +79,8 @@ pub fn run_behaviour<R: Threads + Sync, K: Sink>(
 ) -> Status
     // The headline: what was written, with each status, is that of a lawful report, whose calls the
     // object of the behaviour answered.
-    ensures ends { RunEnds (object_of_kind script.now.kind) (IsNamedRunReport behaviour script.now)
-        form result (K.taken sink.old) (K.taken sink.new) }
+    ensures ends { RunEnds (kind_spec script.now.kind)
+        (IsNamedRunReport behaviour script.now) form result (K.taken sink.old) (K.taken sink.new) }
 
     // Over an object inside the world the status is `Fine`, failed writes and want of memory aside.
     ensures fine { IsSome (inside_of behaviour script.now.kind)
@@ -111,8 +112,7 @@ pub fn replay_behaviour<K: Sink>(
 ) -> Status
     // The headline: what was written, with each status, is that of a lawful report, whose calls the
     // object of the behaviour answered.
-    ensures ends { RunEnds (object_of_kind script.now.kind)
-        (IsNamedReplayReport behaviour script.now)
+    ensures ends { RunEnds (kind_spec script.now.kind) (IsNamedReplayReport behaviour script.now)
         form result (K.taken sink.old) (K.taken sink.new) }
 
     // The status is `WriteFault` only where the sink's count of faults rose in this call, and

@@ -3,12 +3,13 @@
 
 ghost use Rattle.std.specs.Prelude.{◌≡◌, ◌≤◌, ◌+◌, length, vec_len, vec_capacity};
 ghost use Rattle.book_base.specs.declared.TheConstants.{MAX_CALLERS};
+ghost use Rattle.seq_objects.specs.Objects.{kind_spec};
 ghost use Rattle.script_workers.specs.Places.{AreInOrder};
 ghost use Rattle.script_workers.specs.Starts.{run_allotments, replay_allotments};
 ghost use Rattle.run_report.specs.Passes.{IsOwnPass, AreUnusedPasses};
 ghost use Rattle.byte_streams.specs.Fault.{LeavesSink};
 ghost use Rattle.byte_streams.specs.Writing.{EndsWriting};
-ghost use Rattle.run_writer.specs.Runs.{RunEnds, object_of_kind};
+ghost use Rattle.run_writer.specs.Runs.{RunEnds};
 ghost use Rattle.named_runs.specs.BehaviourRuns.{IsToldReport};
 ghost use Rattle.named_runs.specs.Monitored.{AreToldMonitored, IsMonitorOutput};
 
@@ -51,10 +52,9 @@ where
 
     // The headline: what was written, with each status, is that of a lawful report that agrees with
     // what the passes count and tell.
-    ensures ends { RunEnds (object_of_kind script.now.kind)
+    ensures ends { RunEnds (kind_spec script.now.kind)
         (IsToldReport B.Pass.made B.Pass.told passes.new.items script.now
-        (run_allotments script.now))
-        form result (K.taken sink.old) (K.taken sink.new) }
+        (run_allotments script.now)) form result (K.taken sink.old) (K.taken sink.new) }
 
     // The status is `WriteFault` only where the sink's count of faults rose in this call, and
     // another one only where that count stayed; with `NoMemory` the sink is as it was.
@@ -96,10 +96,9 @@ pub fn replay_fresh<B: BlackBox, K: Sink>(
 
     // The headline: what was written, with each status, is that of a lawful report that agrees with
     // what the passes count and tell.
-    ensures ends { RunEnds (object_of_kind script.now.kind)
+    ensures ends { RunEnds (kind_spec script.now.kind)
         (IsToldReport B.Pass.made B.Pass.told passes.new.items script.now
-        (replay_allotments script.now))
-        form result (K.taken sink.old) (K.taken sink.new) }
+        (replay_allotments script.now)) form result (K.taken sink.old) (K.taken sink.new) }
 
     // The status is `WriteFault` only where the sink's count of faults rose in this call, and
     // another one only where that count stayed; with `NoMemory` the sink is as it was.

@@ -3,9 +3,10 @@
 
 ghost use Rattle.std.specs.Prelude.{◌≡◌, ◌≤◌, ◌+◌, length};
 ghost use Rattle.book_base.specs.declared.TheConstants.{MAX_CALLERS};
+ghost use Rattle.seq_objects.specs.Objects.{kind_spec};
 ghost use Rattle.byte_streams.specs.Fault.{LeavesSink};
 ghost use Rattle.byte_streams.specs.Writing.{EndsWriting};
-ghost use Rattle.run_writer.specs.Runs.{RunEnds, object_of_kind};
+ghost use Rattle.run_writer.specs.Runs.{RunEnds};
 ghost use Rattle.script_workers.specs.Starts.{run_allotments, replay_allotments};
 ghost use Rattle.run_report.specs.Reporting.{outside_shape};
 ghost use Rattle.named_runs.specs.BehaviourRuns.{IsNamedReport};
@@ -32,7 +33,7 @@ pub(crate) fn run_named<O: NamedObject + Sync, R: Threads + Sync, K: Sink>(
 where
     O::Pass: Send,
     requires named { _behaviour ≡ O.behaviour }
-    ensures ends { RunEnds (object_of_kind script.now.kind)
+    ensures ends { RunEnds (kind_spec script.now.kind)
         (IsNamedReport (outside_shape (length script.now.operations)) _behaviour script.now
         (run_allotments script.now)) form result (K.taken sink.old) (K.taken sink.new) }
     ensures faults { LeavesSink K.faults result sink.old sink.new }
@@ -54,7 +55,7 @@ pub(crate) fn replay_named<O: NamedObject, K: Sink>(
     sink: &mut K,
 ) -> Status
     requires named { _behaviour ≡ O.behaviour }
-    ensures ends { RunEnds (object_of_kind script.now.kind)
+    ensures ends { RunEnds (kind_spec script.now.kind)
         (IsNamedReport (outside_shape (length script.now.operations)) _behaviour script.now
         (replay_allotments script.now)) form result (K.taken sink.old) (K.taken sink.new) }
     ensures faults { LeavesSink K.faults result sink.old sink.new }

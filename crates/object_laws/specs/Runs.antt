@@ -6,11 +6,11 @@ use Rattle.book_base.specs.Sequential.{IsLegalRun}
 use Rattle.seq_objects.specs.declared.kind.Kind.{Kind}
 use Rattle.seq_objects.specs.Words.{OperationEntry, is_operation_of, argument_of}
 use Rattle.seq_objects.specs.Replies.{reply_done}
-use Rattle.seq_objects.specs.Objects.{kind_init, kind_next}
+use Rattle.seq_objects.specs.Objects.{kind_spec}
 
 -- The steps are a run of an object of this kind.
 abbrev pub IsRunOfKind : Kind → List (ℕ × ℕ) → Type 0
-IsRunOfKind kind steps = IsLegalRun (kind_init kind) (kind_next kind) steps
+IsRunOfKind kind steps = IsLegalRun (kind_spec kind) steps
 
 -- Whether a step has an operation of this entry.
 abbrev pub does : OperationEntry → ℕ × ℕ → Bool

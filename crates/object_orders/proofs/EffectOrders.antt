@@ -6,6 +6,7 @@ use Rattle.std.proofs.lemmas.Option.{same_Some, none-some, slice_get_within}
 use Rattle.std.proofs.lemmas.List.Elements.{Contains-append_left, Contains-push, Contains-push_cases}
 use Rattle.list_laws.proofs.Places.{get_or-replicate_default, slice_get-push_cases}
 use Rattle.book_base.specs.declared.call.Call.{Call}
+use Rattle.book_base.specs.SeqSpec.{SeqSpec}
 use Rattle.world_core.specs.Shape.{Shape}
 use Rattle.world_core.specs.Local.{Local, fresh}
 use Rattle.world_core.specs.Event.{Event}
@@ -108,22 +109,21 @@ before_on s e steps step a b t =
     }
 
 -- An order that linearizes a run's history, with the list and the replies of its last world.
-record Orders (init : List ℕ) (next : List ℕ → ℕ → List ℕ × ℕ) (s : Shape) (e : Effects)
-    (steps : List Step) (w : World) (history : List Happening) (order : List Done) : Type 0 where
-  lin : IsLinearization init next history order
-  list : list_after next init order ≡ e.list w
+record Orders (spec : SeqSpec) (s : Shape) (e : Effects) (steps : List Step) (w : World)
+    (history : List Happening) (order : List Done) : Type 0 where
+  lin : IsLinearization spec history order
+  list : list_after spec.next spec.init order ≡ e.list w
   replied : (d : Done) → Contains order d → e.reply w d.call ≡ Some d.reply
   stands : (call : Call) (reply : ℕ) → e.reply w call ≡ Some reply → (operation : ℕ)
       × Contains order (record { call = call; operation = operation; reply = reply })
   ordered : (p q : ℕ) (a b : Done) → p < q → slice_get order p ≡ Some a → slice_get order q ≡ Some b
       → TakesEffectBefore s e steps a.call b.call
 
-module _ (init : List ℕ) (next : List ℕ → ℕ → List ℕ × ℕ) (s : Shape) (e : Effects)
-    (has : HasEffects init next s e) where
+module _ (spec : SeqSpec) (s : Shape) (e : Effects) (has : HasEffects spec s e) where
   -- A step, with its happenings.
   module _ (steps : List Step) (w : World) (history : List Happening) (order : List Done)
-      (step : Step) (l : Leads s steps w history)
-      (o : Orders init next s e steps w history order) (may : IsTrue (is_possible s w step)) where
+      (step : Step) (l : Leads s steps w history) (o : Orders spec s e steps w history order)
+      (may : IsTrue (is_possible s w step)) where
     abbrev me : Local
     me = local_of w step.who
 
@@ -135,17 +135,17 @@ module _ (init : List ℕ) (next : List ℕ → ℕ → List ℕ × ℕ) (s : Sh
 
     -- the order linearizes the history with the step's happenings
     linearizes : Told step.who me (local_of v step.who) step.event here
-        → IsLinearization init next (history ++ here) order
+        → IsLinearization spec (history ++ here) order
     linearizes (Nothing is operations replies) =
-        subst (λ (hs : List Happening). IsLinearization init next (history ++ hs) order) (sym is)
-        (subst (λ (hs : List Happening). IsLinearization init next hs order)
+        subst (λ (hs : List Happening). IsLinearization spec (history ++ hs) order) (sym is)
+        (subst (λ (hs : List Happening). IsLinearization spec hs order)
         (sym (append-nil history)) o.lin)
     linearizes (Called operation is operations replies) =
         let who = possible s w step may in
         let long : length me.operations ≡ me.announced =
         ((kept s steps w history l).agree step.who who.caller).phase.operations in
-        subst (λ (hs : List Happening). IsLinearization init next (history ++ hs) order) (sym is)
-        (after_invocation init next history order o.lin (call_of step.who me.announced) operation
+        subst (λ (hs : List Happening). IsLinearization spec (history ++ hs) order) (sym is)
+        (after_invocation spec history order o.lin (call_of step.who me.announced) operation
         (λ x h. let a = invoked_announced s steps w history l (call_of step.who me.announced) x h in
         let low = slice_get_within me.operations me.announced x a.is in
         absurd (omega (arith, low, long))))
@@ -156,17 +156,17 @@ module _ (init : List ℕ) (next : List ℕ → ℕ → List ℕ × ℕ) (s : Sh
         let done = has.returns w step.who x reply (reached s steps w history l)
         (subst (λ (st : Step). IsTrue (is_possible s w st)) same may) in
         let there = o.stands call reply done in
-        subst (λ (hs : List Happening). IsLinearization init next (history ++ hs) order) (sym is)
-        (after_return init next history order o.lin call there.0 reply there.1)
+        subst (λ (hs : List Happening). IsLinearization spec (history ++ hs) order) (sym is)
+        (after_return spec history order o.lin call there.0 reply there.1)
 
-    linearized : IsLinearization init next (history ++ here) order
+    linearized : IsLinearization spec (history ++ here) order
     linearized = linearizes (step_told s w step (kept s steps w history l) may)
 
     abbrev on : Leads s (steps ++ step ∷ []) v (history ++ here)
     on = leads_on s steps w history step l may
 
     -- the step takes no call into effect
-    quiet : IsQuiet e w v → Orders init next s e (steps ++ step ∷ []) v (history ++ here) order
+    quiet : IsQuiet e w v → Orders spec s e (steps ++ step ∷ []) v (history ++ here) order
     quiet q =
         record {
           lin = linearized;
@@ -178,7 +178,7 @@ module _ (init : List ℕ) (next : List ℕ → ℕ → List ℕ × ℕ) (s : Sh
         }
 
     -- the step takes one call into effect
-    module _ (d : Done) (t : TakesEffect next s e w v d) where
+    module _ (d : Done) (t : TakesEffect spec.next s e w v d) where
       new : (f : Done) → Contains order f → f.call ≡ d.call → ⊥
       new f h same = none-some f.reply (sym t.before ∙ ap (e.reply w) (sym same) ∙ o.replied f h)
 
@@ -234,15 +234,15 @@ module _ (init : List ℕ) (next : List ℕ → ℕ → List ℕ × ℕ) (s : Sh
             ]
           ]
 
-      takes : Orders init next s e (steps ++ step ∷ []) v (history ++ here) (order ++ d ∷ [])
+      takes : Orders spec s e (steps ++ step ∷ []) v (history ++ here) (order ++ d ∷ [])
       takes =
           record {
             lin =
-                after_effect init next (history ++ here) order linearized d (announced_invoked s
+                after_effect spec (history ++ here) order linearized d (announced_invoked s
                 (steps ++ step ∷ []) v (history ++ here) on d.call d.operation t.announced) new
-                (ap (λ (xs : List ℕ). (next xs d.operation).1) o.list ∙ t.reply);
-            list = list_after-push next init order d
-                ∙ ap (λ (xs : List ℕ). (next xs d.operation).0) o.list ∙ t.list;
+                (ap (λ (xs : List ℕ). (spec.next xs d.operation).1) o.list ∙ t.reply);
+            list = list_after-push spec.next spec.init order d
+                ∙ ap (λ (xs : List ℕ). (spec.next xs d.operation).0) o.list ∙ t.list;
             replied = λ f h. elim (Contains-push_cases order d f h) [
               | inl old ↦ t.others f.call (new f old) ∙ o.replied f old
               | inr last ↦ subst (λ (g : Done). e.reply v g.call ≡ Some g.reply) last t.now
@@ -253,17 +253,17 @@ module _ (init : List ℕ) (next : List ℕ → ℕ → List ℕ × ℕ) (s : Sh
 
   -- Some order linearizes a run's history, with the list and the replies of its last world.
   abbrev HasOrder : List Step → World → List Happening → Type 0
-  HasOrder steps w history = (order : List Done) × Orders init next s e steps w history order
+  HasOrder steps w history = (order : List Done) × Orders spec s e steps w history order
 
   goes_on : (steps : List Step) (w : World) (history : List Happening) (order : List Done)
-      (later : List Step) → Leads s steps w history
-      → Orders init next s e steps w history order → IsTrue (are_possible s w later)
+      (later : List Step) → Leads s steps w history → Orders spec s e steps w history order
+      → IsTrue (are_possible s w later)
       → HasOrder (steps ++ later) (after_all s w later) (history ++ history_from s w later)
   goes_on steps w history order [] l o may = (
     order,
-    subst (λ (sts : List Step). Orders init next s e sts w (history ++ []) order)
+    subst (λ (sts : List Step). Orders spec s e sts w (history ++ []) order)
         (sym (append-nil steps))
-        (subst (λ (hs : List Happening). Orders init next s e steps w hs order)
+        (subst (λ (hs : List Happening). Orders spec s e steps w hs order)
         (sym (append-nil history)) o),
   )
   goes_on steps w history order (step ∷ later) l o may =
@@ -305,13 +305,13 @@ module _ (init : List ℕ) (next : List ℕ → ℕ → List ℕ × ℕ) (s : Sh
       }) run
 
 pub the_order_is_of_effects : TheOrderIsOfEffects
-the_order_is_of_effects init next s e has steps run =
-    let found = has_order init next s e has steps run in (
+the_order_is_of_effects spec s e has steps run =
+    let found = has_order spec s e has steps run in (
       found.0,
       found.1.lin,
       record { replied = found.1.replied; stands = found.1.stands; ordered = found.1.ordered },
     )
 
 pub effects_linearize : EffectsLinearize
-effects_linearize init next s e has steps run = let found =
-    the_order_is_of_effects init next s e has steps run in (found.0, found.1)
+effects_linearize spec s e has steps run = let found =
+    the_order_is_of_effects spec s e has steps run in (found.0, found.1)

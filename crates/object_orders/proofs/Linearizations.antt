@@ -6,6 +6,7 @@ use Rattle.std.proofs.lemmas.List.Elements.{All-push, All-weaker, All-contains, 
 use Rattle.std.proofs.lemmas.List.Quantifiers.{all_pairs_push}
 use Rattle.list_laws.proofs.Places.{slice_get-push_cases}
 use Rattle.book_base.specs.declared.call.Call.{Call}
+use Rattle.book_base.specs.SeqSpec.{SeqSpec}
 use Rattle.book_base.specs.Sequential.{IsRunFrom}
 use Rattle.world_core.specs.History.{Happening, Invoked, Returned, Done, step_of, ReturnsBefore, IsLinearization}
 
@@ -47,8 +48,8 @@ before_push history h a b (i, j, reply, operation, lt, back, call) =
       | inr last ↦ inr (operation, sym last.1)
     ]
 
-module _ (init : List ℕ) (next : List ℕ → ℕ → List ℕ × ℕ) (history : List Happening)
-    (order : List Done) (lin : IsLinearization init next history order) where
+module _ (spec : SeqSpec) (history : List Happening) (order : List Done)
+    (lin : IsLinearization spec history order) where
   all_invoked : (h : Happening)
       → All (λ (d : Done). Contains (history ++ h ∷ []) (Invoked d.call d.operation)) order
   all_invoked h =
@@ -68,7 +69,7 @@ module _ (init : List ℕ) (next : List ℕ → ℕ → List ℕ × ℕ) (histor
   -- an order of a history is also one after the invocation of a call that wasn't invoked before
   pub after_invocation : (call : Call) (operation : ℕ)
       → ((x : ℕ) → Contains history (Invoked call x) → ⊥)
-      → IsLinearization init next (history ++ Invoked call operation ∷ []) order
+      → IsLinearization spec (history ++ Invoked call operation ∷ []) order
   after_invocation call operation new =
       let h : Happening = Invoked call operation in
       record {
@@ -90,7 +91,7 @@ module _ (init : List ℕ) (next : List ℕ → ℕ → List ℕ × ℕ) (histor
   -- order
   pub after_return : (call : Call) (operation reply : ℕ)
       → Contains order (record { call = call; operation = operation; reply = reply })
-      → IsLinearization init next (history ++ Returned call reply ∷ []) order
+      → IsLinearization spec (history ++ Returned call reply ∷ []) order
   after_return call operation reply stands =
       let h : Happening = Returned call reply in
       record {
@@ -119,13 +120,13 @@ module _ (init : List ℕ) (next : List ℕ → ℕ → List ℕ × ℕ) (histor
   -- sequential object
   module _ (d : Done) (invoked : Contains history (Invoked d.call d.operation))
       (new : (e : Done) → Contains order e → e.call ≡ d.call → ⊥)
-      (is : (next (list_after next init order) d.operation).1 ≡ d.reply) where
+      (is : (spec.next (list_after spec.next spec.init order) d.operation).1 ≡ d.reply) where
     unreturned : (reply : ℕ) → Contains history (Returned d.call reply) → ⊥
     unreturned reply back =
         let found = lin.returned d.call reply back in
         new (record { call = d.call; operation = found.0; reply = reply }) found.1 refl
 
-    pub after_effect : IsLinearization init next history (order ++ d ∷ [])
+    pub after_effect : IsLinearization spec history (order ++ d ∷ [])
     after_effect =
         record {
           invoked = All-push (λ (e : Done). Contains history (Invoked e.call e.operation)) order d
@@ -139,7 +140,7 @@ module _ (init : List ℕ) (next : List ℕ → ℕ → List ℕ × ℕ) (histor
                 Contains-append_left order (d ∷ [])
                     (record { call = a; operation = found.0; reply = reply }) found.1,
               );
-          legal = is_run-push next init order d lin.legal is;
+          legal = is_run-push spec.next spec.init order d lin.legal is;
           ordered = λ p q a b at there before. elim (slice_get-push_cases order d p a at) [
             | inl old ↦ elim (slice_get-push_cases order d q b there) [
               | inl here ↦ lin.ordered p q a b old here before

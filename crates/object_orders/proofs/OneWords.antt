@@ -7,6 +7,7 @@ use Rattle.std.proofs.lemmas.Option.{slice_get_past}
 use Rattle.list_laws.proofs.Places.{get_or-replicate_default, slice_get-push_last}
 use Rattle.book_base.specs.declared.TheConstants.{BAD}
 use Rattle.book_base.specs.declared.call.Call.{Call}
+use Rattle.book_base.specs.SeqSpec.{SeqSpec}
 use Rattle.world_core.specs.Layout.{object_index}
 use Rattle.world_core.specs.Shape.{Shape, words_of}
 use Rattle.world_core.specs.Local.{Local, Object_step, fresh, with_step}
@@ -46,8 +47,8 @@ pub reply_is : (x : Option ℕ) (reply : ℕ) → is_reply x reply ≡ true → 
 reply_is None reply h = absurd cc
 reply_is (Some x) reply h = ap Some (sym (eqb-true reply x h))
 
-module _ (o : OneWord) (list : ℕ → List ℕ) (init : List ℕ) (next : List ℕ → ℕ → List ℕ × ℕ)
-    (serves : Serves o list init next) (n cap : ℕ) where
+module _ (o : OneWord) (list : ℕ → List ℕ) (spec : SeqSpec) (serves : Serves o list spec)
+    (n cap : ℕ) where
   abbrev s : Shape
   s = one_word_shape n cap o
 
@@ -154,7 +155,7 @@ module _ (o : OneWord) (list : ℕ → List ℕ) (init : List ℕ) (next : List 
           ∙ ap (reply_of o operation) (same_steps new
           ∙ get_or_past l.object_steps new [] (omega (arith, h.operations, h.object_steps)))
 
-      announces : IsQuietOrTakesEffect next s (one_word_effects s o list) w v
+      announces : IsQuietOrTakesEffect spec.next s (one_word_effects s o list) w v
       announces =
           elim (cases_Bool (o.makes_step operation)) [
             | inl some ↦ inl (quiet no_step (λ j. elim (cases_eq j new) [
@@ -205,7 +206,7 @@ module _ (o : OneWord) (list : ℕ → List ℕ) (init : List ℕ) (next : List 
     abbrev k : ℕ
     k = me.published
 
-    makes_step : IsQuietOrTakesEffect next s (one_word_effects s o list) w u
+    makes_step : IsQuietOrTakesEffect spec.next s (one_word_effects s o list) w u
     makes_step =
         let p = object_step s w who step kept may in
         let op : ℕ = operation_now me in
@@ -253,7 +254,7 @@ module _ (o : OneWord) (list : ℕ → List ℕ) (init : List ℕ) (next : List 
   by_event : (w : World) (who : ℕ) (kept : Kept s w) (event : Event)
       (may : IsTrue (is_possible s w (record { who = who; event = event })))
       → Adds (local_of w who) (local_of (after s w (record { who = who; event = event })) who) event
-      → IsQuietOrTakesEffect next s (one_word_effects s o list) w
+      → IsQuietOrTakesEffect spec.next s (one_word_effects s o list) w
       (after s w (record { who = who; event = event }))
   by_event w who kept event may (Adds_nothing no_step operations steps) =
       inl (quiet w who kept event may no_step (same_reply w who kept event may operations steps))
@@ -261,7 +262,7 @@ module _ (o : OneWord) (list : ℕ → List ℕ) (init : List ℕ) (next : List 
       announces w who kept event may operation (subst IsNoObjectStep (sym is) tt) operations steps
   by_event w who kept event may (Adds_step step is operations steps) =
       let v : Event → World = λ ev. after s w (record { who = who; event = ev }) in
-      subst (λ (ev : Event). IsQuietOrTakesEffect next s (one_word_effects s o list) w (v ev))
+      subst (λ (ev : Event). IsQuietOrTakesEffect spec.next s (one_word_effects s o list) w (v ev))
       (sym is)
       (makes_step w who kept step
       (subst (λ (ev : Event). IsTrue (is_possible s w (record { who = who; event = ev }))) is may)
@@ -270,7 +271,7 @@ module _ (o : OneWord) (list : ℕ → List ℕ) (init : List ℕ) (next : List 
       (subst (λ (ev : Event). (local_of (v ev) who).object_steps
       ≡ with_step (local_of w who).object_steps (local_of w who).published step) is steps))
 
-  pub has_effects : HasEffects init next s (one_word_effects s o list)
+  pub has_effects : HasEffects spec s (one_word_effects s o list)
   has_effects =
       record {
         first =
@@ -289,13 +290,13 @@ module _ (o : OneWord) (list : ℕ → List ℕ) (init : List ℕ) (next : List 
       }
 
 pub one_words_linearize : OneWordsLinearize
-one_words_linearize o list init next serves n cap steps run =
-    effects_linearize init next (one_word_shape n cap o)
+one_words_linearize o list spec serves n cap steps run =
+    effects_linearize spec (one_word_shape n cap o)
     (one_word_effects (one_word_shape n cap o) o list)
-    (has_effects o list init next serves n cap) steps run
+    (has_effects o list spec serves n cap) steps run
 
 pub one_word_orders_are_of_steps : OneWordOrdersAreOfSteps
-one_word_orders_are_of_steps o list init next serves n cap steps run =
-    the_order_is_of_effects init next (one_word_shape n cap o)
+one_word_orders_are_of_steps o list spec serves n cap steps run =
+    the_order_is_of_effects spec (one_word_shape n cap o)
     (one_word_effects (one_word_shape n cap o) o list)
-    (has_effects o list init next serves n cap) steps run
+    (has_effects o list spec serves n cap) steps run

@@ -2,8 +2,9 @@
 use Rattle.std.proofs.Common.{◌≡◌, ℕ, ◌+◌, ◌*◌, ◌%◌, ◌^◌, true, false, ◌||◌, if◌then◌else◌, List, [], ◌∷◌, refl, sym, ap, ◌∙◌, arith, inl, inr}
 use Rattle.std.proofs.lemmas.Bool.{cases_Bool}
 use Rattle.book_base.specs.declared.TheConstants.{BAD}
+use Rattle.book_base.specs.SeqSpec.{spec_from}
 use Rattle.seq_objects.specs.declared.kind.Kind.TheVariants.{Counter, Register}
-use Rattle.seq_objects.specs.Objects.{kind_init, kind_next}
+use Rattle.seq_objects.specs.Objects.{kind_next, kind_spec}
 use Rattle.seq_objects.specs.Words.{is_operation_of, argument_of}
 use Rattle.seq_objects.specs.Words as words
 use Rattle.seq_objects.specs.Replies.{reply_done, reply_value}
@@ -41,13 +42,12 @@ tally_serves_counter = record { first = refl; step = counts; no_step = counts_no
 
 pub tallies_linearize : TalliesLinearize
 tallies_linearize n cap steps run =
-    one_words_linearize tally count_in (kind_init Counter)
-    (kind_next Counter) tally_serves_counter n cap steps run
+    one_words_linearize tally count_in (kind_spec Counter) tally_serves_counter n cap steps run
 
 -- the law of tallies, for the counter as its sequential object has it
 pub tallies_linearize_counters : (n cap : ℕ) (steps : List Step)
     → IsRun (one_word_shape n cap tally) steps
-    → IsLinearizable (0 ∷ []) (λ list op. counter_after list (counter_operation op))
+    → IsLinearizable (spec_from (0 ∷ []) (λ list op. counter_after list (counter_operation op)))
     (history_of (one_word_shape n cap tally) steps)
 unfolding kind_next
 tallies_linearize_counters n cap steps run = tallies_linearize n cap steps run
@@ -92,13 +92,12 @@ cell_serves_register = record { first = refl; step = holds_value; no_step = hold
 
 pub cells_linearize : CellsLinearize
 cells_linearize n cap steps run =
-    one_words_linearize cell value_in (kind_init Register)
-    (kind_next Register) cell_serves_register n cap steps run
+    one_words_linearize cell value_in (kind_spec Register) cell_serves_register n cap steps run
 
 -- the law of cells, for the register as its sequential object has it
 pub cells_linearize_registers : (n cap : ℕ) (steps : List Step)
     → IsRun (one_word_shape n cap cell) steps
-    → IsLinearizable (0 ∷ []) (λ list op. register_after list (register_operation op))
+    → IsLinearizable (spec_from (0 ∷ []) (λ list op. register_after list (register_operation op)))
     (history_of (one_word_shape n cap cell) steps)
 unfolding kind_next
 cells_linearize_registers n cap steps run = cells_linearize n cap steps run

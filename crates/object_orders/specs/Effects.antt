@@ -1,6 +1,7 @@
 -- Objects whose calls take effect one at a time, each between its announcement and its return.
 use Rattle.std.specs.Prelude.{◌≡◌, ◌≢◌, ℕ, ◌<◌, List, ◌++◌, length, Option, Some, None, slice_get, IsTrue, ◌⊎◌, Contains}
 use Rattle.book_base.specs.declared.call.Call.{Call}
+use Rattle.book_base.specs.SeqSpec.{SeqSpec}
 use Rattle.world_core.specs.Shape.{Shape}
 use Rattle.world_core.specs.World.{World, Step, start, after, local_of, is_possible, IsRun, end_of, IsReachable}
 use Rattle.world_core.specs.History.{Done, IsLinearization, IsLinearizable, history_of, call_of}
@@ -39,14 +40,13 @@ abbrev pub IsQuietOrTakesEffect : (List ℕ → ℕ → List ℕ × ℕ) → Sha
 IsQuietOrTakesEffect next s e w v = IsQuiet e w v ⊎ ((d : Done) × TakesEffect next s e w v d)
 
 -- The calls of every run take effect one at a time.
-pub record HasEffects (init : List ℕ) (next : List ℕ → ℕ → List ℕ × ℕ) (s : Shape)
-    (e : Effects) : Type 0 where
+pub record HasEffects (spec : SeqSpec) (s : Shape) (e : Effects) : Type 0 where
   -- at the start the sequential object has its first list, and no call has taken effect
-  pub first : e.list (start s) ≡ init
+  pub first : e.list (start s) ≡ spec.init
   pub none : (call : Call) → e.reply (start s) call ≡ None
   -- at most one call takes effect at each step
   pub step : (w : World) (step : Step) → IsReachable s w → IsTrue (is_possible s w step)
-      → IsQuietOrTakesEffect next s e w (after s w step)
+      → IsQuietOrTakesEffect spec.next s e w (after s w step)
   -- a call that returns has taken effect, with the reply that it returns
   pub returns : (w : World) (i x reply : ℕ) → IsReachable s w
       → IsTrue (is_possible s w (return_of i x reply))
@@ -74,23 +74,22 @@ pub record IsOrderOfEffects (s : Shape) (e : Effects) (steps : List Step)
       → slice_get order q ≡ Some b → TakesEffectBefore s e steps a.call b.call
 
 -- A history has a linearization in the order of the run's effects.
-abbrev pub IsLinearizedByEffects : List ℕ → (List ℕ → ℕ → List ℕ × ℕ) → Shape → Effects
-    → List Step → Type 0
-IsLinearizedByEffects init next s e steps =
-    (order : List Done) × IsLinearization init next (history_of s steps) order
+abbrev pub IsLinearizedByEffects : SeqSpec → Shape → Effects → List Step → Type 0
+IsLinearizedByEffects spec s e steps =
+    (order : List Done) × IsLinearization spec (history_of s steps) order
     × IsOrderOfEffects s e steps order
 
 -- Where calls take effect one at a time, the object history of each run is linearizable.
 abbrev pub EffectsLinearize : Type 0
 EffectsLinearize =
-    (init : List ℕ) (next : List ℕ → ℕ → List ℕ × ℕ) (s : Shape) (e : Effects)
-    → HasEffects init next s e
-    → (steps : List Step) → IsRun s steps → IsLinearizable init next (history_of s steps)
+    (spec : SeqSpec) (s : Shape) (e : Effects)
+    → HasEffects spec s e
+    → (steps : List Step) → IsRun s steps → IsLinearizable spec (history_of s steps)
 
 -- Where calls take effect one at a time, the order of effects linearizes the object history of each
 -- run.
 abbrev pub TheOrderIsOfEffects : Type 0
 TheOrderIsOfEffects =
-    (init : List ℕ) (next : List ℕ → ℕ → List ℕ × ℕ) (s : Shape) (e : Effects)
-    → HasEffects init next s e
-    → (steps : List Step) → IsRun s steps → IsLinearizedByEffects init next s e steps
+    (spec : SeqSpec) (s : Shape) (e : Effects)
+    → HasEffects spec s e
+    → (steps : List Step) → IsRun s steps → IsLinearizedByEffects spec s e steps

@@ -1,6 +1,7 @@
 -- Objects of one word, whose calls make at most one step on it.
 use Rattle.std.specs.Prelude.{◌≡◌, ℕ, Bool, true, false, ◌&&◌, ◌==◌, if◌then◌else◌, List, [], ◌∷◌, Option, Some, None, slice_get, slice_index_or}
 use Rattle.book_base.specs.declared.TheConstants.{BAD}
+use Rattle.book_base.specs.SeqSpec.{SeqSpec}
 use Rattle.world_core.specs.Shape.{Shape, Meaning}
 use Rattle.world_core.specs.Local.{Local, Object_step}
 use Rattle.world_core.specs.CallSteps.{operation_now, steps_now}
@@ -53,13 +54,12 @@ one_word_shape n cap o = record { callers = n; cap = cap; program = one_word_pro
 -- An object of one word serves a sequential object, whose list is read off the word: the word 0 has
 -- the first list, a step makes the operation, and an operation without a step leaves each such list
 -- unchanged and replies bad.
-pub record Serves (o : OneWord) (list : ℕ → List ℕ) (init : List ℕ)
-    (next : List ℕ → ℕ → List ℕ × ℕ) : Type 0 where
-  pub first : list 0 ≡ init
+pub record Serves (o : OneWord) (list : ℕ → List ℕ) (spec : SeqSpec) : Type 0 where
+  pub first : list 0 ≡ spec.init
   pub step : (operation x : ℕ) → o.makes_step operation ≡ true
-      → next (list x) operation ≡ (list (o.leaves operation x), o.replies operation x)
+      → spec.next (list x) operation ≡ (list (o.leaves operation x), o.replies operation x)
   pub no_step : (operation x : ℕ) → o.makes_step operation ≡ false
-      → next (list x) operation ≡ (list x, BAD)
+      → spec.next (list x) operation ≡ (list x, BAD)
 
 -- The reply of a call by its operation and its steps; a call that isn't announced has no operation,
 -- and no reply.
@@ -85,17 +85,17 @@ one_word_effects s o list =
 -- object that it serves.
 abbrev pub OneWordsLinearize : Type 0
 OneWordsLinearize =
-    (o : OneWord) (list : ℕ → List ℕ) (init : List ℕ) (next : List ℕ → ℕ → List ℕ × ℕ)
-    → Serves o list init next
+    (o : OneWord) (list : ℕ → List ℕ) (spec : SeqSpec)
+    → Serves o list spec
     → (n cap : ℕ) (steps : List Step) → IsRun (one_word_shape n cap o) steps
-    → IsLinearizable init next (history_of (one_word_shape n cap o) steps)
+    → IsLinearizable spec (history_of (one_word_shape n cap o) steps)
 
 -- The order of the calls' steps and, for calls without a step, announcements linearizes the object
 -- history of every run of an object of one word.
 abbrev pub OneWordOrdersAreOfSteps : Type 0
 OneWordOrdersAreOfSteps =
-    (o : OneWord) (list : ℕ → List ℕ) (init : List ℕ) (next : List ℕ → ℕ → List ℕ × ℕ)
-    → Serves o list init next
+    (o : OneWord) (list : ℕ → List ℕ) (spec : SeqSpec)
+    → Serves o list spec
     → (n cap : ℕ) (steps : List Step) → IsRun (one_word_shape n cap o) steps
-    → IsLinearizedByEffects init next (one_word_shape n cap o)
+    → IsLinearizedByEffects spec (one_word_shape n cap o)
     (one_word_effects (one_word_shape n cap o) o list) steps

@@ -2,7 +2,7 @@
 -- register.
 use Rattle.std.specs.Prelude.{ℕ, ◌+◌, ◌%◌, ◌^◌, ◌||◌, if◌then◌else◌, List, [], ◌∷◌}
 use Rattle.seq_objects.specs.declared.kind.Kind.TheVariants.{Counter, Register}
-use Rattle.seq_objects.specs.Objects.{kind_init, kind_next}
+use Rattle.seq_objects.specs.Objects.{kind_spec}
 use Rattle.seq_objects.specs.Words.{is_operation_of, argument_of}
 use Rattle.seq_objects.specs.Words as words
 use Rattle.seq_objects.specs.Replies.{reply_done, reply_value}
@@ -41,22 +41,22 @@ value_in x = x ∷ []
 
 -- The tally serves the counter.
 abbrev pub TallyServesCounter : Type 0
-TallyServesCounter = Serves tally count_in (kind_init Counter) (kind_next Counter)
+TallyServesCounter = Serves tally count_in (kind_spec Counter)
 
 -- The cell serves the register.
 abbrev pub CellServesRegister : Type 0
-CellServesRegister = Serves cell value_in (kind_init Register) (kind_next Register)
+CellServesRegister = Serves cell value_in (kind_spec Register)
 
 -- The object history of every run of the tally is linearizable for the counter.
 abbrev pub TalliesLinearize : Type 0
 TalliesLinearize =
     (n cap : ℕ) (steps : List Step) → IsRun (one_word_shape n cap tally) steps
-    → IsLinearizable (kind_init Counter) (kind_next Counter)
+    → IsLinearizable (kind_spec Counter)
     (history_of (one_word_shape n cap tally) steps)
 
 -- The object history of every run of the cell is linearizable for the register.
 abbrev pub CellsLinearize : Type 0
 CellsLinearize =
     (n cap : ℕ) (steps : List Step) → IsRun (one_word_shape n cap cell) steps
-    → IsLinearizable (kind_init Register) (kind_next Register)
+    → IsLinearizable (kind_spec Register)
     (history_of (one_word_shape n cap cell) steps)

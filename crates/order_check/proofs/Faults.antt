@@ -5,6 +5,7 @@ use Rattle.std.proofs.lemmas.Option.{same_Some, none-some, slice_get_within}
 use Rattle.book_base.specs.declared.call.Call.{Call}
 use Rattle.book_base.specs.declared.call.Record.{Record as Answer}
 use Rattle.book_base.specs.declared.call.Place.{Place}
+use Rattle.book_base.specs.SeqSpec.{SeqSpec, spec_from}
 use Rattle.book_base.specs.Book.{Page, record_of}
 use Rattle.book_base.specs.Sequential.{IsRunFrom}
 use Rattle.book_base.specs.Order.{call_at, StandsAt, step_at}
@@ -19,7 +20,7 @@ use Rattle.order_check.specs.Laws.{LegalOrdersFailNoTest, FirstFaultsAreOne}
 pub reply_in_run : (next : List ℕ → ℕ → List ℕ × ℕ) (book : List Page) (list : List ℕ)
     (order : List Place) → IsRunFrom next list (map (step_at book) order)
     → (k : ℕ) (place : Place) → slice_get order k ≡ Some place
-    → reply_after_places list next book order k place ≡ place.reply
+    → reply_after_places (spec_from list next) book order k place ≡ place.reply
 reply_in_run next book list [] run k place at = absurd (none-some place at)
 reply_in_run next book list (x ∷ xs) run zero place at =
     subst (λ (y : Place). (next list (step_at book y).0).1 ≡ y.reply) (same_Some x place at) run.0
@@ -30,7 +31,7 @@ reply_in_run next book list (x ∷ xs) run (suc k) place at =
 pub run_from_replies : (next : List ℕ → ℕ → List ℕ × ℕ) (book : List Page) (list : List ℕ)
     (order : List Place)
     → ((k : ℕ) (place : Place) → slice_get order k ≡ Some place
-    → reply_after_places list next book order k place ≡ place.reply)
+    → reply_after_places (spec_from list next) book order k place ≡ place.reply)
     → IsRunFrom next list (map (step_at book) order)
 run_from_replies next book list [] given = tt
 run_from_replies next book list (x ∷ xs) given = (
@@ -55,14 +56,14 @@ same_stands order k a b (p, at, is) (q, bt, js) = let same : p ≡ q = same_Some
     sym is ∙ (ap call_at same ∙ js)
 
 pub legal_orders_fail_no_test : LegalOrdersFailNoTest
-legal_orders_fail_no_test init next book order h (Unknown p) f = f.2 (h.calls p f.0 f.1)
-legal_orders_fail_no_test init next book order h (Twice p) f =
+legal_orders_fail_no_test spec book order h (Unknown p) f = f.2 (h.calls p f.0 f.1)
+legal_orders_fail_no_test spec book order h (Twice p) f =
     absurd (omega (arith, h.once f.2 p f.0 f.4 f.1, f.3))
-legal_orders_fail_no_test init next book order h (Skipped p) f =
+legal_orders_fail_no_test spec book order h (Skipped p) f =
     let before = h.earlier p f.0 f.1 f.2 (omega (arith, f.3)) in f.4 before.0 before.1 before.2
-legal_orders_fail_no_test init next book order h (Late q p) f =
+legal_orders_fail_no_test spec book order h (Late q p) f =
     absurd (omega (arith, h.precedence p q f.0 f.1 f.2 f.3 f.5, f.4))
-legal_orders_fail_no_test init next book order h (Record p wanted found) f =
+legal_orders_fail_no_test spec book order h (Record p wanted found) f =
     let place : Place = f.0 in
     let r : Answer = f.1 in
     let there = h.answered (call_at place) r f.3 in
@@ -73,21 +74,20 @@ legal_orders_fail_no_test init next book order h (Record p wanted found) f =
     let same : other ≡ place =
     same_Some other place (sym there.1 ∙ (ap (slice_get order) one ∙ f.2)) in
     f.6 (f.4 ∙ (ap (λ (x : Place). x.reply) same ∙ sym f.5))
-legal_orders_fail_no_test init next book order h (Run p wanted found) f =
-    f.4 (f.2 ∙ (reply_in_run next book init order h.run p f.0 f.1 ∙ sym f.3))
-legal_orders_fail_no_test init next book order h (Missing caller number) f =
+legal_orders_fail_no_test spec book order h (Run p wanted found) f =
+    f.4 (f.2 ∙ (reply_in_run spec.next book spec.init order h.run p f.0 f.1 ∙ sym f.3))
+legal_orders_fail_no_test spec book order h (Missing caller number) f =
     let call : Call = record { caller = caller; number = number } in
     let known = answer_stands book call f.0 in
     let there = h.answered call known.0 known.1 in
     f.1 there.0 (record { caller = caller; number = number; reply = known.0.reply }, there.1, refl)
 
 -- the object gives equal places at one index the same reply
-same_run : (init : List ℕ) (next : List ℕ → ℕ → List ℕ × ℕ) (book : List Page) (order : List Place)
-    (p q : ℕ) (a b : Place) → p ≡ q → a ≡ b
-    → reply_after_places init next book order p a ≡ reply_after_places init next book order q b
-same_run init next book order p q a b place same =
-    ap (λ (k : ℕ). reply_after_places init next book order k a) place
-    ∙ ap (λ (x : Place). reply_after_places init next book order q x) same
+same_run : (spec : SeqSpec) (book : List Page) (order : List Place) (p q : ℕ) (a b : Place) → p ≡ q
+    → a ≡ b → reply_after_places spec book order p a ≡ reply_after_places spec book order q b
+same_run spec book order p q a b place same =
+    ap (λ (k : ℕ). reply_after_places spec book order k a) place
+    ∙ ap (λ (x : Place). reply_after_places spec book order q x) same
 
 -- an order has one place at an index
 same_place_at : (order : List Place) (p q : ℕ) (a b : Place) → p ≡ q → slice_get order p ≡ Some a
@@ -96,19 +96,18 @@ same_place_at order p q a b place at bt = same_Some a b (sym at ∙ (ap (slice_g
 
 -- two faults that the list has are equal, where they are of one place within the list, and of one
 -- turn and step
-same_inside : (init : List ℕ) (next : List ℕ → ℕ → List ℕ × ℕ) (book : List Page)
-    (order : List Place) (e f : OrderFault) → place_of order e < length order
-    → FailsTest init next book order e → FailsTest init next book order f
+same_inside : (spec : SeqSpec) (book : List Page) (order : List Place) (e f : OrderFault)
+    → place_of order e < length order → FailsTest spec book order e → FailsTest spec book order f
     → place_of order e ≡ place_of order f → turn_of e ≡ turn_of f → step_of e ≡ step_of f → e ≡ f
-same_inside init next book order (Unknown p) (Unknown q) inside a b place turn step =
+same_inside spec book order (Unknown p) (Unknown q) inside a b place turn step =
     ap (λ (k : ℕ). Unknown k) place
-same_inside init next book order (Twice p) (Twice q) inside a b place turn step =
+same_inside spec book order (Twice p) (Twice q) inside a b place turn step =
     ap (λ (k : ℕ). Twice k) place
-same_inside init next book order (Skipped p) (Skipped q) inside a b place turn step =
+same_inside spec book order (Skipped p) (Skipped q) inside a b place turn step =
     ap (λ (k : ℕ). Skipped k) place
-same_inside init next book order (Late i p) (Late j q) inside a b place turn step =
+same_inside spec book order (Late i p) (Late j q) inside a b place turn step =
     ap (λ (k : ℕ). Late k p) step ∙ ap (λ (k : ℕ). Late j k) place
-same_inside init next book order (Record p w x) (Record q v y) inside a b place turn step =
+same_inside spec book order (Record p w x) (Record q v y) inside a b place turn step =
     let one : a.0 ≡ b.0 = same_place_at order p q a.0 b.0 place a.2 b.2 in
     let answer : a.1 ≡ b.1 =
     same_Some a.1 b.1 (sym a.3 ∙ (ap (λ (k : Place). record_of book (call_at k)) one ∙ b.3)) in
@@ -116,38 +115,37 @@ same_inside init next book order (Record p w x) (Record q v y) inside a b place 
     let found : x ≡ y = a.5 ∙ (ap (λ (k : Place). k.reply) one ∙ sym b.5) in
     ap (λ (k : ℕ). Record k w x) place
     ∙ (ap (λ (k : ℕ). Record q k x) wanted ∙ ap (λ (k : ℕ). Record q v k) found)
-same_inside init next book order (Run p w x) (Run q v y) inside a b place turn step =
+same_inside spec book order (Run p w x) (Run q v y) inside a b place turn step =
     let one : a.0 ≡ b.0 = same_place_at order p q a.0 b.0 place a.1 b.1 in
-    let wanted : w ≡ v = a.2 ∙ (same_run init next book order p q a.0 b.0 place one ∙ sym b.2) in
+    let wanted : w ≡ v = a.2 ∙ (same_run spec book order p q a.0 b.0 place one ∙ sym b.2) in
     let found : x ≡ y = a.3 ∙ (ap (λ (k : Place). k.reply) one ∙ sym b.3) in
     ap (λ (k : ℕ). Run k w x) place
     ∙ (ap (λ (k : ℕ). Run q k x) wanted ∙ ap (λ (k : ℕ). Run q v k) found)
-same_inside init next book order e f inside a b place turn step =
+same_inside spec book order e f inside a b place turn step =
     absurd (omega (arith, inside, place, turn))
 
 -- the place of a fault is within the list, unless the fault is a missing call
-pub placed : (init : List ℕ) (next : List ℕ → ℕ → List ℕ × ℕ) (book : List Page)
-    (order : List Place) (e : OrderFault) → FailsTest init next book order e
-    → (place_of order e < length order) ⊎ (e ≡ Missing (turn_of e) (step_of e))
-placed init next book order (Unknown p) f = inl (slice_get_within order p f.1.0 f.1.1)
-placed init next book order (Twice p) f = inl (slice_get_within order p f.1.0 f.1.1)
-placed init next book order (Skipped p) f = inl (slice_get_within order p f.1.0 f.1.1)
-placed init next book order (Late q p) f = inl (slice_get_within order p f.2.0 f.2.1)
-placed init next book order (Record p wanted found) f = inl (slice_get_within order p f.0 f.2)
-placed init next book order (Run p wanted found) f = inl (slice_get_within order p f.0 f.1)
-placed init next book order (Missing caller number) f = inr refl
+pub placed : (spec : SeqSpec) (book : List Page) (order : List Place) (e : OrderFault)
+    → FailsTest spec book order e → (place_of order e < length order)
+    ⊎ (e ≡ Missing (turn_of e) (step_of e))
+placed spec book order (Unknown p) f = inl (slice_get_within order p f.1.0 f.1.1)
+placed spec book order (Twice p) f = inl (slice_get_within order p f.1.0 f.1.1)
+placed spec book order (Skipped p) f = inl (slice_get_within order p f.1.0 f.1.1)
+placed spec book order (Late q p) f = inl (slice_get_within order p f.2.0 f.2.1)
+placed spec book order (Record p wanted found) f = inl (slice_get_within order p f.0 f.2)
+placed spec book order (Run p wanted found) f = inl (slice_get_within order p f.0 f.1)
+placed spec book order (Missing caller number) f = inr refl
 
 -- two faults that the list has with one place, turn and step are equal
-same_fault : (init : List ℕ) (next : List ℕ → ℕ → List ℕ × ℕ) (book : List Page)
-    (order : List Place) (e f : OrderFault)
-    → FailsTest init next book order e → FailsTest init next book order f
+same_fault : (spec : SeqSpec) (book : List Page) (order : List Place) (e f : OrderFault)
+    → FailsTest spec book order e → FailsTest spec book order f
     → place_of order e ≡ place_of order f → turn_of e ≡ turn_of f → step_of e ≡ step_of f → e ≡ f
-same_fault init next book order e f a b place turn step =
-    elim (placed init next book order e a) [
-      | inl inside ↦ same_inside init next book order e f inside a b place turn step
-      | inr missing ↦ elim (placed init next book order f b) [
+same_fault spec book order e f a b place turn step =
+    elim (placed spec book order e a) [
+      | inl inside ↦ same_inside spec book order e f inside a b place turn step
+      | inr missing ↦ elim (placed spec book order f b) [
         | inl inside ↦
-            sym (same_inside init next book order f e inside b a (sym place) (sym turn) (sym step))
+            sym (same_inside spec book order f e inside b a (sym place) (sym turn) (sym step))
         | inr also ↦ missing ∙ (ap (λ (k : ℕ). Missing k (step_of e)) turn
             ∙ (ap (λ (k : ℕ). Missing (turn_of f) k) step ∙ sym also))
       ]
@@ -156,7 +154,7 @@ same_fault init next book order e f a b place turn step =
 -- a list has at most one first fault, since of two tests one is tried first, unless their places,
 -- turns and steps are the same
 pub first_faults_are_one : FirstFaultsAreOne
-first_faults_are_one init next book order e f h k =
+first_faults_are_one spec book order e f h k =
     elim (cases_lt (place_of order e) (place_of order f)) [
       | inl less ↦ absurd (k.first e (inl less) h.fails)
       | inr not_before ↦ elim (cases_lt (place_of order f) (place_of order e)) [
@@ -174,7 +172,7 @@ first_faults_are_one init next book order e f h k =
                       | inr not_less ↦ elim (cases_lt (step_of f) (step_of e)) [
                         | inl less ↦
                             absurd (h.first f (inr (sym place, inr (sym turn, less))) k.fails)
-                        | inr not_more ↦ same_fault init next book order e f h.fails k.fails place
+                        | inr not_more ↦ same_fault spec book order e f h.fails k.fails place
                             turn (omega arith)
                       ]
                     ]

@@ -11,6 +11,7 @@ use Rattle.book_base.specs.declared.call.Call.{Call}
 use Rattle.book_base.specs.declared.call.Record.{Record as Answer}
 use Rattle.book_base.specs.declared.call.Place.{Place}
 use Rattle.book_base.specs.declared.TheConstants.{MAX_CALLERS, MAX_CALLS}
+use Rattle.book_base.specs.SeqSpec.{SeqSpec}
 use Rattle.book_base.specs.Cut.{Holds, IsWithin}
 use Rattle.book_base.specs.Book.{Page, calls_of, answers_of, IsCall, IsAnswered, IsValid, IsSmall, operation_of, record_of, Precedes}
 use Rattle.book_base.specs.Order.{call_at, StandsAt, step_at, IsLegalOrder}
@@ -24,179 +25,171 @@ use Rattle.order_check.specs.Standing.{IsStanding, IsInPlace, IsFirstAt}
 use Rattle.order_check.proofs.Faults.{no_place, run_from_replies, stands_here, same_stands}
 
 -- the reply at place p is the one that the object gives there
-abbrev pub IsGiven : List ℕ → (List ℕ → ℕ → List ℕ × ℕ) → List Page → List Place → ℕ → Type 0
-IsGiven init next book order p = (place : Place) → slice_get order p ≡ Some place
-    → reply_after_places init next book order p place ≡ place.reply
+abbrev pub IsGiven : SeqSpec → List Page → List Place → ℕ → Type 0
+IsGiven spec book order p = (place : Place) → slice_get order p ≡ Some place
+    → reply_after_places spec book order p place ≡ place.reply
 
 -- place p passes the test of this turn
-abbrev pub PassesTest : List ℕ → (List ℕ → ℕ → List ℕ × ℕ) → List Page → List Place → ℕ → ℕ → Type 0
-PassesTest init next book order p zero = (call : Call) → StandsAt order p call → IsCall book call
-PassesTest init next book order p (suc zero) = (j : ℕ) (call : Call) → StandsAt order p call → j < p
+abbrev pub PassesTest : SeqSpec → List Page → List Place → ℕ → ℕ → Type 0
+PassesTest spec book order p zero = (call : Call) → StandsAt order p call → IsCall book call
+PassesTest spec book order p (suc zero) = (j : ℕ) (call : Call) → StandsAt order p call → j < p
     → StandsAt order j call → ⊥
-PassesTest init next book order p (suc (suc zero)) = (call : Call) → StandsAt order p call
+PassesTest spec book order p (suc (suc zero)) = (call : Call) → StandsAt order p call
     → (number : ℕ) → number + 1 ≡ call.number
     → (j : ℕ) × (j < p) × StandsAt order j (record { caller = call.caller; number = number })
-PassesTest init next book order p (suc (suc (suc zero))) = (j : ℕ) (a b : Call) → StandsAt order p a
+PassesTest spec book order p (suc (suc (suc zero))) = (j : ℕ) (a b : Call) → StandsAt order p a
     → j < p → StandsAt order j b → Precedes book a b → ⊥
-PassesTest init next book order p (suc (suc (suc (suc zero)))) = (place : Place) (r : Answer)
+PassesTest spec book order p (suc (suc (suc (suc zero)))) = (place : Place) (r : Answer)
     → slice_get order p ≡ Some place → record_of book (call_at place) ≡ Some r
     → r.reply ≡ place.reply
-PassesTest init next book order p (suc (suc (suc (suc (suc zero))))) =
-    IsGiven init next book order p
-PassesTest init next book order p (suc (suc (suc (suc (suc (suc s)))))) = Unit {0}
+PassesTest spec book order p (suc (suc (suc (suc (suc zero))))) =
+    IsGiven spec book order p
+PassesTest spec book order p (suc (suc (suc (suc (suc (suc s)))))) = Unit {0}
 
 -- a test that a place passes isn't failed there
-refuted : (init : List ℕ) (next : List ℕ → ℕ → List ℕ × ℕ) (book : List Page) (order : List Place)
-    (f : OrderFault) → place_of order f < length order
-    → PassesTest init next book order (place_of order f) (turn_of f)
-    → FailsTest init next book order f → ⊥
-refuted init next book order (Unknown p) inside pass f = f.2 (pass f.0 f.1)
-refuted init next book order (Twice p) inside pass f = pass f.2 f.0 f.1 f.3 f.4
-refuted init next book order (Skipped p) inside pass f = let before = pass f.0 f.1 f.2 f.3 in
+refuted : (spec : SeqSpec) (book : List Page) (order : List Place) (f : OrderFault)
+    → place_of order f < length order → PassesTest spec book order (place_of order f) (turn_of f)
+    → FailsTest spec book order f → ⊥
+refuted spec book order (Unknown p) inside pass f = f.2 (pass f.0 f.1)
+refuted spec book order (Twice p) inside pass f = pass f.2 f.0 f.1 f.3 f.4
+refuted spec book order (Skipped p) inside pass f = let before = pass f.0 f.1 f.2 f.3 in
     f.4 before.0 before.1 before.2
-refuted init next book order (Late q p) inside pass f = pass q f.0 f.1 f.2 f.4 f.3 f.5
-refuted init next book order (Record p wanted found) inside pass f =
+refuted spec book order (Late q p) inside pass f = pass q f.0 f.1 f.2 f.4 f.3 f.5
+refuted spec book order (Record p wanted found) inside pass f =
     f.6 (f.4 ∙ (pass f.0 f.1 f.2 f.3 ∙ sym f.5))
-refuted init next book order (Run p wanted found) inside pass f =
+refuted spec book order (Run p wanted found) inside pass f =
     f.4 (f.2 ∙ (pass f.0 f.1 ∙ sym f.3))
-refuted init next book order (Missing caller number) inside pass f = absurd (omega arith)
+refuted spec book order (Missing caller number) inside pass f = absurd (omega arith)
 
 -- a place whose call is in place passes its first five tests
-pub passes_in_place : (init : List ℕ) (next : List ℕ → ℕ → List ℕ × ℕ) (book : List Page)
-    (order : List Place) (p : ℕ) → IsInPlace book order p
-    → (s : ℕ) → s < 5 → PassesTest init next book order p s
-passes_in_place init next book order p h zero less = h.known
-passes_in_place init next book order p h (suc zero) less = h.once
-passes_in_place init next book order p h (suc (suc zero)) less = h.in_turn
-passes_in_place init next book order p h (suc (suc (suc zero))) less = h.in_time
-passes_in_place init next book order p h (suc (suc (suc (suc zero)))) less = h.recorded
-passes_in_place init next book order p h (suc (suc (suc (suc (suc s))))) less = absurd (omega arith)
+pub passes_in_place : (spec : SeqSpec) (book : List Page) (order : List Place) (p : ℕ)
+    → IsInPlace book order p → (s : ℕ) → s < 5 → PassesTest spec book order p s
+passes_in_place spec book order p h zero less = h.known
+passes_in_place spec book order p h (suc zero) less = h.once
+passes_in_place spec book order p h (suc (suc zero)) less = h.in_turn
+passes_in_place spec book order p h (suc (suc (suc zero))) less = h.in_time
+passes_in_place spec book order p h (suc (suc (suc (suc zero)))) less = h.recorded
+passes_in_place spec book order p h (suc (suc (suc (suc (suc s))))) less = absurd (omega arith)
 
 -- a place whose call is in place and whose reply is the object's passes all of its tests
-passes_all : (init : List ℕ) (next : List ℕ → ℕ → List ℕ × ℕ) (book : List Page)
-    (order : List Place) (p : ℕ) → IsInPlace book order p → IsGiven init next book order p
-    → (s : ℕ) → PassesTest init next book order p s
-passes_all init next book order p h given zero = h.known
-passes_all init next book order p h given (suc zero) = h.once
-passes_all init next book order p h given (suc (suc zero)) = h.in_turn
-passes_all init next book order p h given (suc (suc (suc zero))) = h.in_time
-passes_all init next book order p h given (suc (suc (suc (suc zero)))) = h.recorded
-passes_all init next book order p h given (suc (suc (suc (suc (suc zero))))) = given
-passes_all init next book order p h given (suc (suc (suc (suc (suc (suc s)))))) = tt
+passes_all : (spec : SeqSpec) (book : List Page) (order : List Place) (p : ℕ)
+    → IsInPlace book order p → IsGiven spec book order p → (s : ℕ) → PassesTest spec book order p s
+passes_all spec book order p h given zero = h.known
+passes_all spec book order p h given (suc zero) = h.once
+passes_all spec book order p h given (suc (suc zero)) = h.in_turn
+passes_all spec book order p h given (suc (suc (suc zero))) = h.in_time
+passes_all spec book order p h given (suc (suc (suc (suc zero)))) = h.recorded
+passes_all spec book order p h given (suc (suc (suc (suc (suc zero))))) = given
+passes_all spec book order p h given (suc (suc (suc (suc (suc (suc s)))))) = tt
 
 -- A fault is the first of its place where the place passes the tests of all earlier turns, and
 -- within its turn nothing fails before.
-pub first_at : (init : List ℕ) (next : List ℕ → ℕ → List ℕ × ℕ) (book : List Page)
-    (order : List Place) (p : ℕ) (fault : OrderFault) → p < length order
-    → FailsTest init next book order fault → place_of order fault ≡ p
-    → ((s : ℕ) → s < turn_of fault → PassesTest init next book order p s)
+pub first_at : (spec : SeqSpec) (book : List Page) (order : List Place) (p : ℕ) (fault : OrderFault)
+    → p < length order → FailsTest spec book order fault → place_of order fault ≡ p
+    → ((s : ℕ) → s < turn_of fault → PassesTest spec book order p s)
     → ((other : OrderFault) → place_of order other ≡ p → turn_of other ≡ turn_of fault
-    → step_of other < step_of fault → FailsTest init next book order other → ⊥)
-    → IsFirstAt init next book order p fault
-first_at init next book order p fault inside fails there below ties = record {
+    → step_of other < step_of fault → FailsTest spec book order other → ⊥)
+    → IsFirstAt spec book order p fault
+first_at spec book order p fault inside fails there below ties = record {
   fails = fails;
   there = there;
   first =
       λ (other : OrderFault) (here : place_of order other ≡ p) (before : HasTurnBefore other fault)
-      (failed : FailsTest init next book order other). elim before [
-        | inl less ↦ refuted init next book order other (omega (arith, here, inside))
-            (subst (λ (k : ℕ). PassesTest init next book order k (turn_of other)) (sym here)
+      (failed : FailsTest spec book order other). elim before [
+        | inl less ↦ refuted spec book order other (omega (arith, here, inside))
+            (subst (λ (k : ℕ). PassesTest spec book order k (turn_of other)) (sym here)
             (below (turn_of other) less)) failed
         | inr tie ↦ ties other here tie.0 tie.1 failed
       ];
 }
 
 -- a late call's earlier place is the least where its call precedes none before
-pub late_ties : (init : List ℕ) (next : List ℕ → ℕ → List ℕ × ℕ) (book : List Page)
-    (order : List Place) (p q : ℕ) (call : Call) → p < length order → StandsAt order p call
+pub late_ties : (spec : SeqSpec) (book : List Page) (order : List Place) (p q : ℕ) (call : Call)
+    → p < length order → StandsAt order p call
     → ((j : ℕ) (other : Call) → j < q → StandsAt order j other → Precedes book call other → ⊥)
     → (other : OrderFault) → place_of order other ≡ p → turn_of other ≡ 3 → step_of other < q
-    → FailsTest init next book order other → ⊥
-late_ties init next book order p q call inside at least (Unknown k) here turn less f =
+    → FailsTest spec book order other → ⊥
+late_ties spec book order p q call inside at least (Unknown k) here turn less f =
     absurd (omega (arith, turn))
-late_ties init next book order p q call inside at least (Twice k) here turn less f =
+late_ties spec book order p q call inside at least (Twice k) here turn less f =
     absurd (omega (arith, turn))
-late_ties init next book order p q call inside at least (Skipped k) here turn less f =
+late_ties spec book order p q call inside at least (Skipped k) here turn less f =
     absurd (omega (arith, turn))
-late_ties init next book order p q call inside at least (Late j k) here turn less f =
+late_ties spec book order p q call inside at least (Late j k) here turn less f =
     let one : f.0 ≡ call =
     same_stands order p f.0 call (subst (λ (m : ℕ). StandsAt order m f.0) here f.2) at in
     least j f.1 less f.3 (subst (λ (a : Call). Precedes book a f.1) one f.5)
-late_ties init next book order p q call inside at least (Record k wanted found) here turn less f =
+late_ties spec book order p q call inside at least (Record k wanted found) here turn less f =
     absurd (omega (arith, turn))
-late_ties init next book order p q call inside at least (Run k wanted found) here turn less f =
+late_ties spec book order p q call inside at least (Run k wanted found) here turn less f =
     absurd (omega (arith, turn))
-late_ties init next book order p q call inside at least (Missing caller number) here turn less f =
+late_ties spec book order p q call inside at least (Missing caller number) here turn less f =
     absurd (omega (arith, here, inside))
 
 -- The first fault of a place is the first one of the list, where all earlier places pass their
 -- tests.
-pub first_fault : (init : List ℕ) (next : List ℕ → ℕ → List ℕ × ℕ) (book : List Page)
-    (order : List Place) (p : ℕ) (fault : OrderFault) → p < length order
-    → ((k : ℕ) → k < p → IsInPlace book order k)
-    → ((k : ℕ) → k < p → IsGiven init next book order k) → IsFirstAt init next book order p fault
-    → IsFirstFault init next book order fault
-first_fault init next book order p fault inside in_place given h = record {
+pub first_fault : (spec : SeqSpec) (book : List Page) (order : List Place) (p : ℕ)
+    (fault : OrderFault) → p < length order → ((k : ℕ) → k < p → IsInPlace book order k)
+    → ((k : ℕ) → k < p → IsGiven spec book order k) → IsFirstAt spec book order p fault
+    → IsFirstFault spec book order fault
+first_fault spec book order p fault inside in_place given h = record {
   fails = h.fails;
   first = λ (other : OrderFault) (before : IsTriedBefore order other fault)
-      (failed : FailsTest init next book order other). elim before [
+      (failed : FailsTest spec book order other). elim before [
         | inl earlier ↦
             let k : ℕ = place_of order other in
             let less : k < p = omega (arith, earlier, h.there) in
-            refuted init next book order other (omega (arith, less, inside))
-            (passes_all init next book order k (in_place k less) (given k less) (turn_of other))
+            refuted spec book order other (omega (arith, less, inside))
+            (passes_all spec book order k (in_place k less) (given k less) (turn_of other))
             failed
         | inr same ↦ h.first other (same.0 ∙ h.there) same.1 failed
       ];
 }
 
 -- another reply than the object's is the first fault of a place whose call is in place
-pub run_first : (init : List ℕ) (next : List ℕ → ℕ → List ℕ × ℕ) (book : List Page)
-    (order : List Place) (p : ℕ) (place : Place) (wanted : ℕ) → slice_get order p ≡ Some place
-    → IsInPlace book order p → wanted ≡ reply_after_places init next book order p place
-    → wanted ≢ place.reply
-    → IsFirstAt init next book order p (Run p wanted place.reply)
-run_first init next book order p place wanted at in_place is other =
-    first_at init next book order p (Run p wanted place.reply) (slice_get_within order p place at)
+pub run_first : (spec : SeqSpec) (book : List Page) (order : List Place) (p : ℕ) (place : Place)
+    (wanted : ℕ) → slice_get order p ≡ Some place → IsInPlace book order p
+    → wanted ≡ reply_after_places spec book order p place → wanted ≢ place.reply
+    → IsFirstAt spec book order p (Run p wanted place.reply)
+run_first spec book order p place wanted at in_place is other =
+    first_at spec book order p (Run p wanted place.reply) (slice_get_within order p place at)
     (place, at, is, refl, other) refl
-    (passes_in_place init next book order p in_place)
+    (passes_in_place spec book order p in_place)
     (λ f here turn less failed. absurd (omega (arith, less)))
 
 -- a test of a place fails within the list
-fails_inside : (init : List ℕ) (next : List ℕ → ℕ → List ℕ × ℕ) (book : List Page)
-    (order : List Place) (caller number : ℕ)
+fails_inside : (spec : SeqSpec) (book : List Page) (order : List Place) (caller number : ℕ)
     → ((other : Call) → IsAnswered book other → (other.caller < caller)
     ⊎ ((other.caller ≡ caller) × (other.number < number)) → (k : ℕ) × StandsAt order k other)
     → (other : OrderFault) → place_of order other ≡ length order
-    → HasTurnBefore other (Missing caller number) → FailsTest init next book order other → ⊥
-fails_inside init next book order caller number least (Unknown p) here before f =
+    → HasTurnBefore other (Missing caller number) → FailsTest spec book order other → ⊥
+fails_inside spec book order caller number least (Unknown p) here before f =
     absurd (omega (arith, here, slice_get_within order p f.1.0 f.1.1))
-fails_inside init next book order caller number least (Twice p) here before f =
+fails_inside spec book order caller number least (Twice p) here before f =
     absurd (omega (arith, here, slice_get_within order p f.1.0 f.1.1))
-fails_inside init next book order caller number least (Skipped p) here before f =
+fails_inside spec book order caller number least (Skipped p) here before f =
     absurd (omega (arith, here, slice_get_within order p f.1.0 f.1.1))
-fails_inside init next book order caller number least (Late q p) here before f =
+fails_inside spec book order caller number least (Late q p) here before f =
     absurd (omega (arith, here, slice_get_within order p f.2.0 f.2.1))
-fails_inside init next book order caller number least (Record p wanted found) here before f =
+fails_inside spec book order caller number least (Record p wanted found) here before f =
     absurd (omega (arith, here, slice_get_within order p f.0 f.2))
-fails_inside init next book order caller number least (Run p wanted found) here before f =
+fails_inside spec book order caller number least (Run p wanted found) here before f =
     absurd (omega (arith, here, slice_get_within order p f.0 f.1))
-fails_inside init next book order caller number least (Missing i k) here before f =
+fails_inside spec book order caller number least (Missing i k) here before f =
     let other : Call = record { caller = i; number = k } in
     let there = least other f.0 before in f.1 there.0 there.1
 
 -- A missing call is the list's first fault, where all places pass their tests and it is the least
 -- such call.
-pub missing_first : (init : List ℕ) (next : List ℕ → ℕ → List ℕ × ℕ) (book : List Page)
-    (order : List Place) (standing : List ℕ) (call : Call)
-    → ((k : ℕ) → k < length order → IsInPlace book order k)
-    → ((k : ℕ) → k < length order → IsGiven init next book order k)
+pub missing_first : (spec : SeqSpec) (book : List Page) (order : List Place) (standing : List ℕ)
+    (call : Call) → ((k : ℕ) → k < length order → IsInPlace book order k)
+    → ((k : ℕ) → k < length order → IsGiven spec book order k)
     → IsStanding book order (length order) standing → IsAnswered book call
     → get_or standing call.caller 0 ≤ call.number
     → ((other : Call) → IsAnswered book other → (other.caller < call.caller)
     ⊎ ((other.caller ≡ call.caller) × (other.number < call.number)) → Holds standing other)
-    → IsFirstFault init next book order (Missing call.caller call.number)
-missing_first init next book order standing call in_place given h is out least = record {
+    → IsFirstFault spec book order (Missing call.caller call.number)
+missing_first spec book order standing call in_place given h is out least = record {
   fails = (
     is,
     λ (k : ℕ) (at : StandsAt order k call).
@@ -204,13 +197,13 @@ missing_first init next book order standing call in_place given h is out least =
   );
   first =
       λ (other : OrderFault) (before : IsTriedBefore order other (Missing call.caller call.number))
-      (failed : FailsTest init next book order other). elim before [
+      (failed : FailsTest spec book order other). elim before [
         | inl earlier ↦
             let k : ℕ = place_of order other in
-            refuted init next book order other earlier (passes_all init next book order k
+            refuted spec book order other earlier (passes_all spec book order k
             (in_place k earlier) (given k earlier) (turn_of other)) failed
         | inr same ↦
-            fails_inside init next book order call.caller call.number
+            fails_inside spec book order call.caller call.number
             (λ (a : Call) (answered : IsAnswered book a)
             (less : (a.caller < call.caller)
             ⊎ ((a.caller ≡ call.caller) × (a.number < call.number))).
@@ -397,13 +390,12 @@ precedes_itself book call valid (inl unseen) =
     absurd (omega (arith, low, valid.own call known.0 known.1))
 precedes_itself book call valid (inr own) = absurd (omega (arith, own.1))
 
-pub legal : (init : List ℕ) (next : List ℕ → ℕ → List ℕ × ℕ) (book : List Page) (order : List Place)
-    (standing : List ℕ) → IsValid book
-    → ((k : ℕ) → k < length order → IsInPlace book order k)
-    → ((k : ℕ) → k < length order → IsGiven init next book order k)
+pub legal : (spec : SeqSpec) (book : List Page) (order : List Place) (standing : List ℕ)
+    → IsValid book → ((k : ℕ) → k < length order → IsInPlace book order k)
+    → ((k : ℕ) → k < length order → IsGiven spec book order k)
     → IsStanding book order (length order) standing → HoldsAnswered book standing
-    → IsLegalOrder init next book order
-legal init next book order standing valid all given h answered = record {
+    → IsLegalOrder spec book order
+legal spec book order standing valid all given h answered = record {
   calls = λ (k : ℕ) (call : Call) (at : StandsAt order k call).
       (all k (slice_get_within order k at.0 at.1)).known call at;
   once = λ (j k : ℕ) (call : Call) (at : StandsAt order j call) (bt : StandsAt order k call).
@@ -429,7 +421,7 @@ legal init next book order standing valid all given h answered = record {
         there.2.1 ∙ ap (λ (x : Place). Some x) (same_place place it (ap (λ (x : Call). x.caller) is)
             (ap (λ (x : Call). x.number) is) (sym reply)),
       );
-  run = run_from_replies next book init order
+  run = run_from_replies spec.next book spec.init order
       (λ (k : ℕ) (place : Place) (at : slice_get order k ≡ Some place).
       given k (slice_get_within order k place at) place at);
   precedence = λ (j k : ℕ) (a b : Call) (at : StandsAt order j a) (bt : StandsAt order k b)
@@ -484,30 +476,28 @@ step_is book place op at = ap (λ (o : Option ℕ). unwrap_or o 0) at
 
 -- the object's list before the next place is the one that a place's operation makes of the list
 -- before it
-pub list_more : (init : List ℕ) (next : List ℕ → ℕ → List ℕ × ℕ) (book : List Page)
-    (order : List Place) (p op : ℕ) (words : List ℕ) → p < length order
-    → operation_of book (call_at (get_or order p no_place)) ≡ Some op
-    → words ≡ list_before init next book order p
-    → (next words op).0 ≡ list_before init next book order (p + 1)
-list_more init next book order p op words inside at is =
+pub list_more : (spec : SeqSpec) (book : List Page) (order : List Place) (p op : ℕ) (words : List ℕ)
+    → p < length order → operation_of book (call_at (get_or order p no_place)) ≡ Some op → words
+    ≡ list_before spec book order p → (spec.next words op).0 ≡ list_before spec book order (p + 1)
+list_more spec book order p op words inside at is =
     let here : Place = get_or order p no_place in
-    ap (λ (w : List ℕ). (next w op).0) is ∙ (ap
-    (λ (o : ℕ). (next (list_before init next book order p) o).0) (sym (step_is book here op at))
-    ∙ sym (fold_more (list_after book next) init order p no_place inside))
+    ap (λ (w : List ℕ). (spec.next w op).0) is ∙ (ap
+    (λ (o : ℕ). (spec.next (list_before spec book order p) o).0) (sym (step_is book here op at))
+    ∙ sym (fold_more (list_after book spec.next) spec.init order p no_place inside))
 
 -- the object's reply at a place is the one to the place's operation at the list before it
-pub reply_more : (init : List ℕ) (next : List ℕ → ℕ → List ℕ × ℕ) (book : List Page)
-    (order : List Place) (p op : ℕ) (words : List ℕ) (place : Place)
-    → operation_of book (call_at place) ≡ Some op → words ≡ list_before init next book order p
-    → (next words op).1 ≡ reply_after_places init next book order p place
-reply_more init next book order p op words place at is =
-    ap (λ (w : List ℕ). (next w op).1) is ∙ ap
-    (λ (o : ℕ). (next (list_before init next book order p) o).1) (sym (step_is book place op at))
+pub reply_more : (spec : SeqSpec) (book : List Page) (order : List Place) (p op : ℕ)
+    (words : List ℕ) (place : Place) → operation_of book (call_at place) ≡ Some op
+    → words ≡ list_before spec book order p
+    → (spec.next words op).1 ≡ reply_after_places spec book order p place
+reply_more spec book order p op words place at is =
+    ap (λ (w : List ℕ). (spec.next w op).1) is ∙ ap
+    (λ (o : ℕ). (spec.next (list_before spec book order p) o).1) (sym (step_is book place op at))
 
 -- the reply at an index is the object's where the place there has the object's reply
-pub given_here : (init : List ℕ) (next : List ℕ → ℕ → List ℕ × ℕ) (book : List Page)
-    (order : List Place) (p : ℕ) (place : Place) → slice_get order p ≡ Some place
-    → reply_after_places init next book order p place ≡ place.reply → IsGiven init next book order p
-given_here init next book order p place at is other there =
-    subst (λ (x : Place). reply_after_places init next book order p x ≡ x.reply)
+pub given_here : (spec : SeqSpec) (book : List Page) (order : List Place) (p : ℕ) (place : Place)
+    → slice_get order p ≡ Some place → reply_after_places spec book order p place ≡ place.reply
+    → IsGiven spec book order p
+given_here spec book order p place at is other there =
+    subst (λ (x : Place). reply_after_places spec book order p x ≡ x.reply)
     (same_Some place other (sym at ∙ there)) is

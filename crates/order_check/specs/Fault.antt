@@ -4,6 +4,7 @@ use Rattle.std.specs.Prelude.{◌≡◌, ◌≢◌, ℕ, ◌+◌, ◌<◌, ◌�
 use Rattle.book_base.specs.declared.call.Call.{Call}
 use Rattle.book_base.specs.declared.call.Record.{Record as Answer}
 use Rattle.book_base.specs.declared.call.Place.{Place}
+use Rattle.book_base.specs.SeqSpec.{SeqSpec}
 use Rattle.book_base.specs.Book.{Page, IsCall, IsAnswered, record_of, Precedes}
 use Rattle.book_base.specs.Order.{call_at, StandsAt, step_at}
 use Rattle.book_base.specs.Next.{list_after}
@@ -11,44 +12,41 @@ use Rattle.order_check.specs.declared.fault.OrderFault.{OrderFault}
 use Rattle.order_check.specs.declared.fault.OrderFault.TheVariants.{Unknown, Twice, Skipped, Late, Record, Run, Missing}
 
 -- the object's list before a place: after the operations of all earlier places
-abbrev pub list_before : List ℕ → (List ℕ → ℕ → List ℕ × ℕ) → List Page → List Place → ℕ → List ℕ
-list_before init next book order p = fold (list_after book next) init (take p order)
+abbrev pub list_before : SeqSpec → List Page → List Place → ℕ → List ℕ
+list_before spec book order p = fold (list_after book spec.next) spec.init (take p order)
 
 -- the reply that the object gives to the operation of a place, after those of the first p places
-abbrev pub reply_after_places : List ℕ → (List ℕ → ℕ → List ℕ × ℕ) → List Page → List Place
-    → ℕ → Place → ℕ
-reply_after_places init next book order p place =
-    (next (list_before init next book order p) (step_at book place).0).1
+abbrev pub reply_after_places : SeqSpec → List Page → List Place → ℕ → Place → ℕ
+reply_after_places spec book order p place =
+    (spec.next (list_before spec book order p) (step_at book place).0).1
 
--- The list of places fails the test that a fault names, for the sequential object with the first
--- list `init` and the transition function `next`.
-abbrev pub FailsTest : List ℕ → (List ℕ → ℕ → List ℕ × ℕ) → List Page → List Place
-    → OrderFault → Type 0
+-- The list of places fails the test that a fault names, for a sequential object.
+abbrev pub FailsTest : SeqSpec → List Page → List Place → OrderFault → Type 0
 -- the call at place p isn't in the book
-FailsTest init next book order (Unknown p) = (call : Call) × StandsAt order p call
+FailsTest spec book order (Unknown p) = (call : Call) × StandsAt order p call
     × (IsCall book call → ⊥)
 -- the call at place p stands at an earlier place
-FailsTest init next book order (Twice p) = (call : Call) × StandsAt order p call × (j : ℕ) × (j < p)
+FailsTest spec book order (Twice p) = (call : Call) × StandsAt order p call × (j : ℕ) × (j < p)
     × StandsAt order j call
 -- the call at place p isn't its caller's first, and the one before it stands at no earlier place
-FailsTest init next book order (Skipped p) = (call : Call) × StandsAt order p call × (number : ℕ)
+FailsTest spec book order (Skipped p) = (call : Call) × StandsAt order p call × (number : ℕ)
     × (number + 1 ≡ call.number)
     × ((j : ℕ) → j < p → StandsAt order j (record { caller = call.caller; number = number }) → ⊥)
 -- the call at place p precedes the call at the earlier place q
-FailsTest init next book order (Late q p) = (a : Call) × (b : Call) × StandsAt order p a
+FailsTest spec book order (Late q p) = (a : Call) × (b : Call) × StandsAt order p a
     × StandsAt order q b × (q < p) × Precedes book a b
 -- the call at place p is answered with a reply that isn't the one at the place
-FailsTest init next book order (Record p wanted found) = (place : Place) × (r : Answer)
+FailsTest spec book order (Record p wanted found) = (place : Place) × (r : Answer)
     × (slice_get order p ≡ Some place)
     × (record_of book (call_at place) ≡ Some r) × (wanted ≡ r.reply) × (found ≡ place.reply)
     × (wanted ≢ found)
 -- the object gives another reply at place p than the place has
-FailsTest init next book order (Run p wanted found) = (place : Place)
+FailsTest spec book order (Run p wanted found) = (place : Place)
     × (slice_get order p ≡ Some place)
-    × (wanted ≡ reply_after_places init next book order p place) × (found ≡ place.reply)
+    × (wanted ≡ reply_after_places spec book order p place) × (found ≡ place.reply)
     × (wanted ≢ found)
 -- the call is answered, and stands at no place
-FailsTest init next book order (Missing caller number) =
+FailsTest spec book order (Missing caller number) =
     let call : Call = record { caller = caller; number = number } in
     IsAnswered book call × ((k : ℕ) → StandsAt order k call → ⊥)
 
@@ -89,8 +87,8 @@ IsTriedBefore order e f = (place_of order e < place_of order f)
     ⊎ ((place_of order e ≡ place_of order f) × HasTurnBefore e f)
 
 -- The fault names the first test that the list of places fails.
-pub record IsFirstFault (init : List ℕ) (next : List ℕ → ℕ → List ℕ × ℕ) (book : List Page)
-    (order : List Place) (fault : OrderFault) : Type 0 where
-  pub fails : FailsTest init next book order fault
+pub record IsFirstFault (spec : SeqSpec) (book : List Page) (order : List Place)
+    (fault : OrderFault) : Type 0 where
+  pub fails : FailsTest spec book order fault
   pub first : (other : OrderFault) → IsTriedBefore order other fault
-      → FailsTest init next book order other → ⊥
+      → FailsTest spec book order other → ⊥

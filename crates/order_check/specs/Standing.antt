@@ -3,6 +3,7 @@ use Rattle.std.specs.Prelude.{◌≡◌, ℕ, ◌+◌, ◌<◌, List, length, So
 use Rattle.book_base.specs.declared.call.Call.{Call}
 use Rattle.book_base.specs.declared.call.Record.{Record}
 use Rattle.book_base.specs.declared.call.Place.{Place}
+use Rattle.book_base.specs.SeqSpec.{SeqSpec}
 use Rattle.book_base.specs.Cut.{Holds}
 use Rattle.book_base.specs.Book.{Page, IsCall, record_of, Precedes}
 use Rattle.book_base.specs.Order.{call_at, StandsAt}
@@ -35,9 +36,9 @@ pub record IsInPlace (book : List Page) (order : List Place) (p : ℕ) : Type 0 
       → record_of book (call_at place) ≡ Some r → r.reply ≡ place.reply
 
 -- The fault names the first of the tests of place p that the list fails.
-pub record IsFirstAt (init : List ℕ) (next : List ℕ → ℕ → List ℕ × ℕ) (book : List Page)
-    (order : List Place) (p : ℕ) (fault : OrderFault) : Type 0 where
-  pub fails : FailsTest init next book order fault
+pub record IsFirstAt (spec : SeqSpec) (book : List Page) (order : List Place) (p : ℕ)
+    (fault : OrderFault) : Type 0 where
+  pub fails : FailsTest spec book order fault
   pub there : place_of order fault ≡ p
   pub first : (other : OrderFault) → place_of order other ≡ p → HasTurnBefore other fault
-      → FailsTest init next book order other → ⊥
+      → FailsTest spec book order other → ⊥

@@ -24,14 +24,13 @@ pub fn check_order<S: SeqObject>(
     order: &[Place],
 ) -> Result<Result<(), OrderFault>, NoMemory>
     // An answer Ok comes only where the list is a legal order of the book.
-    ensures legal { IfOk result (λ answer. OnOk answer
-        (IsLegalOrder (S.init object.now) (S.next object.now) book.now order.now)) }
+    ensures legal { IfOk result
+        (λ answer. OnOk answer (IsLegalOrder (S.spec object.now) book.now order.now)) }
     // A list that is a legal order of the book is answered Ok, want of memory aside.
-    ensures accepted { IsLegalOrder (S.init object.now) (S.next object.now) book.now order.now
-        → IfOk result IsOk }
+    ensures accepted { IsLegalOrder (S.spec object.now) book.now order.now → IfOk result IsOk }
     // A fault is that of the first test that the list fails.
-    ensures fault { IfOk result (λ answer. IfErr answer
-        (IsFirstFault (S.init object.now) (S.next object.now) book.now order.now)) }
+    ensures fault { IfOk result
+        (λ answer. IfErr answer (IsFirstFault (S.spec object.now) book.now order.now)) }
 {
     let mut standing = Cut::zero(book.callers());
     let mut state = State::with_room(alloc, CAPACITY)?;

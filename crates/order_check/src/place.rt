@@ -1,5 +1,6 @@
-ghost use Rattle.std.specs.Prelude.{◌≡◌, ℕ, ◌<◌, ◌↔◌, List, length, slice_index, IfSome, IfNone, IsTrue};
+ghost use Rattle.std.specs.Prelude.{◌≡◌, ℕ, ◌<◌, ◌↔◌, length, slice_index, IfSome, IfNone, IsTrue};
 ghost use Rattle.book_base.specs.declared.call.Call.{Call};
+ghost use Rattle.book_base.specs.SeqSpec.{SeqSpec};
 ghost use Rattle.book_base.specs.Book.{IsCall, IsAnswered, IsValid, Precedes};
 ghost use Rattle.book_base.specs.Order.{StandsAt, call_at};
 ghost use Rattle.order_check.specs.Standing.{IsStanding, IsInPlace, IsFirstAt};
@@ -26,8 +27,8 @@ pub fn first_fault_at(book: &Book, order: &[Place], at: usize, standing: &Cut) -
     requires valid { IsValid book.now }
     requires place { at < length order.now }
     requires standing { IsStanding book.now order.now at standing.now }
-    ensures fault { IfSome result (λ fault. (init : List ℕ) (next : List ℕ → ℕ → List ℕ × ℕ)
-        → IsFirstAt init next book.now order.now at fault) }
+    ensures fault { IfSome result
+        (λ fault. (spec : SeqSpec) → IsFirstAt spec book.now order.now at fault) }
     ensures none { IfNone result (IsInPlace book.now order.now at) }
 {
     let place = order[at];

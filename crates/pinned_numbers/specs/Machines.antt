@@ -7,7 +7,7 @@ use Rattle.seq_objects.specs.declared.kind.Kind.TheVariants.{Queue, Counter}
 use Rattle.seq_objects.specs.Words as words
 use Rattle.seq_objects.specs.Words.{word_of, is_operation_of}
 use Rattle.seq_objects.specs.Replies.{reply_word}
-use Rattle.seq_objects.specs.Objects.{kind_init, kind_next}
+use Rattle.seq_objects.specs.Objects.{kind_spec}
 use Rattle.faulty_objects.specs.Calls.{is_put, is_take}
 use Rattle.faulty_objects.specs.Late.{late_reply}
 use Rattle.faulty_objects.specs.Invent.{invent_reply}
@@ -33,10 +33,10 @@ log_of calls = map (λ call. entry call.0 (word_of call.1.code call.2 0)) calls
 
 -- The text of a late queue's reply to the last call of a log.
 abbrev pub late_text : List (ℕ × words.OperationEntry × ℕ) → List ℕ
-late_text calls = reply_word (late_reply (kind_next Queue) (kind_init Queue) (log_of calls))
+late_text calls = reply_word (late_reply (kind_spec Queue) (log_of calls))
 
 -- The text of an inventing counter's reply to the last increment of a log, of which these are the
 -- callers.
 abbrev pub invented_text : List ℕ → List ℕ
-invented_text callers = reply_word (invent_reply (kind_next Counter) (kind_init Counter)
+invented_text callers = reply_word (invent_reply (kind_spec Counter)
     (map (λ i. entry i (word_of words.inc.code 0 0)) callers))

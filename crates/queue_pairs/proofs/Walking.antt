@@ -9,6 +9,7 @@ use Rattle.list_laws.proofs.Places.{get_or-replicate_default}
 use Rattle.book_base.specs.declared.call.Call.{Call}
 use Rattle.book_base.specs.declared.call.Place.{Place}
 use Rattle.book_base.specs.declared.call.Record.{Record}
+use Rattle.book_base.specs.SeqSpec.{SeqSpec}
 use Rattle.book_base.specs.Cut.{Holds}
 use Rattle.book_base.specs.Book.{Page, page_of, answers_of, IsCall, IsAnswered, IsValid, operation_of, record_of, Precedes}
 use Rattle.book_base.specs.Order.{call_at, StandsAt, step_at, IsLegalOrder, HasLegalOrder}
@@ -923,26 +924,25 @@ walked-start reading init book callers wide empty =
 
 -- Where a book has a legal order, steps lead from the standing that covers no call to one that is
 -- whole.
-pub steps_from_order : (reading : Reading) (init : List ℕ) (next : List ℕ → ℕ → List ℕ × ℕ)
-    (book : List Page) (callers : ℕ) → IsQueue reading next → reading.values init ≡ []
-    → IsValid book → HasOneOpen book → length book ≤ callers → HasLegalOrder init next book
-    → GoesOn reading book (none_paired callers)
-steps_from_order reading init next book callers is empty valid one fits has =
+pub steps_from_order : (reading : Reading) (spec : SeqSpec) (book : List Page) (callers : ℕ)
+    → IsQueue reading spec.next → reading.values spec.init ≡ [] → IsValid book → HasOneOpen book
+    → length book ≤ callers → HasLegalOrder spec book → GoesOn reading book (none_paired callers)
+steps_from_order reading spec book callers is empty valid one fits has =
     let cut : List ℕ = replicate (length book) 0 in
     let zeros : (i : ℕ) → get_or cut i 0 ≡ 0 = λ i. get_or-replicate_default (length book) i 0 in
     let wide : length book ≤ length cut = omega (arith, length-replicate {A = ℕ} (length book) 0) in
-    let part = held_part book next cut init has.0 valid wide
-    (continues_from_legal_order book init next cut has.0 wide zeros has.1) in
-    let legal : IsLegalOrder init next book part.rest =
-    legal_order_from_continues book init next cut part.rest wide zeros part.goes in
+    let part = held_part book spec.next cut spec.init has.0 valid wide
+    (continues_from_legal_order book spec cut has.0 wide zeros has.1) in
+    let legal : IsLegalOrder spec book part.rest =
+    legal_order_from_continues book spec cut part.rest wide zeros part.goes in
     let keep : KeepPrecedence book (map call_at part.rest) = λ j k a b at bt before.
     legal.precedence j k a b (stands_from_calls part.rest j a at)
     (stands_from_calls part.rest k b bt) before in
     let have : HaveMoments book 0 (map call_at part.rest) =
     (moments_keep_precedence book (map call_at part.rest) valid one part.held).0 keep in
-    walk reading book next cut init (none_paired callers) [] 0 part.rest is one wide
-    (walked-start reading init book callers fits empty) part.goes have
+    walk reading book spec.next cut spec.init (none_paired callers) [] 0 part.rest is one wide
+    (walked-start reading spec.init book callers fits empty) part.goes have
 
 pub legal_orders_have_pairs : LegalOrdersHavePairs
-legal_orders_have_pairs reading init next book is empty valid one has =
-    steps_from_order reading init next book (length book) is empty valid one (omega arith) has
+legal_orders_have_pairs reading spec book is empty valid one has =
+    steps_from_order reading spec book (length book) is empty valid one (omega arith) has

@@ -1,5 +1,6 @@
 -- Pairs and legal orders.
-use Rattle.std.specs.Prelude.{◌≡◌, ℕ, [], List}
+use Rattle.std.specs.Prelude.{◌≡◌, [], List}
+use Rattle.book_base.specs.SeqSpec.{SeqSpec}
 use Rattle.book_base.specs.Book.{Page, IsValid}
 use Rattle.book_base.specs.Order.{HasLegalOrder}
 use Rattle.book_base.specs.Pruning.{HasOneOpen}
@@ -9,6 +10,6 @@ use Rattle.queue_pairs.specs.Pairs.{HasPairs}
 -- A queue's book with one open that has a legal order has pairs.
 abbrev pub LegalOrdersHavePairs : Type 0
 LegalOrdersHavePairs =
-    (reading : Reading) (init : List ℕ) (next : List ℕ → ℕ → List ℕ × ℕ) (book : List Page)
-    → IsQueue reading next → reading.values init ≡ []
-    → IsValid book → HasOneOpen book → HasLegalOrder init next book → HasPairs reading book
+    (reading : Reading) (spec : SeqSpec) (book : List Page)
+    → IsQueue reading spec.next → reading.values spec.init ≡ []
+    → IsValid book → HasOneOpen book → HasLegalOrder spec book → HasPairs reading book

@@ -422,6 +422,6 @@ takes-refute table v u m n few_m few_n takes puts reading book is has =
 pub unpaired : (table : Table) (book : List Page)
     → ((reading : Reading) → IsTable reading book table → HasOneOpen book) → HasNoPairs table
     → QueueHasNoOrder table book
-unpaired table book one none reading init next is queue empty has =
+unpaired table book one none reading spec is queue empty has =
     none reading book is
-    (legal_orders_have_pairs reading init next book queue empty is.valid (one reading is) has)
+    (legal_orders_have_pairs reading spec book queue empty is.valid (one reading is) has)

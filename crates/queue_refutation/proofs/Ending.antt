@@ -255,8 +255,8 @@ pub refuted : (table : Table) (book : List Page) (standings : List Paired)
     → ((reading : Reading) (book : List Page) → IsTable reading book table
     → AreClosed reading book standings)
     → QueueHasNoOrder table book
-refuted table book standings one start closed reading init next is queue empty has =
-    closed_starts_have_no_order reading init next book MAX_CALLERS standings queue empty is.valid
+refuted table book standings one start closed reading spec is queue empty has =
+    closed_starts_have_no_order reading spec book MAX_CALLERS standings queue empty is.valid
     (one reading is) (closed reading book is) start has
 
 -- ---- one open

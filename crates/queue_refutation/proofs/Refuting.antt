@@ -66,10 +66,10 @@ closed_standings_are_dead reading book standings s steps valid one closed is are
     (omega arith)
 
 pub closed_starts_have_no_order : ClosedStartsHaveNoOrder
-closed_starts_have_no_order reading init next book callers standings queue empty valid one closed is
+closed_starts_have_no_order reading spec book callers standings queue empty valid one closed is
     has =
     let fits : length book ≤ callers = omega
     (arith, (closed (none_paired callers) is).wide_puts, length-replicate {A = ℕ} callers 0) in
-    let on = steps_from_order reading init next book callers queue empty valid one fits has in
+    let on = steps_from_order reading spec book callers queue empty valid one fits has in
     closed_standings_are_dead reading book standings (none_paired callers) on.0 valid one closed is
     on.1

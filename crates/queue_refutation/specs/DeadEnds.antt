@@ -2,6 +2,7 @@
 -- that has the table.
 use Rattle.std.specs.Prelude.{◌≡◌, ℕ, List, [], map}
 use Rattle.book_base.specs.declared.call.Call.{Call}
+use Rattle.book_base.specs.SeqSpec.{SeqSpec}
 use Rattle.book_base.specs.Book.{Page}
 use Rattle.book_base.specs.Order.{HasLegalOrder}
 use Rattle.history_rules.specs.Container.{Reading, IsQueue}
@@ -19,9 +20,9 @@ listed standings = map paired standings
 
 -- A book with this table has no legal order for a queue that begins empty.
 abbrev pub QueueHasNoOrder : Table → List Page → Type 0
-QueueHasNoOrder table book = (reading : Reading) (init : List ℕ) (next : List ℕ → ℕ → List ℕ × ℕ)
-    → IsTable reading book table → IsQueue reading next → reading.values init ≡ []
-    → HasLegalOrder init next book → ⊥
+QueueHasNoOrder table book = (reading : Reading) (spec : SeqSpec)
+    → IsTable reading book table → IsQueue reading spec.next → reading.values spec.init ≡ []
+    → HasLegalOrder spec book → ⊥
 
 -- Each of these pairs that may come next leads to one of the standings or needn't be tried.
 abbrev pub Lead : (Pair → Type 0) → Table → List Paired → PairState → Type 0

@@ -1,5 +1,6 @@
 -- Closed lists of standings, pairs and legal orders.
 use Rattle.std.specs.Prelude.{◌≡◌, ℕ, ◌≤◌, List, [], ◌∷◌, length}
+use Rattle.book_base.specs.SeqSpec.{SeqSpec}
 use Rattle.book_base.specs.Book.{Page, IsValid}
 use Rattle.book_base.specs.Order.{HasLegalOrder}
 use Rattle.book_base.specs.Pruning.{HasOneOpen}
@@ -17,11 +18,11 @@ ClosedStandingsAreDead = (reading : Reading) (book : List Page) (standings : Lis
 -- A queue's valid book with one open has no legal order where a closed list of standings has the
 -- one that covers no call.
 abbrev pub ClosedStartsHaveNoOrder : Type 0
-ClosedStartsHaveNoOrder = (reading : Reading) (init : List ℕ) (next : List ℕ → ℕ → List ℕ × ℕ)
+ClosedStartsHaveNoOrder = (reading : Reading) (spec : SeqSpec)
     (book : List Page) (callers : ℕ) (standings : List Paired)
-    → IsQueue reading next → reading.values init ≡ [] → IsValid book → HasOneOpen book
+    → IsQueue reading spec.next → reading.values spec.init ≡ [] → IsValid book → HasOneOpen book
     → AreClosed reading book standings → IsOnePaired standings (none_paired callers)
-    → HasLegalOrder init next book → ⊥
+    → HasLegalOrder spec book → ⊥
 
 -- Where steps lead to a whole standing and begin with a pair of which neither call is answered, the
 -- steps without this pair do too.

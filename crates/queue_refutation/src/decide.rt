@@ -35,11 +35,11 @@ pub fn decide_queue<Q: SeqObject + Reader>(
     book: &Book,
 ) -> Result<Decision, NoMemory>
     // The object is a queue.
-    requires queue { IsQueue (Q.reading queue.now) (Q.next queue.now) }
+    requires queue { IsQueue (Q.reading queue.now) (Q.spec queue.now).next }
     // The object begins empty.
-    requires empty { (Q.reading queue.now).values (Q.init queue.now) ≡ [] }
+    requires empty { (Q.reading queue.now).values (Q.spec queue.now).init ≡ [] }
     // A decision is right of this object and this book.
-    ensures { IfOk result (IsRightDecision (Q.init queue.now) (Q.next queue.now) book.now) }
+    ensures { IfOk result (IsRightDecision (Q.spec queue.now) book.now) }
 {
     let table = Table::of(alloc, queue, book)?;
     if container_counts::refute_by_counts(alloc, &table)? {
@@ -111,7 +111,7 @@ fn order_of<Q: SeqObject + Reader>(
     table: &Table,
     walk: &PairWalk,
 ) -> Result<Decision, NoMemory>
-    ensures { IfOk result (IsRightDecision (Q.init queue.now) (Q.next queue.now) book.now) }
+    ensures { IfOk result (IsRightDecision (Q.spec queue.now) book.now) }
 {
     let order = calls_in_order(alloc, table, walk)?;
     let Some(places) = places_of(alloc, queue, book, &order)? else {

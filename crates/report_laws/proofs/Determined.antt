@@ -1,6 +1,7 @@
 -- Locals have one report.
 use Rattle.std.proofs.Common.{◌≡◌, ℕ, suc, List, [], ◌∷◌, length, map, Some, slice_get, refl, sym, ap, ◌∙◌, subst, arith}
 use Rattle.book_base.specs.declared.call.Call.{Call}
+use Rattle.book_base.specs.SeqSpec.{SeqSpec}
 use Rattle.book_base.specs.Book.{Page}
 use Rattle.world_core.specs.Calls.{Made, book_of}
 use Rattle.report_lines.specs.declared.line.LineEnd.{LineEnd}
@@ -9,10 +10,10 @@ use Rattle.report_lines.specs.declared.line.Line.{Line}
 use Rattle.report_lines.specs.Lines.{reached_of, made_of, calls_of, book_of_lines, line_at, IsJudged}
 use Rattle.report_laws.specs.Reporting.{LocalsDetermineLines}
 
-module _ (init : List ℕ) (next : List ℕ → ℕ → List ℕ × ℕ) (book : List Page) where
+module _ (spec : SeqSpec) (book : List Page) where
   -- ends that say the same of a call, and are judged by one book, are the same end
-  same_end : (a b : LineEnd) → reached_of a ≡ reached_of b → IsJudged init next book a
-      → IsJudged init next book b → a ≡ b
+  same_end : (a b : LineEnd) → reached_of a ≡ reached_of b → IsJudged spec book a
+      → IsJudged spec book b → a ≡ b
   same_end Pending Pending e h g = refl
   same_end Pending (Unchecked s) e h g = absurd cc
   same_end Pending (Delivered s d) e h g = absurd cc
@@ -26,15 +27,15 @@ module _ (init : List ℕ) (next : List ℕ → ℕ → List ℕ × ℕ) (book :
   same_end (Delivered r c) (Delivered s d) e h g = let same : r ≡ s = cc in
       let cut : c ≡ d = cc in cc
   same_end (Delivered r c) (Error s d) e h g = let cut : c ≡ d = cc in
-      absurd (g (subst (λ x. IsJudged init next book (Delivered r x)) cut h))
+      absurd (g (subst (λ x. IsJudged spec book (Delivered r x)) cut h))
   same_end (Error r c) Pending e h g = absurd cc
   same_end (Error r c) (Unchecked s) e h g = absurd cc
   same_end (Error r c) (Delivered s d) e h g = let cut : d ≡ c = cc in
-      absurd (h (subst (λ x. IsJudged init next book (Delivered s x)) cut g))
+      absurd (h (subst (λ x. IsJudged spec book (Delivered s x)) cut g))
   same_end (Error r c) (Error s d) e h g = let same : r ≡ s = cc in let cut : c ≡ d = cc in cc
 
-  same_line : (x y : Line) → made_of x ≡ made_of y → IsJudged init next book x.end
-      → IsJudged init next book y.end → x ≡ y
+  same_line : (x y : Line) → made_of x ≡ made_of y → IsJudged spec book x.end
+      → IsJudged spec book y.end → x ≡ y
   same_line x y e h g =
       let op : x.op ≡ y.op = ap (λ (m : Made). m.operation) e in
       let end : x.end ≡ y.end = same_end x.end y.end (ap (λ (m : Made). m.reached) e) h g in
@@ -44,11 +45,11 @@ module _ (init : List ℕ) (next : List ℕ → ℕ → List ℕ × ℕ) (book :
   -- each line of a caller is judged; and each line of all
   abbrev AreJudged : List Line → Type 0
   AreJudged own = (k : ℕ) (line : Line) → slice_get own k ≡ Some line
-      → IsJudged init next book line.end
+      → IsJudged spec book line.end
 
   abbrev AreAllJudged : List (List Line) → Type 0
   AreAllJudged lines = (call : Call) (line : Line) → line_at lines call ≡ Some line
-      → IsJudged init next book line.end
+      → IsJudged spec book line.end
 
   same_own : (xs ys : List Line) → map made_of xs ≡ map made_of ys → AreJudged xs
       → AreJudged ys → xs ≡ ys
@@ -79,8 +80,8 @@ module _ (init : List ℕ) (next : List ℕ → ℕ → List ℕ × ℕ) (book :
       cc
 
 pub locals_determine_lines : LocalsDetermineLines
-locals_determine_lines init next locals lines others are too =
+locals_determine_lines spec locals lines others are too =
     let same : calls_of lines ≡ calls_of others = are.calls ∙ sym too.calls in
-    same_lines init next (book_of_lines lines) lines others same are.judged
-    (λ call line there. subst (λ (book : List Page). IsJudged init next book line.end)
+    same_lines spec (book_of_lines lines) lines others same are.judged
+    (λ call line there. subst (λ (book : List Page). IsJudged spec book line.end)
     (sym (ap book_of same)) (too.judged call line there))

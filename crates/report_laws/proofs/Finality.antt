@@ -1,6 +1,7 @@
 -- In a lawful report an error is final.
 use Rattle.std.proofs.Common.{◌≡◌, ℕ, List, Some, inl, inr}
 use Rattle.book_base.specs.declared.call.Call.{Call}
+use Rattle.book_base.specs.SeqSpec.{SeqSpec}
 use Rattle.book_base.specs.Cut.{IsWithin}
 use Rattle.book_base.specs.Book.{Page}
 use Rattle.book_laws.proofs.BookAtLaws.{smaller_has_one}
@@ -11,17 +12,16 @@ use Rattle.report_lines.specs.Lawful.{delivered_cut, IsLawful}
 use Rattle.report_laws.specs.Reporting.{ErrorsAreFinal}
 use Rattle.report_laws.proofs.Lines.{seen_from_delivered, seen_from_error}
 
-module _ (init : List ℕ) (next : List ℕ → ℕ → List ℕ × ℕ) (s : Shape) (operations : List (List ℕ))
-    (allotments : List ℕ) (lines : List (List Line))
-    (h : IsLawful init next s operations allotments lines) where
+module _ (spec : SeqSpec) (s : Shape) (operations : List (List ℕ)) (allotments : List ℕ)
+    (lines : List (List Line)) (h : IsLawful spec s operations allotments lines) where
   never : (a b : Call) (x y : List ℕ) → delivered_at lines a ≡ Some x → error_at lines b ≡ Some y
       → IsWithin y x → ⊥
   never a b x y d e within =
       let top : List ℕ = delivered_cut s.callers lines in
       let book : List Page = book_of_lines lines in
       h.no_order b y e
-      (smaller_has_one init next book y x h.valid within
-      (smaller_has_one init next book x top h.valid (h.contains a x d) h.one_order))
+      (smaller_has_one spec book y x h.valid within
+      (smaller_has_one spec book x top h.valid (h.contains a x d) h.one_order))
 
   apart : (a b : Call) (x y : List ℕ) → delivered_at lines a ≡ Some x → error_at lines b ≡ Some y
       → IsWithin x y
@@ -32,7 +32,7 @@ module _ (init : List ℕ) (next : List ℕ → ℕ → List ℕ × ℕ) (s : Sh
       ]
 
 pub errors_are_final : ErrorsAreFinal
-errors_are_final init next s operations allotments lines a b x y h d e = (
-  apart init next s operations allotments lines h a b x y d e,
-  never init next s operations allotments lines h a b x y d e,
+errors_are_final spec s operations allotments lines a b x y h d e = (
+  apart spec s operations allotments lines h a b x y d e,
+  never spec s operations allotments lines h a b x y d e,
 )

@@ -22,10 +22,10 @@ use Rattle.report_laws.proofs.Stepping.{length-marks_after}
 use Rattle.report_laws.proofs.Worlds.{sees, same_book}
 
 pub seen_cuts_are_in_the_book : SeenCutsAreInTheBook
-seen_cuts_are_in_the_book init next s locals lines call cut t are e =
+seen_cuts_are_in_the_book spec s locals lines call cut t are e =
     let published =
-    (seen_cuts_fit s locals t).published call cut (sees init next locals lines are call cut e) in
-    subst (λ book. IsWithin cut (answered book)) (sym (same_book init next locals lines are))
+    (seen_cuts_fit s locals t).published call cut (sees spec locals lines are call cut e) in
+    subst (λ book. IsWithin cut (answered book)) (sym (same_book spec locals lines are))
     (published_cuts_are_within s locals cut t published)
 
 -- an end whose call has a seen cut is delivered, where it is no error

@@ -88,8 +88,8 @@ seer s locals t i k below = elim (cases_lt i s.callers) [
 ]
 
 pub seen_cuts_were_published : SeenCutsWerePublished
-seen_cuts_were_published init next s locals lines call cut t are e =
-    let seen = seen_by locals call cut (sees init next locals lines are call cut e) in
+seen_cuts_were_published spec s locals lines call cut t are e =
+    let seen = seen_by locals call cut (sees spec locals lines are call cut e) in
     let low : call.caller < s.callers = seer s locals t call.caller call.number seen.below in
     let given = seen_cuts_are_given s locals call.caller call.number t low seen.below in
     subst (WereOwnCounts s locals M) seen.is
@@ -101,9 +101,9 @@ seen_cuts_were_published init next s locals lines call cut t are e =
     }) t low given.is)
 
 pub linearizable_runs_have_no_error : LinearizableRunsHaveNoError
-linearizable_runs_have_no_error init next s steps lines call run linearizable are =
+linearizable_runs_have_no_error spec s steps lines call run linearizable are =
     none_from_never (error_at lines call) (λ cut e.
-    no_run_has_this_error_seen init next (calls_of lines) call cut
+    no_run_has_this_error_seen spec (calls_of lines) call cut
     (has_seen_cut lines call cut (seen_from_error lines call cut e))
-    (illegal_at init next (end_of s steps).locals lines are call cut e) s steps run
+    (illegal_at spec (end_of s steps).locals lines are call cut e) s steps run
     (sym are.calls) linearizable)

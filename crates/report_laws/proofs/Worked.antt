@@ -31,22 +31,22 @@ no_line P (suc zero) k line e = absurd (none-some line e)
 no_line P (suc (suc i)) k line e = absurd (none-some line e)
 
 -- the book at the first seen cut is legal for the object that gives ten times the operation
-pub first_is_legal : HasLegalOrder [] tenfold (book_at (1 ∷ 0 ∷ []) both_answered)
+pub first_is_legal : HasLegalOrder tenfold (book_at (1 ∷ 0 ∷ []) both_answered)
 first_is_legal = (delivered 0 (1 ∷ 0 ∷ []) refl).2
 
-pub second_is_legal : HasLegalOrder [] tenfold (book_at (1 ∷ 1 ∷ []) both_answered)
+pub second_is_legal : HasLegalOrder tenfold (book_at (1 ∷ 1 ∷ []) both_answered)
 second_is_legal = (delivered 1 (1 ∷ 1 ∷ []) refl).2
 
-pub delivered_lines : AreLinesOf [] tenfold (locals_after two_calls) both_delivered
+pub delivered_lines : AreLinesOf tenfold (locals_after two_calls) both_delivered
 delivered_lines = record {
   calls = refl;
   judged = λ call line e.
-      each_line (λ (line : Line). IsJudged [] tenfold (book_of_lines both_delivered) line.end) _ _
+      each_line (λ (line : Line). IsJudged tenfold (book_of_lines both_delivered) line.end) _ _
       first_is_legal second_is_legal call.caller call.number line e;
 }
 
 -- the book at the first seen cut is illegal for the object that always gives 0
-pub first_is_illegal : HasLegalOrder [] silent (book_at (1 ∷ 0 ∷ []) both_answered) → ⊥
+pub first_is_illegal : HasLegalOrder silent (book_at (1 ∷ 0 ∷ []) both_answered) → ⊥
 first_is_illegal = silent_error
 
 within : IsWithin (1 ∷ 0 ∷ []) (1 ∷ 1 ∷ [])
@@ -54,16 +54,16 @@ within zero = omega arith
 within (suc zero) = omega arith
 within (suc (suc i)) = omega arith
 
-pub second_is_illegal : HasLegalOrder [] silent (book_at (1 ∷ 1 ∷ []) both_answered) → ⊥
+pub second_is_illegal : HasLegalOrder silent (book_at (1 ∷ 1 ∷ []) both_answered) → ⊥
 second_is_illegal =
-    larger_has_none [] silent both_answered (1 ∷ 0 ∷ []) (1 ∷ 1 ∷ [])
+    larger_has_none silent both_answered (1 ∷ 0 ∷ []) (1 ∷ 1 ∷ [])
     (books_are_valid pair (locals_after two_calls) both_together) within first_is_illegal
 
-pub failed_lines : AreLinesOf [] silent (locals_after two_calls) both_failed
+pub failed_lines : AreLinesOf silent (locals_after two_calls) both_failed
 failed_lines = record {
   calls = refl;
   judged = λ call line e.
-      each_line (λ (line : Line). IsJudged [] silent (book_of_lines both_failed) line.end) _ _
+      each_line (λ (line : Line). IsJudged silent (book_of_lines both_failed) line.end) _ _
       first_is_illegal second_is_illegal call.caller call.number line e;
 }
 
@@ -71,20 +71,20 @@ failed_lines = record {
 pub stopped_together : AreTogether pair (locals_after (take 24 two_calls))
 stopped_together = (end_of pair (take 24 two_calls), (take 24 two_calls, refl, refl), refl)
 
-pub stopped_lines : AreLinesOf [] silent (locals_after (take 24 two_calls)) stopped
+pub stopped_lines : AreLinesOf silent (locals_after (take 24 two_calls)) stopped
 stopped_lines = record {
   calls = refl;
   judged = λ call line e. each_line (λ (line : Line).
-      IsJudged [] silent (book_of_lines stopped) line.end) _ _ tt tt call.caller call.number line e;
+      IsJudged silent (book_of_lines stopped) line.end) _ _ tt tt call.caller call.number line e;
 }
 
 pub none_together : AreTogether pair (locals_after [])
 none_together = (end_of pair [], ([], refl, refl), refl)
 
-pub no_lines : AreLinesOf [] silent (locals_after []) nothing
+pub no_lines : AreLinesOf silent (locals_after []) nothing
 no_lines = record {
   calls = refl;
   judged =
-      λ call line e. no_line (λ (line : Line). IsJudged [] silent (book_of_lines nothing) line.end)
+      λ call line e. no_line (λ (line : Line). IsJudged silent (book_of_lines nothing) line.end)
       call.caller call.number line e;
 }

@@ -21,41 +21,40 @@ use Rattle.report_laws.proofs.Workers.{workers_go_through}
 pub judging_together : AreTogether pair (locals_after one_judging)
 judging_together = (end_of pair one_judging, (one_judging, refl, refl), refl)
 
-pub read : IsJudgedBy [] tenfold 2 (local_after one_judging 1) (Delivered sixty (1 ∷ 1 ∷ []))
+pub read : IsJudgedBy tenfold 2 (local_after one_judging 1) (Delivered sixty (1 ∷ 1 ∷ []))
 read = (both_answered, gathered, second_is_legal)
 
-first_worked : HasWorked [] tenfold 2 (5 ∷ []) 4 (local_after one_judging 0)
-    (unchecked 5 fifty ∷ [])
+first_worked : HasWorked tenfold 2 (5 ∷ []) 4 (local_after one_judging 0) (unchecked 5 fifty ∷ [])
 first_worked =
-    workers_go_through [] tenfold 2 (5 ∷ []) 4 (local_after one_judging 0)
+    workers_go_through tenfold 2 (5 ∷ []) 4 (local_after one_judging 0)
     (unchecked 5 fifty ∷ []) refl refl (record { in_order = refl; marks = refl; published = refl })
-    (All-cons (λ (line : Line). IsJudgedBy [] tenfold 2 (local_after one_judging 0) line.end)
+    (All-cons (λ (line : Line). IsJudgedBy tenfold 2 (local_after one_judging 0) line.end)
     (unchecked 5 fifty) [] tt
-    (All-nil (λ (line : Line). IsJudgedBy [] tenfold 2 (local_after one_judging 0) line.end)))
+    (All-nil (λ (line : Line). IsJudgedBy tenfold 2 (local_after one_judging 0) line.end)))
 
-second_worked : HasWorked [] tenfold 2 (6 ∷ []) 5 (local_after one_judging 1)
+second_worked : HasWorked tenfold 2 (6 ∷ []) 5 (local_after one_judging 1)
     (delivered 6 sixty (1 ∷ 1 ∷ []) ∷ [])
 second_worked =
-    workers_go_through [] tenfold 2 (6 ∷ []) 5 (local_after one_judging 1)
+    workers_go_through tenfold 2 (6 ∷ []) 5 (local_after one_judging 1)
     (delivered 6 sixty (1 ∷ 1 ∷ []) ∷ []) refl refl
     (record { in_order = refl; marks = refl; published = refl })
-    (All-cons (λ (line : Line). IsJudgedBy [] tenfold 2 (local_after one_judging 1) line.end)
+    (All-cons (λ (line : Line). IsJudgedBy tenfold 2 (local_after one_judging 1) line.end)
     (delivered 6 sixty (1 ∷ 1 ∷ [])) [] read
-    (All-nil (λ (line : Line). IsJudgedBy [] tenfold 2 (local_after one_judging 1) line.end)))
+    (All-nil (λ (line : Line). IsJudgedBy tenfold 2 (local_after one_judging 1) line.end)))
 
-pub both_worked : HaveWorked [] tenfold pair five_and_six (4 ∷ 5 ∷ [])
+pub both_worked : HaveWorked tenfold pair five_and_six (4 ∷ 5 ∷ [])
     (locals_after one_judging) one_unchecked
 both_worked = record { callers = refl; worked = each }
   where
     each : (i : ℕ) → i < 2
-        → HasWorked [] tenfold 2 (get_or five_and_six i []) (slice_index (4 ∷ 5 ∷ []) i)
+        → HasWorked tenfold 2 (get_or five_and_six i []) (slice_index (4 ∷ 5 ∷ []) i)
         (local_at (locals_after one_judging) i) (get_or one_unchecked i [])
     each zero low = first_worked
     each (suc zero) low = second_worked
     each (suc (suc i)) low = absurd (omega (arith, low))
 
 -- caller 1, before it peeked, has gathered no book by which this delivered line is judged
-pub unread : IsJudgedBy [] tenfold 2 (local_after two_calls 1) (Delivered sixty (1 ∷ 1 ∷ [])) → ⊥
+pub unread : IsJudgedBy tenfold 2 (local_after two_calls 1) (Delivered sixty (1 ∷ 1 ∷ [])) → ⊥
 unread h =
     let records : List Record = (page_of h.0 0).records in
     let one : length records ≡ 1 = h.1.records 0 (omega arith) in

@@ -4,6 +4,7 @@ use Rattle.std.proofs.lemmas.Bool.{false≢true}
 use Rattle.std.proofs.lemmas.List.{length-map, length_push}
 use Rattle.std.proofs.lemmas.Option.{none-some, same_Some, slice_get_within, get_or_from_slice_get}
 use Rattle.list_laws.proofs.Places.{slice_get-push_last, slice_get-push_cases}
+use Rattle.book_base.specs.SeqSpec.{SeqSpec}
 use Rattle.book_base.specs.Book.{Page}
 use Rattle.book_base.specs.Order.{HasLegalOrder}
 use Rattle.world_core.specs.Shape.{Shape}
@@ -24,11 +25,11 @@ use Rattle.report_laws.proofs.Lines.{caller_within}
 use Rattle.report_laws.proofs.Worlds.{worlds_are_lawful}
 
 pub verdicts_stay : VerdictsStay
-verdicts_stay init next n l m Pending more h = tt
-verdicts_stay init next n l m (Unchecked r) more h = tt
-verdicts_stay init next n l m (Delivered r cut) more h =
+verdicts_stay spec n l m Pending more h = tt
+verdicts_stay spec n l m (Unchecked r) more h = tt
+verdicts_stay spec n l m (Delivered r cut) more h =
     (h.0, gathered_stays n l m cut h.0 more h.1, h.2)
-verdicts_stay init next n l m (Error r cut) more h =
+verdicts_stay spec n l m (Error r cut) more h =
     (h.0, gathered_stays n l m cut h.0 more h.1, h.2)
 
 -- an error line among some lines is an error of them
@@ -58,20 +59,19 @@ same_calls (own ∷ lines) (l ∷ locals) long each =
     cc
 
 -- a verdict by a book that a caller gathered is one by the book of all locals
-judged_from_gathered : (init : List ℕ) (next : List ℕ → ℕ → List ℕ × ℕ) (s : Shape)
-    (locals : List Local) (t : AreTogether s locals) (i : ℕ) → i < s.callers
-    → (end : LineEnd) → IsJudgedBy init next s.callers (local_at locals i) end
-    → IsJudged init next (book_in locals) end
-judged_from_gathered init next s locals t i low Pending h = tt
-judged_from_gathered init next s locals t i low (Unchecked r) h = tt
-judged_from_gathered init next s locals t i low (Delivered r cut) h =
-    subst (HasLegalOrder init next) (gathered_is_the_book_at s locals i cut h.0 t low h.1) h.2
-judged_from_gathered init next s locals t i low (Error r cut) h =
-    subst (λ (book : List Page). ¬ HasLegalOrder init next book)
+judged_from_gathered : (spec : SeqSpec) (s : Shape) (locals : List Local) (t : AreTogether s locals)
+    (i : ℕ) → i < s.callers → (end : LineEnd) → IsJudgedBy spec s.callers (local_at locals i) end
+    → IsJudged spec (book_in locals) end
+judged_from_gathered spec s locals t i low Pending h = tt
+judged_from_gathered spec s locals t i low (Unchecked r) h = tt
+judged_from_gathered spec s locals t i low (Delivered r cut) h =
+    subst (HasLegalOrder spec) (gathered_is_the_book_at s locals i cut h.0 t low h.1) h.2
+judged_from_gathered spec s locals t i low (Error r cut) h =
+    subst (λ (book : List Page). ¬ HasLegalOrder spec book)
     (gathered_is_the_book_at s locals i cut h.0 t low h.1) h.2
 
 pub workers_leave_the_lines : WorkersLeaveTheLines
-workers_leave_the_lines init next s operations allotments locals lines t have =
+workers_leave_the_lines spec s operations allotments locals lines t have =
     let same : calls_of lines ≡ map calls_in locals =
     same_calls lines locals (have.callers ∙ sym (locals_have_phases s locals t).0)
     (λ i low. (have.worked i (omega (arith, low, have.callers))).calls) in
@@ -83,15 +83,15 @@ workers_leave_the_lines init next s operations allotments locals lines t have =
           let own : List Line = lines_at lines call.caller in
           let each = (have.worked call.caller low).judged call.number line
           (slice_get_within own call.number line there) in
-          let by : IsJudgedBy init next s.callers (local_at locals call.caller) line.end =
-          subst (λ (l : Line). IsJudgedBy init next s.callers (local_at locals call.caller) l.end)
+          let by : IsJudgedBy spec s.callers (local_at locals call.caller) line.end =
+          subst (λ (l : Line). IsJudgedBy spec s.callers (local_at locals call.caller) l.end)
           (get_or_from_slice_get own call.number line line there) each in
-          subst (λ (book : List Page). IsJudged init next book line.end) (sym (ap book_of same))
-          (judged_from_gathered init next s locals t call.caller low line.end by);
+          subst (λ (book : List Page). IsJudged spec book line.end) (sym (ap book_of same))
+          (judged_from_gathered spec s locals t call.caller low line.end by);
     }
 
 pub workers_keep_to_their_allotments : WorkersKeepToTheirAllotments
-workers_keep_to_their_allotments init next n operations allotment l own h =
+workers_keep_to_their_allotments spec n operations allotment l own h =
     let p : ℕ = phases_of allotment own in
     let marks : marks_of (map made_of own) ≡ marks_after p = ap marks_of h.calls ∙ h.made.marks in
     let long : begun p ≡ length own =
@@ -111,7 +111,7 @@ workers_keep_to_their_allotments init next n operations allotment l own h =
 
 -- lines without an error keep to every allotment
 pub workers_go_through : WorkersGoThrough
-workers_go_through init next n operations allotment l own calls none made judged =
+workers_go_through spec n operations allotment l own calls none made judged =
     let phases : phases_of allotment own ≡ allotment =
     ap (λ (b : Bool). cond b (5 * length own) allotment) none in
     record {
@@ -125,7 +125,7 @@ workers_go_through init next n operations allotment l own calls none made judged
     }
 
 pub workers_halt : WorkersHalt
-workers_halt init next n operations allotment l own line calls none error made few judged =
+workers_halt spec n operations allotment l own line calls none error made few judged =
     let all : List Line = own ++ line ∷ [] in
     let some : any_error all ≡ true =
     any_at all (length own) line (slice_get-push_last own line) error in
@@ -146,11 +146,11 @@ workers_halt init next n operations allotment l own line calls none error made f
     }
 
 pub workers_are_lawful : WorkersAreLawful
-workers_are_lawful init next s operations allotments locals lines t have =
-    worlds_are_lawful init next s operations allotments locals lines t
-    (workers_leave_the_lines init next s operations allotments locals lines t have) (record {
+workers_are_lawful spec s operations allotments locals lines t have =
+    worlds_are_lawful spec s operations allotments locals lines t
+    (workers_leave_the_lines spec s operations allotments locals lines t have) (record {
       allotted = λ i low.
-          workers_keep_to_their_allotments init next s.callers (slice_index_or operations i [])
+          workers_keep_to_their_allotments spec s.callers (slice_index_or operations i [])
           (slice_index allotments i) (local_at locals i) (lines_at lines i) (have.worked i low);
       made = λ i low. (have.worked i low).made;
     })

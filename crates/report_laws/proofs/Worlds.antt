@@ -5,6 +5,7 @@ use Rattle.std.proofs.lemmas.List.{length-map, get_or_past}
 use Rattle.std.proofs.lemmas.List.FromFn.{get_or-map-range_with_len}
 use Rattle.std.proofs.lemmas.Option.{none-some}
 use Rattle.book_base.specs.declared.call.Call.{Call}
+use Rattle.book_base.specs.SeqSpec.{SeqSpec}
 use Rattle.book_base.specs.Cut.{IsWithin}
 use Rattle.book_base.specs.Book.{IsValid}
 use Rattle.book_base.specs.BookAt.{book_at}
@@ -27,19 +28,19 @@ use Rattle.report_laws.specs.Reporting.{HaveMade, WorldsAreLawful}
 use Rattle.report_laws.proofs.Lines.{has_seen_cut, delivered_line, error_line, seen_from_delivered, seen_from_error, from_delivered_cuts, in_delivered_cuts}
 
 -- A verdict of some lines, as it was judged.
-module _ (init : List ℕ) (next : List ℕ → ℕ → List ℕ × ℕ) (locals : List Local)
-    (lines : List (List Line)) (are : AreLinesOf init next locals lines) where
+module _ (spec : SeqSpec) (locals : List Local) (lines : List (List Line))
+    (are : AreLinesOf spec locals lines) where
   pub legal_at : (call : Call) (cut : List ℕ) → delivered_at lines call ≡ Some cut
-      → HasLegalOrder init next (book_at cut (book_of_lines lines))
+      → HasLegalOrder spec (book_at cut (book_of_lines lines))
   legal_at call cut e =
       let v = delivered_line lines call cut e in
-      subst (IsJudged init next (book_of_lines lines)) v.end (are.judged call v.line v.there)
+      subst (IsJudged spec (book_of_lines lines)) v.end (are.judged call v.line v.there)
 
   pub illegal_at : (call : Call) (cut : List ℕ) → error_at lines call ≡ Some cut
-      → HasLegalOrder init next (book_at cut (book_of_lines lines)) → ⊥
+      → HasLegalOrder spec (book_at cut (book_of_lines lines)) → ⊥
   illegal_at call cut e =
       let v = error_line lines call cut e in
-      subst (IsJudged init next (book_of_lines lines)) v.end (are.judged call v.line v.there)
+      subst (IsJudged spec (book_of_lines lines)) v.end (are.judged call v.line v.there)
 
   -- the seen cut of a line is one that the line's call has seen, by the locals
   pub sees : (call : Call) (cut : List ℕ) → seen_at lines call ≡ Some cut
@@ -71,18 +72,17 @@ module _ (init : List ℕ) (next : List ℕ → ℕ → List ℕ × ℕ) (locals
     fit = seen_cuts_fit s locals t
 
     -- each cut of a delivered line is one that a delivered call has seen
-    all_delivered : AreDelivered init next locals (delivered_cuts lines)
+    all_delivered : AreDelivered spec locals (delivered_cuts lines)
     all_delivered k cut e =
         let found = from_delivered_cuts lines k cut e in (
           found.0,
           sees found.0 cut (seen_from_delivered lines found.0 cut found.1),
-          subst (λ book. HasLegalOrder init next (book_at cut book)) same_book
+          subst (λ book. HasLegalOrder spec (book_at cut book)) same_book
               (legal_at found.0 cut found.1),
         )
 
-    pub one : HasAllDelivered init next locals (delivered_cuts lines)
-        (delivered_cut s.callers lines)
-    one = delivered_calls_stand_in_one init next s locals (delivered_cuts lines) t all_delivered
+    pub one : HasAllDelivered spec locals (delivered_cuts lines) (delivered_cut s.callers lines)
+    one = delivered_calls_stand_in_one spec s locals (delivered_cuts lines) t all_delivered
 
     wide : AreCutsOf s.callers (delivered_cuts lines)
     wide k cut e = let d = all_delivered k cut e in
@@ -134,7 +134,7 @@ module _ (init : List ℕ) (next : List ℕ → ℕ → List ℕ × ℕ) (locals
         comparable = λ a b x y e f. fit.comparable a b x y (sees a x e) (sees b y f);
       }
 
-      pub lawful : IsLawful init next s operations allotments lines
+      pub lawful : IsLawful spec s operations allotments lines
       lawful = record {
         callers = callers;
         allotted = have.allotted;
@@ -148,17 +148,17 @@ module _ (init : List ℕ) (next : List ℕ → ℕ → List ℕ × ℕ) (locals
             one.holds there.0 cut call there.1
             (sees call cut (seen_from_delivered lines call cut e));
         one_order =
-            subst (λ book. HasLegalOrder init next (book_at (delivered_cut s.callers lines) book))
+            subst (λ book. HasLegalOrder spec (book_at (delivered_cut s.callers lines) book))
             (sym same_book) one.one_order;
         no_order = illegal_at;
         no_run = λ call cut e other steps run same.
-            no_run_has_this_error_seen init next (calls_of lines) call cut
+            no_run_has_this_error_seen spec (calls_of lines) call cut
             (has_seen_cut lines call cut (seen_from_error lines call cut e)) (illegal_at call cut e)
             other steps run same;
         reached =
-            (t.0, t.1, subst (λ (ls : List Local). AreLinesOf init next ls lines) (sym t.2) are);
+            (t.0, t.1, subst (λ (ls : List Local). AreLinesOf spec ls lines) (sym t.2) are);
       }
 
 pub worlds_are_lawful : WorldsAreLawful
-worlds_are_lawful init next s operations allotments locals lines t are have =
-    lawful init next locals lines are s t operations allotments have
+worlds_are_lawful spec s operations allotments locals lines t are have =
+    lawful spec locals lines are s t operations allotments have

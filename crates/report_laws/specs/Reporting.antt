@@ -3,6 +3,7 @@
 use Rattle.std.specs.Prelude.{◌≡◌, ℕ, ◌+◌, ◌<◌, List, length, Some, None, slice_get, slice_index}
 use Rattle.book_base.specs.declared.call.Call.{Call}
 use Rattle.book_base.specs.declared.call.Record.{Record}
+use Rattle.book_base.specs.SeqSpec.{SeqSpec}
 use Rattle.book_base.specs.Cut.{IsWithin}
 use Rattle.book_base.specs.Book.{answered}
 use Rattle.world_core.specs.declared.region.Region.TheVariants.{M}
@@ -32,26 +33,26 @@ pub record HaveMade (s : Shape) (operations : List (List ℕ)) (allotments : Lis
 -- report.
 abbrev pub WorldsAreLawful : Type 0
 WorldsAreLawful =
-    (init : List ℕ) (next : List ℕ → ℕ → List ℕ × ℕ) (s : Shape) (operations : List (List ℕ))
+    (spec : SeqSpec) (s : Shape) (operations : List (List ℕ))
     (allotments : List ℕ) (locals : List Local) (lines : List (List Line))
-    → AreTogether s locals → AreLinesOf init next locals lines
+    → AreTogether s locals → AreLinesOf spec locals lines
     → HaveMade s operations allotments locals lines
-    → IsLawful init next s operations allotments lines
+    → IsLawful spec s operations allotments lines
 
 -- The locals determine their lines, verdicts included.
 abbrev pub LocalsDetermineLines : Type 0
 LocalsDetermineLines =
-    (init : List ℕ) (next : List ℕ → ℕ → List ℕ × ℕ) (locals : List Local)
+    (spec : SeqSpec) (locals : List Local)
     (lines others : List (List Line))
-    → AreLinesOf init next locals lines → AreLinesOf init next locals others → lines ≡ others
+    → AreLinesOf spec locals lines → AreLinesOf spec locals others → lines ≡ others
 
 -- In a lawful report the seen cut of each delivered line is within the seen cut of each error line,
 -- and the error line's isn't within the delivered line's.
 abbrev pub ErrorsAreFinal : Type 0
 ErrorsAreFinal =
-    (init : List ℕ) (next : List ℕ → ℕ → List ℕ × ℕ) (s : Shape) (operations : List (List ℕ))
+    (spec : SeqSpec) (s : Shape) (operations : List (List ℕ))
     (allotments : List ℕ) (lines : List (List Line)) (a b : Call) (x y : List ℕ)
-    → IsLawful init next s operations allotments lines → delivered_at lines a ≡ Some x
+    → IsLawful spec s operations allotments lines → delivered_at lines a ≡ Some x
     → error_at lines b ≡ Some y
     → IsWithin x y × ¬ IsWithin y x
 
@@ -59,9 +60,9 @@ ErrorsAreFinal =
 -- number of records.
 abbrev pub SeenCutsAreInTheBook : Type 0
 SeenCutsAreInTheBook =
-    (init : List ℕ) (next : List ℕ → ℕ → List ℕ × ℕ) (s : Shape) (locals : List Local)
+    (spec : SeqSpec) (s : Shape) (locals : List Local)
     (lines : List (List Line)) (call : Call) (cut : List ℕ)
-    → AreTogether s locals → AreLinesOf init next locals lines → seen_at lines call ≡ Some cut
+    → AreTogether s locals → AreLinesOf spec locals lines → seen_at lines call ≡ Some cut
     → IsWithin cut (answered (book_of_lines lines))
 
 -- Of the lines of an allotment each but the last is delivered.
@@ -75,15 +76,15 @@ LinesBeforeTheLastAreDelivered =
 -- locals, the callers' published records were then exactly those that the cut counts.
 abbrev pub SeenCutsWerePublished : Type 0
 SeenCutsWerePublished =
-    (init : List ℕ) (next : List ℕ → ℕ → List ℕ × ℕ) (s : Shape) (locals : List Local)
+    (spec : SeqSpec) (s : Shape) (locals : List Local)
     (lines : List (List Line)) (call : Call) (cut : List ℕ)
-    → AreTogether s locals → AreLinesOf init next locals lines → seen_at lines call ≡ Some cut
+    → AreTogether s locals → AreLinesOf spec locals lines → seen_at lines call ≡ Some cut
     → WereOwnCounts s locals M cut
 
 -- Where the object history of a run is linearizable, none of the lines of its locals is an error.
 abbrev pub LinearizableRunsHaveNoError : Type 0
 LinearizableRunsHaveNoError =
-    (init : List ℕ) (next : List ℕ → ℕ → List ℕ × ℕ) (s : Shape) (steps : List Step)
+    (spec : SeqSpec) (s : Shape) (steps : List Step)
     (lines : List (List Line)) (call : Call) → IsRun s steps
-    → IsLinearizable init next (history_of s steps)
-    → AreLinesOf init next (end_of s steps).locals lines → error_at lines call ≡ None
+    → IsLinearizable spec (history_of s steps)
+    → AreLinesOf spec (end_of s steps).locals lines → error_at lines call ≡ None

@@ -1,6 +1,7 @@
 -- What the workers of all callers leave, each said of its own caller alone, is a lawful report.
 use Rattle.std.specs.Prelude.{◌≡◌, ℕ, ◌+◌, ◌*◌, ◌<◌, ◌≤◌, true, false, List, [], ◌∷◌, ◌++◌, length, map, slice_index}
 use Rattle.std.specs.List.{All}
+use Rattle.book_base.specs.SeqSpec.{SeqSpec}
 use Rattle.world_core.specs.Shape.{Shape}
 use Rattle.world_core.specs.Local.{Local}
 use Rattle.world_core.specs.Calls.{AreTogether, calls_in, local_at}
@@ -16,56 +17,55 @@ use Rattle.report_lines.specs.Workers.{IsJudgedBy, HasWorked}
 -- A verdict by a gathered book stays one as the book's caller makes further steps.
 abbrev pub VerdictsStay : Type 0
 VerdictsStay =
-    (init : List ℕ) (next : List ℕ → ℕ → List ℕ × ℕ) (n : ℕ) (l m : Local) (end : LineEnd)
-    → HasPeekedAll l m → IsJudgedBy init next n l end → IsJudgedBy init next n m end
+    (spec : SeqSpec) (n : ℕ) (l m : Local) (end : LineEnd)
+    → HasPeekedAll l m → IsJudgedBy spec n l end → IsJudgedBy spec n m end
 
 -- A worker that made all phases of its allotment, and met no error, has worked.
 abbrev pub WorkersGoThrough : Type 0
 WorkersGoThrough =
-    (init : List ℕ) (next : List ℕ → ℕ → List ℕ × ℕ) (n : ℕ) (operations : List ℕ) (allotment : ℕ)
+    (spec : SeqSpec) (n : ℕ) (operations : List ℕ) (allotment : ℕ)
     (l : Local) (own : List Line)
     → map made_of own ≡ calls_in l → any_error own ≡ false → HasMade operations allotment l
-    → All (λ (line : Line). IsJudgedBy init next n l line.end) own
-    → HasWorked init next n operations allotment l own
+    → All (λ (line : Line). IsJudgedBy spec n l line.end) own
+    → HasWorked spec n operations allotment l own
 
 -- A worker that halted at an error, after lines without one, has worked.
 abbrev pub WorkersHalt : Type 0
 WorkersHalt =
-    (init : List ℕ) (next : List ℕ → ℕ → List ℕ × ℕ) (n : ℕ) (operations : List ℕ) (allotment : ℕ)
+    (spec : SeqSpec) (n : ℕ) (operations : List ℕ) (allotment : ℕ)
     (l : Local) (own : List Line) (line : Line)
     → map made_of (own ++ line ∷ []) ≡ calls_in l → any_error own ≡ false → is_error line ≡ true
     → HasMade operations (5 * (length own + 1)) l → 5 * (length own + 1) ≤ allotment
-    → All (λ (line : Line). IsJudgedBy init next n l line.end) (own ++ line ∷ [])
-    → HasWorked init next n operations allotment l (own ++ line ∷ [])
+    → All (λ (line : Line). IsJudgedBy spec n l line.end) (own ++ line ∷ [])
+    → HasWorked spec n operations allotment l (own ++ line ∷ [])
 
 -- The lines that a worker leaves are those of its allotment.
 abbrev pub WorkersKeepToTheirAllotments : Type 0
 WorkersKeepToTheirAllotments =
-    (init : List ℕ) (next : List ℕ → ℕ → List ℕ × ℕ) (n : ℕ) (operations : List ℕ) (allotment : ℕ)
+    (spec : SeqSpec) (n : ℕ) (operations : List ℕ) (allotment : ℕ)
     (l : Local) (own : List Line)
-    → HasWorked init next n operations allotment l own → IsAllotted operations allotment own
+    → HasWorked spec n operations allotment l own → IsAllotted operations allotment own
 
 -- Each caller of a world has worked, in these locals and lines.
-pub record HaveWorked (init : List ℕ) (next : List ℕ → ℕ → List ℕ × ℕ) (s : Shape)
-    (operations : List (List ℕ)) (allotments : List ℕ) (locals : List Local)
-    (lines : List (List Line)) : Type 0 where
+pub record HaveWorked (spec : SeqSpec) (s : Shape) (operations : List (List ℕ))
+    (allotments : List ℕ) (locals : List Local) (lines : List (List Line)) : Type 0 where
   pub callers : length lines ≡ s.callers
-  pub worked : (i : ℕ) → i < s.callers → HasWorked init next s.callers (operations_at operations i)
+  pub worked : (i : ℕ) → i < s.callers → HasWorked spec s.callers (operations_at operations i)
       (slice_index allotments i) (local_at locals i) (lines_at lines i)
 
 -- The lines that all workers leave are those of the locals that they leave: the book that each
 -- verdict was found by is the book of all lines at the line's seen cut.
 abbrev pub WorkersLeaveTheLines : Type 0
 WorkersLeaveTheLines =
-    (init : List ℕ) (next : List ℕ → ℕ → List ℕ × ℕ) (s : Shape) (operations : List (List ℕ))
+    (spec : SeqSpec) (s : Shape) (operations : List (List ℕ))
     (allotments : List ℕ) (locals : List Local) (lines : List (List Line))
-    → AreTogether s locals → HaveWorked init next s operations allotments locals lines
-    → AreLinesOf init next locals lines
+    → AreTogether s locals → HaveWorked spec s operations allotments locals lines
+    → AreLinesOf spec locals lines
 
 -- The lines that all workers leave are a lawful report.
 abbrev pub WorkersAreLawful : Type 0
 WorkersAreLawful =
-    (init : List ℕ) (next : List ℕ → ℕ → List ℕ × ℕ) (s : Shape) (operations : List (List ℕ))
+    (spec : SeqSpec) (s : Shape) (operations : List (List ℕ))
     (allotments : List ℕ) (locals : List Local) (lines : List (List Line))
-    → AreTogether s locals → HaveWorked init next s operations allotments locals lines
-    → IsLawful init next s operations allotments lines
+    → AreTogether s locals → HaveWorked spec s operations allotments locals lines
+    → IsLawful spec s operations allotments lines

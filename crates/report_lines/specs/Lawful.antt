@@ -2,6 +2,7 @@
 use Rattle.std.specs.Prelude.{◌≡◌, ℕ, ◌+◌, ◌<◌, List, length, map, take, Some, slice_index}
 use Rattle.std.specs.List.{range_with_len, filter_map, flat_map}
 use Rattle.book_base.specs.declared.call.Call.{Call}
+use Rattle.book_base.specs.SeqSpec.{SeqSpec}
 use Rattle.book_base.specs.Cut.{Holds, IsWithin, AreComparable}
 use Rattle.book_base.specs.Book.{IsValid}
 use Rattle.book_base.specs.BookAt.{greatest_count, book_at}
@@ -44,11 +45,11 @@ delivered_cuts lines =
 abbrev pub delivered_cut : ℕ → List (List Line) → List ℕ
 delivered_cut n lines = map (greatest_count (delivered_cuts lines)) (range_with_len 0 n)
 
--- A report of the callers of a world is lawful: for the sequential object that begins with init and
--- has the transition function next, for each caller's operations, and for how many phases each was
--- given (Herlihy and Wing 1990, Castañeda and Rodríguez 2023).
-pub record IsLawful (init : List ℕ) (next : List ℕ → ℕ → List ℕ × ℕ) (s : Shape)
-    (operations : List (List ℕ)) (allotments : List ℕ) (lines : List (List Line)) : Type 0 where
+-- A report of the callers of a world is lawful: for a sequential object, for each caller's
+-- operations, and for how many phases each was given (Herlihy and Wing 1990, Castañeda and
+-- Rodríguez 2023).
+pub record IsLawful (spec : SeqSpec) (s : Shape) (operations : List (List ℕ)) (allotments : List ℕ)
+    (lines : List (List Line)) : Type 0 where
   -- there is a list of lines for each caller
   pub callers : length lines ≡ s.callers
   -- each caller has its lines: all calls that it made, of its operations in order
@@ -68,15 +69,14 @@ pub record IsLawful (init : List ℕ) (next : List ℕ → ℕ → List ℕ × �
   pub holds : (call : Call) (cut : List ℕ) → delivered_at lines call ≡ Some cut
       → Holds (delivered_cut s.callers lines) call
   -- all delivered replies are in one legal order: the book at that greatest cut has one
-  pub one_order : HasLegalOrder init next
-      (book_at (delivered_cut s.callers lines) (book_of_lines lines))
+  pub one_order : HasLegalOrder spec (book_at (delivered_cut s.callers lines) (book_of_lines lines))
   -- at the seen cut of an error line the book has no legal order
   pub no_order : (call : Call) (cut : List ℕ) → error_at lines call ≡ Some cut
-      → ¬ HasLegalOrder init next (book_at cut (book_of_lines lines))
+      → ¬ HasLegalOrder spec (book_at cut (book_of_lines lines))
   -- where a line is an error, no run of any program and of any cap that ends with the calls of
   -- these lines, whatever the verdicts, has a linearizable object history
   pub no_run : (call : Call) (cut : List ℕ) → error_at lines call ≡ Some cut
       → (t : Shape) (steps : List Step) → IsRun t steps → map calls_in (end_of t steps).locals
-      ≡ calls_of lines → ¬ IsLinearizable init next (history_of t steps)
+      ≡ calls_of lines → ¬ IsLinearizable spec (history_of t steps)
   -- the lines are those of a reachable world
-  pub reached : (w : World) × IsReachable s w × AreLinesOf init next w.locals lines
+  pub reached : (w : World) × IsReachable s w × AreLinesOf spec w.locals lines

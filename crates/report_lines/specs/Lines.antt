@@ -2,6 +2,7 @@
 use Rattle.std.specs.Prelude.{◌≡◌, ℕ, Bool, List, [], map, Option, Some, None, is_some, option_and_then, slice_get, slice_index_or}
 use Rattle.std.specs.List.{list_any}
 use Rattle.book_base.specs.declared.call.Call.{Call}
+use Rattle.book_base.specs.SeqSpec.{SeqSpec}
 use Rattle.book_base.specs.Book.{Page}
 use Rattle.book_base.specs.BookAt.{book_at}
 use Rattle.book_base.specs.Order.{HasLegalOrder}
@@ -83,17 +84,16 @@ any_error lines = list_any is_error lines
 -- The verdict at the end of a line is right, by this book of all callers: a line is delivered where
 -- the book at its seen cut has a legal order, and an error where that book has none. A pending or
 -- an unchecked line has no verdict.
-abbrev pub IsJudged : (init : List ℕ) → (next : List ℕ → ℕ → List ℕ × ℕ) → List Page
-    → LineEnd → Type 0
-IsJudged init next book Pending = Unit {0}
-IsJudged init next book (Unchecked r) = Unit {0}
-IsJudged init next book (Delivered r cut) = HasLegalOrder init next (book_at cut book)
-IsJudged init next book (Error r cut) = ¬ HasLegalOrder init next (book_at cut book)
+abbrev pub IsJudged : SeqSpec → List Page → LineEnd → Type 0
+IsJudged spec book Pending = Unit {0}
+IsJudged spec book (Unchecked r) = Unit {0}
+IsJudged spec book (Delivered r cut) = HasLegalOrder spec (book_at cut book)
+IsJudged spec book (Error r cut) = ¬ HasLegalOrder spec (book_at cut book)
 
 -- The lines of these locals: their calls, and on each the right verdict by the book of all the
 -- lines.
-pub record AreLinesOf (init : List ℕ) (next : List ℕ → ℕ → List ℕ × ℕ) (locals : List Local)
+pub record AreLinesOf (spec : SeqSpec) (locals : List Local)
     (lines : List (List Line)) : Type 0 where
   pub calls : calls_of lines ≡ map calls_in locals
   pub judged : (call : Call) (line : Line) → line_at lines call ≡ Some line
-      → IsJudged init next (book_of_lines lines) line.end
+      → IsJudged spec (book_of_lines lines) line.end

@@ -2,6 +2,7 @@
 -- steps.
 use Rattle.std.specs.Prelude.{◌≡◌, ℕ, List, map}
 use Rattle.std.specs.List.{All}
+use Rattle.book_base.specs.SeqSpec.{SeqSpec}
 use Rattle.book_base.specs.Book.{Page}
 use Rattle.book_base.specs.Order.{HasLegalOrder}
 use Rattle.world_core.specs.Local.{Local}
@@ -15,19 +16,18 @@ use Rattle.report_lines.specs.Allotments.{phases_of, KeepsTo}
 
 -- The verdict at the end of a line, by a book that this caller of n gathered at the line's seen
 -- cut: a legal order of it was found, or it has none.
-abbrev pub IsJudgedBy : (init : List ℕ) → (next : List ℕ → ℕ → List ℕ × ℕ) → ℕ → Local
-    → LineEnd → Type 0
-IsJudgedBy init next n l Pending = Unit {0}
-IsJudgedBy init next n l (Unchecked r) = Unit {0}
-IsJudgedBy init next n l (Delivered r cut) = (book : List Page) × IsGathered n l cut book
-    × HasLegalOrder init next book
-IsJudgedBy init next n l (Error r cut) = (book : List Page) × IsGathered n l cut book
-    × ¬ HasLegalOrder init next book
+abbrev pub IsJudgedBy : SeqSpec → ℕ → Local → LineEnd → Type 0
+IsJudgedBy spec n l Pending = Unit {0}
+IsJudgedBy spec n l (Unchecked r) = Unit {0}
+IsJudgedBy spec n l (Delivered r cut) = (book : List Page) × IsGathered n l cut book
+    × HasLegalOrder spec book
+IsJudgedBy spec n l (Error r cut) = (book : List Page) × IsGathered n l cut book
+    × ¬ HasLegalOrder spec book
 
 -- What a worker of one of n callers leaves, for its operations and its allotment, in its caller's
 -- local and its lines.
-pub record HasWorked (init : List ℕ) (next : List ℕ → ℕ → List ℕ × ℕ) (n : ℕ) (operations : List ℕ)
-    (allotment : ℕ) (l : Local) (own : List Line) : Type 0 where
+pub record HasWorked (spec : SeqSpec) (n : ℕ) (operations : List ℕ) (allotment : ℕ) (l : Local)
+    (own : List Line) : Type 0 where
   -- there is a line for each of the caller's calls, which says how far it came: so a line's cut is
   -- the seen cut of that call
   pub calls : map made_of own ≡ calls_in l
@@ -35,4 +35,4 @@ pub record HasWorked (init : List ℕ) (next : List ℕ → ℕ → List ℕ × 
   pub made : HasMade operations (phases_of allotment own) l
   pub keeps : KeepsTo allotment own
   -- each verdict is by a book that it gathered
-  pub judged : All (λ (line : Line). IsJudgedBy init next n l line.end) own
+  pub judged : All (λ (line : Line). IsJudgedBy spec n l line.end) own

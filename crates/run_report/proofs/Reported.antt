@@ -4,6 +4,7 @@ use Rattle.std.specs.Prelude.{Option}
 use Rattle.std.specs.List.{All}
 use Rattle.std.proofs.lemmas.List.{length-map}
 use Rattle.std.proofs.lemmas.Option.{slice_get_within}
+use Rattle.book_base.specs.SeqSpec.{SeqSpec}
 use Rattle.world_core.specs.Shape.{Shape, Meaning}
 use Rattle.world_core.specs.Programs.{outside}
 use Rattle.world_core.specs.Calls.{AreTogether}
@@ -19,7 +20,7 @@ use Rattle.row_table.specs.Callers.{shape_of, locals_on, IsBenchOf}
 use Rattle.row_table.proofs.Parting.{whole_is_together}
 use Rattle.client_scripts.specs.Plans.{Plan, IsPlan}
 use Rattle.client_calls.specs.Asking.{Fits, PassCount}
-use Rattle.client_calls.specs.Ends.{Sequential, SaysJudged}
+use Rattle.client_calls.specs.Ends.{SaysJudged}
 use Rattle.script_workers.specs.Places.{AreInOrder}
 use Rattle.script_workers.specs.Starts.{course_of}
 use Rattle.script_workers.specs.Returns.{AreBack}
@@ -32,10 +33,9 @@ use Rattle.run_report.proofs.Workers.{have_worked, keeps_asked, free_again, told
 use Rattle.run_report.proofs.Reports.{words_of_all, is_report}
 
 module _ {P T : Type 0} (meaning : P → ℕ → ℕ → Meaning) (r : Rows P) (b : Bench P) (plan : Plan)
-    (allotments : List ℕ) (object : Sequential) (fit : Fits T) (count : T → Option PassCount)
-    (passes : List T) (items : List Own)
-    (valid : IsPlan Second plan) (callers : r.callers ≡ length plan.operations)
-    (bench : IsBenchOf meaning r b)
+    (allotments : List ℕ) (object : SeqSpec) (fit : Fits T) (count : T → Option PassCount)
+    (passes : List T) (items : List Own) (valid : IsPlan Second plan)
+    (callers : r.callers ≡ length plan.operations) (bench : IsBenchOf meaning r b)
     (back : AreBack meaning r SaysJudged fit count (length plan.operations) (length plan.operations)
     (course_of plan allotments object) b passes (lines_in items) false)
     (all_lines : length items ≡ length plan.operations) where
@@ -50,27 +50,26 @@ module _ {P T : Type 0} (meaning : P → ℕ → ℕ → Meaning) (r : Rows P) (
       (λ i low. let h = back.back i (omega (arith, low, callers)) in (h.on.local, h.on.here))
       bench.together
 
-  have : HaveWorked object.init object.next (shape_of meaning r) plan.operations allotments
-      (locals_on b) lines
+  have : HaveWorked object (shape_of meaning r) plan.operations allotments (locals_on b) lines
   have = have_worked meaning r fit count (course_of plan allotments object) b passes lines
       (length plan.operations) callers long back
 
-  of : AreLinesOf object.init object.next (locals_on b) lines
-  of = workers_leave_the_lines object.init object.next
+  of : AreLinesOf object (locals_on b) lines
+  of = workers_leave_the_lines object
       (shape_of meaning r) plan.operations allotments (locals_on b) lines together have
 
-  lawful : IsLawful object.init object.next (shape_of meaning r) plan.operations allotments lines
-  lawful = workers_are_lawful object.init object.next
+  lawful : IsLawful object (shape_of meaning r) plan.operations allotments lines
+  lawful = workers_are_lawful object
       (shape_of meaning r) plan.operations allotments (locals_on b) lines together have
 
   pub fits : All (λ (own : Own). All (λ (line : Line). HasWord line.end) own.lines.items) items
       → IsReport (findings_in plan.kind items)
-  fits words = is_report object.init object.next (shape_of meaning r) (locals_on b) plan allotments
+  fits words = is_report object (shape_of meaning r) (locals_on b) plan allotments
       lines valid callers together of lawful (words_of_all items words)
 
   -- what the findings that are made of these lines say
   abbrev Say : Findings → Type 0
-  Say f = IsReportOf object.init object.next (shape_of meaning r) (locals_on b) plan allotments f
+  Say f = IsReportOf object (shape_of meaning r) (locals_on b) plan allotments f
       × ((i : ℕ) → i < length plan.operations → IsFreeAgain b allotments f i)
       × AreInOrder (IsCountedIn count allotments f) passes
 

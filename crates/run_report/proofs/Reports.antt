@@ -3,6 +3,7 @@ use Rattle.std.proofs.Common.{◌≡◌, sym, subst, ap, refl, inl, inr, ℕ, ze
 use Rattle.std.specs.Prelude.{IsSome}
 use Rattle.std.specs.List.{All, AllByRecursion}
 use Rattle.std.proofs.lemmas.List.Elements.{All-head, All-tail, recursion_from_All}
+use Rattle.book_base.specs.SeqSpec.{SeqSpec}
 use Rattle.reports.specs.declared.report.Own.{Own}
 use Rattle.reports.specs.ReportLayout.{lines_in}
 use Rattle.std.proofs.lemmas.Bool.{cases_lt}
@@ -114,11 +115,10 @@ words_of_all (own ∷ lines) h =
 pub none_after : (lines : List (List Line)) (i : ℕ) → length lines ≤ i → lines_at lines i ≡ []
 none_after lines i high = get_or_past lines i [] high
 
-module _ (init : List ℕ) (next : List ℕ → ℕ → List ℕ × ℕ) (s : Shape) (locals : List Local)
-    (plan : Plan) (allotments : List ℕ) (lines : List (List Line)) (valid : IsPlan Second plan)
-    (callers : s.callers ≡ length plan.operations)
-    (together : AreTogether s locals) (of : AreLinesOf init next locals lines)
-    (lawful : IsLawful init next s plan.operations allotments lines)
+module _ (spec : SeqSpec) (s : Shape) (locals : List Local) (plan : Plan) (allotments : List ℕ)
+    (lines : List (List Line)) (valid : IsPlan Second plan)
+    (callers : s.callers ≡ length plan.operations) (together : AreTogether s locals)
+    (of : AreLinesOf spec locals lines) (lawful : IsLawful spec s plan.operations allotments lines)
     (replies : AllByRecursion (AllByRecursion (λ (line : Line). HasWord line.end)) lines) where
   few : (i : ℕ) → i < length lines
       → length (lines_at lines i) ≤ length (operations_at plan.operations i)
@@ -171,7 +171,7 @@ module _ (init : List ℕ) (next : List ℕ → ℕ → List ℕ × ℕ) (s : Sh
     seen = record {
       wide = lawful.seen.wide;
       within = λ call cut there.
-          seen_cuts_are_in_the_book init next s locals lines call cut together of there;
+          seen_cuts_are_in_the_book spec s locals lines call cut together of there;
       own = λ call cut there. omega (arith, lawful.seen.own call cut there);
     };
     delivered = delivered;

@@ -47,15 +47,14 @@ module _ {P T : Type 0} (meaning : P → ℕ → ℕ → Meaning) (r : Rows P) (
     (lines : List (List Line)) where
   -- each caller has worked
   has_worked : (i : ℕ) → IsBack meaning r SaysJudged fit count course b passes lines false i
-      → HasWorked course.object.init course.object.next r.callers
-      (operations_at course.operations i) (slice_index course.allotments i)
-      (local_at (locals_on b) i) (lines_at lines i)
+      → HasWorked course.object r.callers (operations_at course.operations i)
+      (slice_index course.allotments i) (local_at (locals_on b) i) (lines_at lines i)
   has_worked i h =
       let n : ℕ = r.callers in
-      subst (λ (l : Local). HasWorked course.object.init course.object.next n
+      subst (λ (l : Local). HasWorked course.object n
       (operations_at course.operations i) (slice_index course.allotments i) l (lines_at lines i))
       (sym (the_local b.seat.me.0 i h.on.local h.on.here))
-      (subst (λ (own : List Line). HasWorked course.object.init course.object.next n
+      (subst (λ (own : List Line). HasWorked course.object n
       (operations_at course.operations i) (slice_index course.allotments i) h.on.local own)
       (sym (lines_here lines i h.own h.lines_here))
       (judging_clients_have_worked course.object n (operations_at course.operations i)
@@ -63,9 +62,8 @@ module _ {P T : Type 0} (meaning : P → ℕ → ℕ → Meaning) (r : Rows P) (
 
   -- all callers have worked
   pub have_worked : (n : ℕ) → r.callers ≡ n → length lines ≡ n
-      → AreBack meaning r SaysJudged fit count n n course b passes lines false
-      → HaveWorked course.object.init course.object.next
-      (shape_of meaning r) course.operations course.allotments (locals_on b) lines
+      → AreBack meaning r SaysJudged fit count n n course b passes lines false → HaveWorked
+      course.object (shape_of meaning r) course.operations course.allotments (locals_on b) lines
   have_worked n callers long h = record {
     callers = long ∙ sym callers;
     worked = λ i low. has_worked i (h.back i (omega (arith, low, callers)));

@@ -23,5 +23,5 @@ plan_to phases =
 -- that of this plan and of the locals after these steps.
 abbrev pub IsStoppedReport : ℕ → List Step → Type 0
 IsStoppedReport phases steps =
-    IsReportOf [] silent pair (locals_after steps) (plan_to phases)
+    IsReportOf silent pair (locals_after steps) (plan_to phases)
     (allotments_of five_and_six (stops_after phases)) (record { kind = Queue; lines = stopped })

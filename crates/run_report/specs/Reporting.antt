@@ -1,6 +1,7 @@
 -- The report of the callers of a plan, by the locals that they leave.
 use Rattle.std.specs.Prelude.{◌≡◌, ℕ, ◌%◌, ◌<◌, false, List, Option, Some, IfSome, map, slice_index}
 use Rattle.book_base.specs.declared.TheConstants.{MAX_CALLS}
+use Rattle.book_base.specs.SeqSpec.{SeqSpec}
 use Rattle.world_core.specs.Shape.{Shape}
 use Rattle.world_core.specs.Programs.{outside}
 use Rattle.world_core.specs.Local.{Local}
@@ -26,16 +27,16 @@ outside_shape n = record { callers = n; cap = MAX_CALLS; program = outside }
 -- world, and are lawful. Each caller has made just the phases that its lines determine, so that one
 -- which stopped after its publish has published. A call under way that was announced and not asked
 -- has no object step, and to one that was asked and has no view the program allows a reply.
-pub record IsReportOf (init : List ℕ) (next : List ℕ → ℕ → List ℕ × ℕ) (s : Shape)
-    (locals : List Local) (plan : Plan) (allotments : List ℕ) (findings : Findings) : Type 0 where
+pub record IsReportOf (spec : SeqSpec) (s : Shape) (locals : List Local) (plan : Plan)
+    (allotments : List ℕ) (findings : Findings) : Type 0 where
   pub kind : findings.kind ≡ plan.kind
   pub together : AreTogether s locals
-  pub lines : AreLinesOf init next locals findings.lines
+  pub lines : AreLinesOf spec locals findings.lines
   pub made : (i : ℕ) → i < s.callers → HasMade (operations_at plan.operations i)
       (phases_of (slice_index allotments i) (lines_at findings.lines i)) (local_at locals i)
   pub asked : (i : ℕ) → i < s.callers → KeepsAsked s.program i
       (phases_of (slice_index allotments i) (lines_at findings.lines i)) (local_at locals i)
-  pub lawful : IsLawful init next s plan.operations allotments findings.lines
+  pub lawful : IsLawful spec s plan.operations allotments findings.lines
 
 -- Where no line of caller i is an error, and by its lines it stopped between two calls, or made all
 -- of its calls, it is on the bench, free for its next call.

@@ -64,9 +64,8 @@ pub fn run_asked<
     // the bench, which are of one reachable world; they are lawful, and each caller has made just
     // the phases that its lines determine.
     ensures report { IfOk result
-        (λ report. IsReportOf (S.init sequential.now) (S.next sequential.now)
-        (shape_of P.meaning shared.now.rows.now) (locals_on bench.new) script.now
-        (run_allotments script.now) report) }
+        (λ report. IsReportOf (S.spec sequential.now) (shape_of P.meaning shared.now.rows.now)
+        (locals_on bench.new) script.now (run_allotments script.now) report) }
     // Where a report is answered, each caller that by its lines has no error and stopped between
     // two calls, or made all of them, is free for its next call.
     ensures free { IfOk result (λ report. (i : ℕ) → i < length script.now.operations

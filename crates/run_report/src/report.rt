@@ -4,7 +4,7 @@ ghost use Rattle.row_table.specs.Callers.{shape_of, locals_on, IsBenchOf};
 ghost use Rattle.client_calls.specs.Ends.{SaysJudged};
 ghost use Rattle.reports.specs.ReportLayout.{lines_in};
 ghost use Rattle.script_workers.specs.Places.{AreInOrder};
-ghost use Rattle.script_workers.specs.Starts.{object_by, allotments_by, course_of};
+ghost use Rattle.script_workers.specs.Starts.{allotments_by, course_of};
 ghost use Rattle.script_workers.specs.Returns.{AreBack};
 ghost use Rattle.run_report.specs.Replies.{HasWord};
 ghost use Rattle.run_report.specs.Reporting.{IsReportOf, IsFreeAgain, IsCountedIn};
@@ -70,14 +70,11 @@ pub(crate) fn report_of<P: Program, T, S: SeqObject, A: Asks<Program = P, Pass =
     requires bench { IsBenchOf P.meaning _shared.now.rows.now _bench.now }
     requires all_passes { vec_len _passes.now ≡ length script.now.operations }
     requires all_lines { vec_len lines ≡ length script.now.operations }
-    requires lines { AreBack P.meaning _shared.now.rows.now SaysJudged
-        (A.fits _shared.now.asks.now) A.count
-        (length script.now.operations) (length script.now.operations)
-        (course_of script.now (allotments_by _pace script.now)
-        (object_by S.init S.next _sequential.now))
-        _bench.now _passes.now.items (lines_in lines.items) false }
-    ensures report { IsReportOf (S.init _sequential.now) (S.next _sequential.now)
-        (shape_of P.meaning _shared.now.rows.now)
+    requires lines { AreBack P.meaning _shared.now.rows.now SaysJudged (A.fits _shared.now.asks.now)
+        A.count (length script.now.operations) (length script.now.operations)
+        (course_of script.now (allotments_by _pace script.now) (S.spec _sequential.now)) _bench.now
+        _passes.now.items (lines_in lines.items) false }
+    ensures report { IsReportOf (S.spec _sequential.now) (shape_of P.meaning _shared.now.rows.now)
         (locals_on _bench.now) script.now (allotments_by _pace script.now) result }
     ensures free { (i : ℕ) → i < length script.now.operations
         → IsFreeAgain _bench.now (allotments_by _pace script.now) result i }

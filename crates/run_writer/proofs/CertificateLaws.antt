@@ -22,19 +22,19 @@ use Rattle.run_writer.specs.Certificates.{delivered_cut_of, IsDeliveredBook}
 use Rattle.run_writer.specs.CertificateLaws.{LawfulReportsHaveAnOrder, CertificatesNeedAnOrder, DeliveredRepliesStandInTheOrder, CertificatesAreRead, CertificatesHaveOneBook}
 
 pub lawful_reports_have_an_order : LawfulReportsHaveAnOrder
-lawful_reports_have_an_order init next s operations allotments lines lawful = (
+lawful_reports_have_an_order spec s operations allotments lines lawful = (
   book_at (delivered_cut_of lines) (book_of_lines lines),
   book_at_is_the_book_at (book_of_lines lines) (delivered_cut_of lines) lawful.valid,
-  subst (λ (n : ℕ). HasLegalOrder init next (book_at (delivered_cut n lines) (book_of_lines lines)))
+  subst (λ (n : ℕ). HasLegalOrder spec (book_at (delivered_cut n lines) (book_of_lines lines)))
       (sym lawful.callers) lawful.one_order,
 )
 
 pub certificates_need_an_order : CertificatesNeedAnOrder
-certificates_need_an_order init next report bytes certificate =
+certificates_need_an_order spec report bytes certificate =
     (certificate.book, certificate.at, (certificate.order, certificate.legal))
 
 pub delivered_replies_stand_in_the_order : DeliveredRepliesStandInTheOrder
-delivered_replies_stand_in_the_order init next s operations allotments lines lawful book order at
+delivered_replies_stand_in_the_order spec s operations allotments lines lawful book order at
     legal call line r cut there delivered =
     let own : List Line = lines_at lines call.caller in
     let inside : call.caller < s.callers =
@@ -58,7 +58,7 @@ delivered_replies_stand_in_the_order init next s operations allotments lines law
     (record_of-part (book_of_lines lines) (delivered_cut_of lines) book at call held ∙ told)
 
 pub certificates_are_read : CertificatesAreRead
-certificates_are_read init next report bytes kind book order certificate read =
+certificates_are_read spec report bytes kind book order certificate read =
     let own =
     (a_text_is_its_lines bytes report.kind certificate.book certificate.order).0 certificate.text in
     let one =
@@ -66,11 +66,11 @@ certificates_are_read init next report bytes kind book order certificate read =
     record {
       kinds = one.kinds;
       at = subst (IsDeliveredBook report.lines) (sym one.books) certificate.at;
-      legal = subst (λ (o : List Place). IsLegalOrder init next book o) (sym one.orders)
-          (subst (λ (b : List Page). IsLegalOrder init next b certificate.order)
+      legal = subst (λ (o : List Place). IsLegalOrder spec book o) (sym one.orders)
+          (subst (λ (b : List Page). IsLegalOrder spec b certificate.order)
           (sym one.books) certificate.legal);
     }
 
 pub certificates_have_one_book : CertificatesHaveOneBook
-certificates_have_one_book init next report k l a b p q one other =
+certificates_have_one_book spec report k l a b p q one other =
     books_at_are_one _ _ a b one.at other.at

@@ -6,6 +6,7 @@ use Rattle.std.proofs.lemmas.Bool.{or_parts}
 use Rattle.std.proofs.lemmas.Option.{none-some}
 use Rattle.list_laws.proofs.Options.{none_from_is_some}
 use Rattle.book_base.specs.declared.call.Call.{Call}
+use Rattle.book_base.specs.SeqSpec.{SeqSpec}
 use Rattle.book_base.specs.Book.{Page}
 use Rattle.book_base.specs.BookAt.{IsBookAt}
 use Rattle.book_base.specs.Order.{IsLegalOrder}
@@ -16,24 +17,22 @@ use Rattle.report_lines.specs.Lines.{book_of_lines, lines_at, error_in, error_at
 use Rattle.reports.specs.Findings.{Findings, StandsBefore, IsFirstError, IsWitness}
 use Rattle.run_writer.proofs.CertificateLaws.{certificates_are_read, certificates_have_one_book}
 use Rattle.seq_objects.specs.declared.kind.Kind.{Kind}
-use Rattle.seq_objects.specs.Objects.{kind_init, kind_next}
+use Rattle.seq_objects.specs.Objects.{kind_spec}
 use Rattle.text_fields.specs.declared.version.Version.TheVariants.{Second}
 use Rattle.text_fields.specs.Lines.{text_of}
 use Rattle.run_writer.specs.declared.form.Form.{Form}
 use Rattle.run_writer.specs.declared.form.Form.TheVariants.{Report, Counts, Certificate}
 use Rattle.byte_streams.specs.declared.status.Status.{Status}
 use Rattle.byte_streams.proofs.WritingLemmas.{EndsWriting-weaker}
-use Rattle.client_calls.specs.Ends.{Sequential}
-use Rattle.run_writer.specs.Runs.{IsWitnessText, IsRunOutput, RunEnds, object_of_kind, FormsWriteOneText, CertificatesAreLegal, CertificatesAreOfTheirKind, CertificatesTellOneBook}
+use Rattle.run_writer.specs.Runs.{IsWitnessText, IsRunOutput, RunEnds, FormsWriteOneText, CertificatesAreLegal, CertificatesAreOfTheirKind, CertificatesTellOneBook}
 
 -- what is written of a report is written of a run with such a report, by an equal object
-pub RunEnds-from_report : (object other : Sequential) (IsReportOf : Findings → Type 0) (form : Form)
+pub RunEnds-from_report : (object other : SeqSpec) (IsReportOf : Findings → Type 0) (form : Form)
     (report : Findings) (result : Status) (taken taken' : Option (List ℕ)) → object ≡ other
-    → IsReportOf report
-    → RunEnds object (λ other. other ≡ report) form result taken taken'
+    → IsReportOf report → RunEnds object (λ other. other ≡ report) form result taken taken'
     → RunEnds other IsReportOf form result taken taken'
 RunEnds-from_report object other IsReportOf form report result taken taken' same is ends =
-    subst (λ (o : Sequential). RunEnds o IsReportOf form result taken taken') same
+    subst (λ (o : SeqSpec). RunEnds o IsReportOf form result taken taken') same
     (EndsWriting-weaker (IsRunOutput object (λ other. other ≡ report) form)
     (IsRunOutput object IsReportOf form) result taken taken'
     (λ status text output. (output.0, subst IsReportOf (sym output.1) is, output.2, output.3)) ends)
@@ -112,19 +111,19 @@ forms_write_one_text object Certificate report a b other_form one other = absurd
 pub certificates_are_legal : CertificatesAreLegal
 certificates_are_legal object report text kind book order written read =
     let told =
-    certificates_are_read object.init object.next report text kind book order written read in
+    certificates_are_read object report text kind book order written read in
     (told.kinds, told.legal)
 
 pub certificates_are_of_their_kind : CertificatesAreOfTheirKind
 certificates_are_of_their_kind report text kind book order written read =
     let told =
-    certificates_are_legal (object_of_kind report.kind) report text kind book order written read in
-    subst (λ (k : Kind). IsLegalOrder (kind_init k) (kind_next k) book order) (sym told.0) told.1
+    certificates_are_legal (kind_spec report.kind) report text kind book order written read in
+    subst (λ (k : Kind). IsLegalOrder (kind_spec k) book order) (sym told.0) told.1
 
 pub certificates_tell_one_book : CertificatesTellOneBook
 certificates_tell_one_book object report a b k l p q order other one two read read_too =
-    let first = certificates_are_read object.init object.next report a k p order one read in
-    let second = certificates_are_read object.init object.next report b l q other two read_too in (
+    let first = certificates_are_read object report a k p order one read in
+    let second = certificates_are_read object report b l q other two read_too in (
       first.kinds ∙ sym second.kinds,
-      certificates_have_one_book object.init object.next report k l p q order other first second,
+      certificates_have_one_book object report k l p q order other first second,
     )

@@ -3,6 +3,7 @@ use Rattle.std.specs.Prelude.{◌≡◌, ℕ, List, Some, slice_get}
 use Rattle.book_base.specs.declared.call.Call.{Call}
 use Rattle.book_base.specs.declared.call.Record.{Record}
 use Rattle.book_base.specs.declared.call.Place.{Place}
+use Rattle.book_base.specs.SeqSpec.{SeqSpec}
 use Rattle.book_base.specs.Book.{Page}
 use Rattle.book_base.specs.Order.{IsLegalOrder}
 use Rattle.seq_objects.specs.declared.kind.Kind.{Kind}
@@ -17,23 +18,23 @@ use Rattle.run_writer.specs.Certificates.{IsDeliveredBook, HasDeliveredOrder, Is
 
 -- What was delivered in a lawful report has a legal order.
 abbrev pub LawfulReportsHaveAnOrder : Type 0
-LawfulReportsHaveAnOrder = (init : List ℕ) (next : List ℕ → ℕ → List ℕ × ℕ) (s : Shape)
+LawfulReportsHaveAnOrder = (spec : SeqSpec) (s : Shape)
     (operations : List (List ℕ)) (allotments : List ℕ) (lines : List (List Line))
-    → IsLawful init next s operations allotments lines → HasDeliveredOrder init next lines
+    → IsLawful spec s operations allotments lines → HasDeliveredOrder spec lines
 
 -- A report has a certificate only where what was delivered has a legal order.
 abbrev pub CertificatesNeedAnOrder : Type 0
 CertificatesNeedAnOrder =
-    (init : List ℕ) (next : List ℕ → ℕ → List ℕ × ℕ) (report : Findings) (bytes : List ℕ)
-    → IsCertificate init next report bytes → HasDeliveredOrder init next report.lines
+    (spec : SeqSpec) (report : Findings) (bytes : List ℕ)
+    → IsCertificate spec report bytes → HasDeliveredOrder spec report.lines
 
 -- Each delivered reply of a lawful report is in each legal order of what was delivered.
 abbrev pub DeliveredRepliesStandInTheOrder : Type 0
-DeliveredRepliesStandInTheOrder = (init : List ℕ) (next : List ℕ → ℕ → List ℕ × ℕ) (s : Shape)
+DeliveredRepliesStandInTheOrder = (spec : SeqSpec) (s : Shape)
     (operations : List (List ℕ)) (allotments : List ℕ) (lines : List (List Line))
-    → IsLawful init next s operations allotments lines
+    → IsLawful spec s operations allotments lines
     → (book : List Page) (order : List Place) → IsDeliveredBook lines book
-    → IsLegalOrder init next book order
+    → IsLegalOrder spec book order
     → (call : Call) (line : Line) (r : Record) (cut : List ℕ) → line_at lines call ≡ Some line
     → line.end ≡ Delivered r cut
     → (k : ℕ) × (slice_get order k
@@ -41,22 +42,22 @@ DeliveredRepliesStandInTheOrder = (init : List ℕ) (next : List ℕ → ℕ →
 
 -- What is read in a certificate of a report: the report's kind, the book of what was delivered, and
 -- a legal order of it.
-pub record IsCertified (init : List ℕ) (next : List ℕ → ℕ → List ℕ × ℕ) (report : Findings)
-    (kind : Kind) (book : List Page) (order : List Place) : Type 0 where
+pub record IsCertified (spec : SeqSpec) (report : Findings) (kind : Kind) (book : List Page)
+    (order : List Place) : Type 0 where
   pub kinds : kind ≡ report.kind
   pub at : IsDeliveredBook report.lines book
-  pub legal : IsLegalOrder init next book order
+  pub legal : IsLegalOrder spec book order
 
 -- Whoever reads a certificate of a report reads the report's kind, the book of what was delivered,
 -- and a legal order of it.
 abbrev pub CertificatesAreRead : Type 0
-CertificatesAreRead = (init : List ℕ) (next : List ℕ → ℕ → List ℕ × ℕ) (report : Findings)
+CertificatesAreRead = (spec : SeqSpec) (report : Findings)
     (bytes : List ℕ) (kind : Kind) (book : List Page) (order : List Place)
-    → IsCertificate init next report bytes → IsCertificateText bytes kind book order
-    → IsCertified init next report kind book order
+    → IsCertificate spec report bytes → IsCertificateText bytes kind book order
+    → IsCertified spec report kind book order
 
 -- All certificates of a report are of one book. Their orders may differ.
 abbrev pub CertificatesHaveOneBook : Type 0
-CertificatesHaveOneBook = (init : List ℕ) (next : List ℕ → ℕ → List ℕ × ℕ) (report : Findings)
+CertificatesHaveOneBook = (spec : SeqSpec) (report : Findings)
     (k l : Kind) (a b : List Page) (p q : List Place)
-    → IsCertified init next report k a p → IsCertified init next report l b q → a ≡ b
+    → IsCertified spec report k a p → IsCertified spec report l b q → a ≡ b

@@ -2,6 +2,7 @@
 use Rattle.std.specs.Prelude.{ℕ, List, length}
 use Rattle.std.specs.List.{filter_map}
 use Rattle.book_base.specs.declared.call.Place.{Place}
+use Rattle.book_base.specs.SeqSpec.{SeqSpec}
 use Rattle.book_base.specs.Book.{Page}
 use Rattle.book_base.specs.BookAt.{IsBookAt}
 use Rattle.book_base.specs.Order.{IsLegalOrder, HasLegalOrder}
@@ -26,17 +27,15 @@ IsDeliveredBook lines book = IsBookAt (book_of_lines lines) (delivered_cut_of li
 
 -- The book of what was delivered has a legal order, for the sequential object with this first list
 -- and this transition function.
-abbrev pub HasDeliveredOrder : (init : List ℕ) → (next : List ℕ → ℕ → List ℕ × ℕ)
-    → List (List Line) → Type 0
-HasDeliveredOrder init next lines = (book : List Page) × IsDeliveredBook lines book
-    × HasLegalOrder init next book
+abbrev pub HasDeliveredOrder : SeqSpec → List (List Line) → Type 0
+HasDeliveredOrder spec lines = (book : List Page) × IsDeliveredBook lines book
+    × HasLegalOrder spec book
 
 -- The bytes are a certificate of a report: the text of the book of what was delivered, and of a
 -- legal order of it.
-pub record IsCertificate (init : List ℕ) (next : List ℕ → ℕ → List ℕ × ℕ) (report : Findings)
-    (bytes : List ℕ) : Type 0 where
+pub record IsCertificate (spec : SeqSpec) (report : Findings) (bytes : List ℕ) : Type 0 where
   pub book : List Page
   pub order : List Place
   pub at : IsDeliveredBook report.lines book
-  pub legal : IsLegalOrder init next book order
+  pub legal : IsLegalOrder spec book order
   pub text : IsWrittenCertificate bytes report.kind book order

@@ -1,6 +1,7 @@
 -- What the report of a run of a script's callers is, by the bench that the run leaves.
 use Rattle.std.specs.Prelude.{◌≡◌, ◌⊎◌, ℕ, ◌<◌, List, Option, true, false, length}
 use Rattle.std.specs.List.{list_any}
+use Rattle.book_base.specs.SeqSpec.{SeqSpec}
 use Rattle.world_core.specs.Shape.{Meaning}
 use Rattle.report_lines.specs.Lines.{any_error}
 use Rattle.row_table.specs.declared.rows.Rows.{Rows}
@@ -9,21 +10,20 @@ use Rattle.row_table.specs.Callers.{shape_of, locals_on}
 use Rattle.client_scripts.specs.Plans.{Plan}
 use Rattle.reports.specs.Findings.{Findings}
 use Rattle.script_workers.specs.Places.{AreInOrder}
-use Rattle.client_calls.specs.Ends.{Sequential}
 use Rattle.run_report.specs.Reporting.{IsReportOf, IsFreeAgain, IsToldIn}
 use Rattle.byte_streams.specs.declared.status.Status.{Status}
 use Rattle.byte_streams.specs.declared.status.Status.TheVariants.{Fine, Found, WriteFault, NoMemory}
 
 -- The report of a plan's callers that had these allotments, judged by a sequential object: of the
 -- locals that are on this bench, and lawful.
-abbrev pub IsBenchReport : {P : Type 0} → Sequential → (P → ℕ → ℕ → Meaning) → Rows P → Bench P
-    → Plan → List ℕ → Findings → Type 0
+abbrev pub IsBenchReport : {P : Type 0} → SeqSpec → (P → ℕ → ℕ → Meaning) → Rows P → Bench P → Plan
+    → List ℕ → Findings → Type 0
 IsBenchReport object meaning rows bench plan allotments findings =
-    IsReportOf object.init object.next (shape_of meaning rows)
+    IsReportOf object (shape_of meaning rows)
     (locals_on bench) plan allotments findings
 
 -- The report of a plan's callers, of the locals that are on this bench, with no error line.
-pub record IsCoreReport {P : Type 0} (object : Sequential) (meaning : P → ℕ → ℕ → Meaning)
+pub record IsCoreReport {P : Type 0} (object : SeqSpec) (meaning : P → ℕ → ℕ → Meaning)
     (rows : Rows P) (bench : Bench P) (plan : Plan) (allotments : List ℕ)
     (findings : Findings) : Type 0 where
   pub report : IsBenchReport object meaning rows bench plan allotments findings
@@ -32,7 +32,7 @@ pub record IsCoreReport {P : Type 0} (object : Sequential) (meaning : P → ℕ 
 -- The report of a plan's callers, of the locals that are on this bench, with the calls of these
 -- passes, in order. With each pass the object was asked for just the calls that its caller's lines
 -- determine, and where the pass tells a list, this has their operations and their replies.
-pub record IsToldBenchReport {P T : Type 0} (object : Sequential) (meaning : P → ℕ → ℕ → Meaning)
+pub record IsToldBenchReport {P T : Type 0} (object : SeqSpec) (meaning : P → ℕ → ℕ → Meaning)
     (rows : Rows P) (bench : Bench P) (made : T → ℕ) (told : T → Option (List (ℕ × ℕ)))
     (passes : List T) (plan : Plan) (allotments : List ℕ) (findings : Findings) : Type 0 where
   pub report : IsBenchReport object meaning rows bench plan allotments findings
@@ -42,7 +42,7 @@ pub record IsToldBenchReport {P T : Type 0} (object : Sequential) (meaning : P �
 -- a line of the report is an error, and `Fine` where none is. Each caller without an error line
 -- that stopped between two calls, or made all of its calls, is free for its next one, want of
 -- memory aside.
-pub record EndsByReport {P : Type 0} (object : Sequential) (meaning : P → ℕ → ℕ → Meaning)
+pub record EndsByReport {P : Type 0} (object : SeqSpec) (meaning : P → ℕ → ℕ → Meaning)
     (rows : Rows P) (bench : Bench P) (plan : Plan) (allotments : List ℕ)
     (status : Status) : Type 0 where
   pub found : (report : Findings) → IsBenchReport object meaning rows bench plan allotments report

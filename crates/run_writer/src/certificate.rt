@@ -19,11 +19,11 @@ pub fn report_certificate<S: SeqObject>(
     report: &Report,
 ) -> Result<Option<Vec<u8>>, NoMemory>
     // A text that is answered is a certificate of the report.
-    ensures certificate { IfOk result (λ found. IfSome found (λ text.
-        IsCertificate (S.init object.now) (S.next object.now) report.now text.items)) }
+    ensures certificate { IfOk result
+        (λ found. IfSome found (λ text. IsCertificate (S.spec object.now) report.now text.items)) }
     // None is answered only where the book of what was delivered has no legal order.
-    ensures none { IfOk result (λ found. IfNone found (
-        ¬ HasDeliveredOrder (S.init object.now) (S.next object.now) report.now.lines)) }
+    ensures none { IfOk result
+        (λ found. IfNone found (¬ HasDeliveredOrder (S.spec object.now) report.now.lines)) }
 {
     let book = delivered_book(alloc, report)?;
     match check(alloc, object, &book)? {

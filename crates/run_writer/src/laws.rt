@@ -1,12 +1,13 @@
 //! Laws of what is written of a run.
 
 ghost use Rattle.std.specs.Prelude.{◌≡◌, ◌∷◌, []};
+ghost use Rattle.seq_objects.specs.Objects.{kind_spec};
 ghost use Rattle.byte_streams.specs.declared.status.Status.TheVariants.{Fine, Found};
 ghost use Rattle.seq_objects.specs.declared.kind.Kind.TheVariants.{Queue};
 ghost use Rattle.report_lines.specs.Cases.{pending};
 ghost use Rattle.reports.specs.Cases.{of_queue, worked};
 ghost use Rattle.run_writer.specs.declared.form.Form.TheVariants.{Counts as Numbers};
-ghost use Rattle.run_writer.specs.Runs.{IsRunOutput, counts_text, object_of_kind, StatusesTellErrors, FormsWriteOneText, CertificatesAreLegal, CertificatesAreOfTheirKind, CertificatesTellOneBook};
+ghost use Rattle.run_writer.specs.Runs.{IsRunOutput, counts_text, StatusesTellErrors, FormsWriteOneText, CertificatesAreLegal, CertificatesAreOfTheirKind, CertificatesTellOneBook};
 
 /// A report has one text, and so have its counts.
 pub fn a_report_and_its_counts_have_one_text()
@@ -38,18 +39,17 @@ pub fn statuses_tell_errors()
 /// and with no other one and no other text; and no output where there is no report.
 #[tactic(auto, using(crate::proofs::Statuses::found, crate::proofs::Statuses::not_fine, crate::proofs::Statuses::fine, crate::proofs::Statuses::not_found, crate::proofs::Statuses::no_text, crate::proofs::Statuses::no_report))]
 pub fn outputs_have_their_status()
-    ensures found { IsRunOutput (object_of_kind Queue) (λ report. report ≡ worked) Numbers Found
+    ensures found { IsRunOutput (kind_spec Queue) (λ report. report ≡ worked) Numbers Found
         (counts_text (record { calls = 4; delivered = 1; errors = 1 })) }
-    ensures not_fine { ¬ IsRunOutput (object_of_kind Queue) (λ report. report ≡ worked) Numbers Fine
+    ensures not_fine { ¬ IsRunOutput (kind_spec Queue) (λ report. report ≡ worked) Numbers Fine
         (counts_text (record { calls = 4; delivered = 1; errors = 1 })) }
-    ensures fine { IsRunOutput (object_of_kind Queue)
+    ensures fine { IsRunOutput (kind_spec Queue)
         (λ report. report ≡ of_queue ((pending 5 ∷ []) ∷ [])) Numbers Fine
         (counts_text (record { calls = 1; delivered = 0; errors = 0 })) }
-    ensures not_found { ¬ IsRunOutput (object_of_kind Queue)
+    ensures not_found { ¬ IsRunOutput (kind_spec Queue)
         (λ report. report ≡ of_queue ((pending 5 ∷ []) ∷ [])) Numbers Found
         (counts_text (record { calls = 1; delivered = 0; errors = 0 })) }
-    ensures no_text { ¬ IsRunOutput (object_of_kind Queue)
-        (λ report. report ≡ worked) Numbers Found [] }
-    ensures no_report { ¬ IsRunOutput (object_of_kind Queue) (λ report. ⊥) Numbers Fine
+    ensures no_text { ¬ IsRunOutput (kind_spec Queue) (λ report. report ≡ worked) Numbers Found [] }
+    ensures no_report { ¬ IsRunOutput (kind_spec Queue) (λ report. ⊥) Numbers Fine
         (counts_text (record { calls = 0; delivered = 0; errors = 0 })) }
 {}

@@ -3,7 +3,6 @@
 ghost use Rattle.std.specs.Prelude.{◌≡◌, ◌⊎◌, ◌≤◌, ◌++◌, ℕ, List, true, false, IfOk, OnOk};
 ghost use Rattle.std.specs.List.{list_any};
 ghost use Rattle.report_lines.specs.Lines.{any_error};
-ghost use Rattle.script_workers.specs.Starts.{object_by};
 ghost use Rattle.byte_streams.specs.Fault.{LeavesSink};
 ghost use Rattle.run_writer.specs.Runs.{IsWitnessText, IsWritten, HasForm, IsRunOutput, RunEnds, counts_text, status_of};
 
@@ -28,11 +27,11 @@ pub fn write_report<S: SeqObject, K: Sink>(
     sink: &mut K,
 ) -> Status
     // Where the form is a certificate, what was delivered by the report has a legal order.
-    requires form { HasForm (object_by S.init S.next sequential.now) form report.now }
+    requires form { HasForm (S.spec sequential.now) form report.now }
 
     // What was written, with each status, is that of this report.
-    ensures ends { RunEnds (object_by S.init S.next sequential.now)
-        (λ other. other ≡ report.now) form result (K.taken sink.old) (K.taken sink.new) }
+    ensures ends { RunEnds (S.spec sequential.now) (λ other. other ≡ report.now) form result
+        (K.taken sink.old) (K.taken sink.new) }
 
     // Where a line of the report is an error, the status is `Found`, failed writes and want of
     // memory aside.
@@ -71,9 +70,8 @@ fn shown<S: SeqObject>(
     sequential: &S,
     report: &Report,
 ) -> Result<Vec<u8>, NoMemory>
-    requires { HasForm (object_by S.init S.next sequential.now) form report.now }
-    ensures { IfOk result (λ text.
-        IsWritten (object_by S.init S.next sequential.now) form report.now text.items) }
+    requires { HasForm (S.spec sequential.now) form report.now }
+    ensures { IfOk result (λ text. IsWritten (S.spec sequential.now) form report.now text.items) }
 {
     match form {
         Form::Report => {
@@ -104,9 +102,9 @@ fn certificate<S: SeqObject>(
     sequential: &S,
     report: &Report,
 ) -> Result<Vec<u8>, NoMemory>
-    requires { HasForm (object_by S.init S.next sequential.now) Form.Certificate report.now }
-    ensures { IfOk result (λ text.
-        IsWritten (object_by S.init S.next sequential.now) Form.Certificate report.now text.items) }
+    requires { HasForm (S.spec sequential.now) Form.Certificate report.now }
+    ensures { IfOk result
+        (λ text. IsWritten (S.spec sequential.now) Form.Certificate report.now text.items) }
 {
     match report_certificate(alloc, sequential, report)? {
         Some(text) => Ok(text),

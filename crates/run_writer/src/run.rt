@@ -1,18 +1,19 @@
 //! Whole runs and replays of a script, and what is written of them.
 
 ghost use Rattle.std.specs.Prelude.{◌≡◌, ◌⊎◌, ◌<◌, ℕ, None, length, vec_len};
+ghost use Rattle.seq_objects.specs.Objects.{kind_spec};
 ghost use Rattle.row_table.specs.Callers.{IsBenchOf, HoldsAll};
 ghost use Rattle.client_calls.specs.Asking.{fits_own, own_count};
 ghost use Rattle.core_objects.specs.CoreObjects.{AreOpenedWith, ArePassesFor};
 ghost use Rattle.script_workers.specs.Places.{AreInOrder};
-ghost use Rattle.script_workers.specs.Starts.{object_by, run_allotments, replay_allotments, MayBegin};
+ghost use Rattle.script_workers.specs.Starts.{run_allotments, replay_allotments, MayBegin};
 ghost use Rattle.script_workers.specs.Returns.{IsBackOn};
 ghost use Rattle.core_runs.specs.Inside.{fits_inside};
 ghost use Rattle.run_report.specs.Passes.{IsOwnPass, AreUnusedPasses};
 ghost use Rattle.run_report.specs.Reporting.{IsFreeAgain};
 ghost use Rattle.reports.specs.Findings.{Findings};
 ghost use Rattle.byte_streams.specs.Fault.{LeavesSink};
-ghost use Rattle.run_writer.specs.Runs.{RunEnds, object_of_kind};
+ghost use Rattle.run_writer.specs.Runs.{RunEnds};
 ghost use Rattle.run_writer.specs.Running.{IsBenchReport, IsCoreReport, IsToldBenchReport, EndsByReport};
 
 use crate::form::Form;
@@ -77,17 +78,15 @@ where
 
     // The headline: what was written, with each status, is that of a lawful report of the locals on
     // the bench.
-    ensures ends { RunEnds (object_of_kind script.now.kind)
-        (IsToldBenchReport (object_of_kind script.now.kind) ⟦<Outside as Program>⟧.meaning
-        rows.now bench.new
-        B.Pass.made B.Pass.told passes.new.items script.now (run_allotments script.now))
+    ensures ends { RunEnds (kind_spec script.now.kind)
+        (IsToldBenchReport (kind_spec script.now.kind) ⟦<Outside as Program>⟧.meaning rows.now
+        bench.new B.Pass.made B.Pass.told passes.new.items script.now (run_allotments script.now))
         form result (K.taken sink.old) (K.taken sink.new) }
 
     // The report determines the status, by whether one of its lines is an error, and which callers
     // are free for their next calls.
-    ensures reported { EndsByReport (object_of_kind script.now.kind)
-        ⟦<Outside as Program>⟧.meaning rows.now
-        bench.new script.now (run_allotments script.now) result }
+    ensures reported { EndsByReport (kind_spec script.now.kind) ⟦<Outside as Program>⟧.meaning
+        rows.now bench.new script.now (run_allotments script.now) result }
 
     // The status is `WriteFault` only where the sink's count of faults rose in this call, and
     // another one only where that count stayed; with `NoMemory` the sink is as it was.
@@ -141,17 +140,15 @@ pub fn replay_and_write<B: BlackBox, K: Sink>(
 
     // The headline: what was written, with each status, is that of a lawful report of the locals on
     // the bench.
-    ensures ends { RunEnds (object_of_kind script.now.kind)
-        (IsToldBenchReport (object_of_kind script.now.kind) ⟦<Outside as Program>⟧.meaning
-        rows.now bench.new
-        B.Pass.made B.Pass.told passes.new.items script.now (replay_allotments script.now))
-        form result (K.taken sink.old) (K.taken sink.new) }
+    ensures ends { RunEnds (kind_spec script.now.kind)
+        (IsToldBenchReport (kind_spec script.now.kind) ⟦<Outside as Program>⟧.meaning rows.now
+        bench.new B.Pass.made B.Pass.told passes.new.items script.now
+        (replay_allotments script.now)) form result (K.taken sink.old) (K.taken sink.new) }
 
     // The report determines the status, by whether one of its lines is an error, and which callers
     // are free for their next calls.
-    ensures reported { EndsByReport (object_of_kind script.now.kind)
-        ⟦<Outside as Program>⟧.meaning rows.now
-        bench.new script.now (replay_allotments script.now) result }
+    ensures reported { EndsByReport (kind_spec script.now.kind) ⟦<Outside as Program>⟧.meaning
+        rows.now bench.new script.now (replay_allotments script.now) result }
 
     // The status is `WriteFault` only where the sink's count of faults rose in this call, and
     // another one only where that count stayed; with `NoMemory` the sink is as it was.
@@ -211,10 +208,9 @@ where
 
     // The headline: what was written, with each status, is that of a lawful report of the locals on
     // the bench, which has no error line.
-    ensures ends { RunEnds (object_by O.S.init O.S.next (O.sequential_of object.now))
-        (IsCoreReport (object_by O.S.init O.S.next (O.sequential_of object.now)) O.P.meaning
-        rows.now bench.new script.now (run_allotments script.now))
-        form result (K.taken sink.old) (K.taken sink.new) }
+    ensures ends { RunEnds (O.S.spec (O.sequential_of object.now))
+        (IsCoreReport (O.S.spec (O.sequential_of object.now)) O.P.meaning rows.now bench.new
+        script.now (run_allotments script.now)) form result (K.taken sink.old) (K.taken sink.new) }
 
     // The status is never that an error was found.
     ensures right { ¬ (result ≡ Status.Found) }
@@ -225,9 +221,8 @@ where
     // Want of memory aside, each caller that by the report has no error and stopped between two
     // calls, or made all of its calls, is free for its next one.
     ensures free { ¬ (result ≡ Status.NoMemory) → (report : Findings)
-        → IsBenchReport (object_by O.S.init O.S.next (O.sequential_of object.now)) O.P.meaning
-        rows.now bench.new script.now (run_allotments script.now) report
-        → (i : ℕ) → i < length script.now.operations
+        → IsBenchReport (O.S.spec (O.sequential_of object.now)) O.P.meaning rows.now bench.new
+        script.now (run_allotments script.now) report → (i : ℕ) → i < length script.now.operations
         → IsFreeAgain bench.new (run_allotments script.now) report i }
 
     // The status is `WriteFault` only where the sink's count of faults rose in this call, and

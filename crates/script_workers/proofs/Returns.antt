@@ -3,6 +3,7 @@ use Rattle.std.proofs.Common.{◌≡◌, ◌≢◌, ◌∙◌, sym, subst, ap, r
 use Rattle.std.specs.Prelude.{Option}
 use Rattle.std.proofs.lemmas.Bool.{cases_lt}
 use Rattle.std.proofs.lemmas.Option.{same_Some}
+use Rattle.book_base.specs.SeqSpec.{SeqSpec}
 use Rattle.world_core.specs.Local.{Local, Object_step}
 use Rattle.world_core.specs.CallSteps.{all_steps_of}
 use Rattle.report_lines.specs.declared.line.Line.{Line}
@@ -11,7 +12,6 @@ use Rattle.client_calls.specs.declared.stand.CallerState.{CallerState}
 use Rattle.client_calls.specs.declared.stand.CallerState.TheVariants.{Idle, Announced, Answered, Viewed, Published, Halted, Unjudged}
 use Rattle.client_calls.specs.Stands.{phases_at}
 use Rattle.client_calls.specs.Clients.{Spent, HasSpent, phases_by}
-use Rattle.client_calls.specs.Ends.{Sequential}
 use Rattle.client_calls.specs.Asking.{Fits, PassCount, FitsCaller}
 use Rattle.client_calls.specs.declared.client.Client.{Client}
 use Rattle.client_calls.proofs.Told.{if_some_as}
@@ -113,8 +113,7 @@ fits_back meaning r fits c l pass pass' who caller number same is h =
     rw (← caller.callers, ← caller.cap, ← number, same, is) h
 
 module _ {P T E : Type 0} (meaning : P → ℕ → ℕ → Meaning) (r : Rows P) (says : Says)
-    (object : E → Sequential) (fits : Fits T) (count : T → Option PassCount)
-    (course : RunCourse) where
+    (object : E → SeqSpec) (fits : Fits T) (count : T → Option PassCount) (course : RunCourse) where
   -- the client of a worker that has spent its phases
   pub spent_client : (i : ℕ) (w : Worker P T E) (c : Client P T E)
       → IsSpent meaning r says object fits count course i w → w.client ≡ Some c

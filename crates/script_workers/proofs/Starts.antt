@@ -4,6 +4,7 @@ use Rattle.std.specs.Prelude.{Option, IfSome}
 use Rattle.std.proofs.lemmas.Bool.{cases_lt}
 use Rattle.std.proofs.lemmas.Option.{same_Some}
 use Rattle.std.proofs.lemmas.List.FromFn.{get_or-map-range_with_len}
+use Rattle.book_base.specs.SeqSpec.{SeqSpec}
 use Rattle.world_core.specs.Shape.{Meaning}
 use Rattle.world_core.specs.Local.{Local, Object_step, IsIdle, fresh}
 use Rattle.world_core.specs.CallSteps.{all_steps_of}
@@ -20,7 +21,6 @@ use Rattle.row_gather.specs.Gathered.{IsGatheredBy}
 use Rattle.text_fields.specs.Counts.{AreAtMost}
 use Rattle.client_scripts.specs.Plans.{Plan, AreStops, sizes}
 use Rattle.client_calls.specs.declared.stand.CallerState.TheVariants.{Idle}
-use Rattle.client_calls.specs.Ends.{Sequential}
 use Rattle.client_calls.specs.Asking.{Fits, PassCount, FitsCaller}
 use Rattle.client_calls.specs.Course.{HasCome, HasTold, HasAskedFor, HasCounted, Counts}
 use Rattle.client_calls.proofs.Told.{if_some_as}
@@ -197,8 +197,8 @@ fits_known meaning r fits pass c who steps caller number are h =
 
 -- the worker of a fresh caller
 module _ {P T E : Type 0} (meaning : P → ℕ → ℕ → Meaning) (r : Rows P) (says : Says)
-    (object : E → Sequential) (fits : Fits T) (count : T → Option PassCount) (plan : Plan)
-    (judged : Sequential) where
+    (object : E → SeqSpec) (fits : Fits T) (count : T → Option PassCount) (plan : Plan)
+    (judged : SeqSpec) where
   pub fresh_start : (c : Caller P) (pass : T) (sheet : Sheet E)
       (kept : ∥ IsGatheredBy (local_with c) sheet.gathered ∥₁)
       (stands : KeepsStanding (object sheet.ending) sheet) (allotment : ℕ)

@@ -5,6 +5,7 @@ use Rattle.std.specs.List.{AllByRecursion}
 use Rattle.std.proofs.lemmas.Bool.{eq-eqb, ne_eqb}
 use Rattle.std.proofs.lemmas.List.Sums.{count_by_more_yes, count_by_more_no}
 use Rattle.std.proofs.lemmas.List.FromFn.{get_or-map-range_with_len}
+use Rattle.book_base.specs.SeqSpec.{SeqSpec}
 use Rattle.report_lines.specs.Allotments.{turns_of}
 use Rattle.client_scripts.specs.Plans.{Plan}
 use Rattle.script_workers.specs.Places.{AreDownFrom}
@@ -15,7 +16,6 @@ use Rattle.client_calls.specs.declared.stand.CallerState.{CallerState}
 use Rattle.client_calls.specs.declared.stand.CallerState.TheVariants.{Idle, Announced, Answered, Viewed, Published, Halted, Unjudged}
 use Rattle.client_calls.specs.declared.client.Client.{Client}
 use Rattle.client_calls.specs.Asking.{Fits, PassCount}
-use Rattle.client_calls.specs.Ends.{Sequential}
 use Rattle.client_calls.specs.Stands.{GoesOnFrom}
 use Rattle.client_calls.specs.Clients.{phases_by, HasSpent, IsSameClient}
 use Rattle.client_calls.proofs.Spending.{spent_by, spent_exact, spent_more}
@@ -36,8 +36,7 @@ goes_or_not (Halted c) = inr (λ goes. goes)
 goes_or_not (Unjudged u) = inr (λ goes. goes)
 
 module _ {P T E : Type 0} (meaning : P → ℕ → ℕ → Meaning) (r : Rows P) (says : Says)
-    (object : E → Sequential) (fits : Fits T) (count : T → Option PassCount)
-    (course : RunCourse) where
+    (object : E → SeqSpec) (fits : Fits T) (count : T → Option PassCount) (course : RunCourse) where
   abbrev Turned : ℕ → ℕ → Worker P T E → Type 0
   Turned i turns w = IsTurned meaning r says object fits count course i turns w
 
@@ -161,8 +160,7 @@ set_cases (z ∷ xs) (suc p) (suc j) y x there =
     ]
 
 module _ {P T E : Type 0} (meaning : P → ℕ → ℕ → Meaning) (r : Rows P) (says : Says)
-    (object : E → Sequential) (fits : Fits T) (count : T → Option PassCount)
-    (course : RunCourse) where
+    (object : E → SeqSpec) (fits : Fits T) (count : T → Option PassCount) (course : RunCourse) where
   abbrev Are : ℕ → List ℕ → List (Worker P T E) → Type 0
   Are n turns ws = AreDownFrom n
       (λ i w. IsTurned meaning r says object fits count course i (turns_of turns i) w) ws
@@ -193,10 +191,9 @@ module _ {P T E : Type 0} (meaning : P → ℕ → ℕ → Meaning) (r : Rows P)
 
 -- after all turns each worker has spent its allotment
 pub turned_spent : {P T E : Type 0} (meaning : P → ℕ → ℕ → Meaning) (r : Rows P) (says : Says)
-    (object : E → Sequential) (fits : Fits T) (count : T → Option PassCount) (plan : Plan)
-    (judged : Sequential)
-    (i : ℕ) (w : Worker P T E) → i < length plan.operations → IsTurned meaning r says object fits
-    count (course_of plan (run_allotments plan) judged) i (turns_of plan.turns i) w
+    (object : E → SeqSpec) (fits : Fits T) (count : T → Option PassCount) (plan : Plan)
+    (judged : SeqSpec) (i : ℕ) (w : Worker P T E) → i < length plan.operations → IsTurned meaning r
+    says object fits count (course_of plan (run_allotments plan) judged) i (turns_of plan.turns i) w
     → IsSpent meaning r says object fits count (course_of plan (replay_allotments plan) judged) i w
 turned_spent meaning r says object fits count plan judged i w low h =
     let given : slice_index (replay_allotments plan) i

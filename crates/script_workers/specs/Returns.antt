@@ -1,5 +1,6 @@
 -- What callers that are back on their bench leave.
 use Rattle.std.specs.Prelude.{◌≡◌, ℕ, ◌%◌, ◌<◌, ◌≤◌, Bool, false, List, Option, Some, None, IfSome, slice_get, slice_index}
+use Rattle.book_base.specs.SeqSpec.{SeqSpec}
 use Rattle.world_core.specs.Shape.{Meaning, Shape}
 use Rattle.world_core.specs.Local.{Local}
 use Rattle.world_core.specs.CallSteps.{all_steps_of}
@@ -14,7 +15,7 @@ use Rattle.row_table.specs.declared.stance.Stance.{Stance}
 use Rattle.row_table.specs.Benches.{fresh_stance}
 use Rattle.row_table.specs.Callers.{shape_of, on_bench, stance_on}
 use Rattle.client_calls.specs.Asking.{Fits, PassCount}
-use Rattle.client_calls.specs.Ends.{Sequential, HasLeftAt}
+use Rattle.client_calls.specs.Ends.{HasLeftAt}
 use Rattle.client_calls.specs.Finishing.{KeepsAsked, IsLeftStanding}
 use Rattle.client_calls.specs.Clients.{HasSpent}
 use Rattle.client_calls.specs.declared.client.Client.{Client}
@@ -25,7 +26,7 @@ use Rattle.script_workers.specs.declared.worker.Worker.{Worker}
 module _ {P T E : Type 0} where
   -- The worker of caller i, whose client has spent all its phases.
   pub record IsSpent (meaning : P → ℕ → ℕ → Meaning) (r : Rows P) (says : Says)
-      (object : E → Sequential) (fits : Fits T) (count : T → Option PassCount) (course : RunCourse)
+      (object : E → SeqSpec) (fits : Fits T) (count : T → Option PassCount) (course : RunCourse)
       (i : ℕ) (w : Worker P T E) : Type 0 where
     pub client : Client P T E
     pub here : w.client ≡ Some client

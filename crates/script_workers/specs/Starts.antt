@@ -1,5 +1,6 @@
 -- What callers and passes are before any call, and the workers that are made of them.
 use Rattle.std.specs.Prelude.{◌≡◌, ℕ, ◌+◌, ◌*◌, ◌<◌, ◌≤◌, List, [], Option, Some, None, IfSome, length, slice_index, vec_capacity}
+use Rattle.book_base.specs.SeqSpec.{SeqSpec}
 use Rattle.world_core.specs.Shape.{Meaning}
 use Rattle.world_core.specs.Local.{Local, IsIdle}
 use Rattle.report_lines.specs.Phases.{progress_of, no_progress}
@@ -12,7 +13,6 @@ use Rattle.drv_wrapper.specs.Stands.{ready}
 use Rattle.client_scripts.specs.Plans.{Plan}
 use Rattle.reports.specs.declared.report.Own.{Own}
 use Rattle.client_calls.specs.Asking.{Fits, PassCount}
-use Rattle.client_calls.specs.Ends.{Sequential}
 use Rattle.client_calls.specs.Stands.{GoesOnFrom}
 use Rattle.client_calls.specs.Clients.{phases_by}
 use Rattle.client_calls.specs.declared.client.Client.{Client}
@@ -21,10 +21,6 @@ use Rattle.script_workers.specs.Work.{Says, IsAtWork}
 use Rattle.script_workers.specs.declared.worker.Worker.{Worker}
 use Rattle.script_workers.specs.declared.pace.Pace.{Pace}
 use Rattle.script_workers.specs.declared.pace.Pace.TheVariants.{Alone, ByTurns}
-
--- A sequential object of some type, by its first list and its transition function.
-abbrev pub object_by : {S : Type 0} → (S → List ℕ) → (S → List ℕ → ℕ → List ℕ × ℕ) → S → Sequential
-object_by init next sequential = record { init = init sequential; next = next sequential }
 
 -- How many phases each of a plan's callers may make where each works by itself.
 abbrev pub run_allotments : Plan → List ℕ
@@ -44,10 +40,10 @@ allotments_by ByTurns plan = replay_allotments plan
 pub record RunCourse : Type 0 where
   pub operations : List (List ℕ)
   pub allotments : List ℕ
-  pub object : Sequential
+  pub object : SeqSpec
 
 -- The course of a plan, with these allotments.
-abbrev pub course_of : Plan → List ℕ → Sequential → RunCourse
+abbrev pub course_of : Plan → List ℕ → SeqSpec → RunCourse
 course_of plan allotments object =
     record { operations = plan.operations; allotments = allotments; object = object }
 
@@ -126,8 +122,8 @@ pub record AreFreshPasses {P T : Type 0} (r : Rows P) (fits : Fits T) (count : T
   pub each : AreInOrder (IsFreshPass r fits count operations) passes
 
 module _ {P T E : Type 0} (meaning : P → ℕ → ℕ → Meaning) (r : Rows P) (says : Says)
-    (object : E → Sequential) (fits : Fits T) (count : T → Option PassCount)
-    (course : RunCourse) (i : ℕ) where
+    (object : E → SeqSpec) (fits : Fits T) (count : T → Option PassCount) (course : RunCourse)
+    (i : ℕ) where
   -- The client of caller i, which is at work on this course.
   pub record IsClientOf (c : Client P T E) : Type 0 where
     pub work : IsAtWork meaning r says object fits count c

@@ -1,9 +1,9 @@
 -- Workers that take turns.
 use Rattle.std.specs.Prelude.{◌≡◌, ℕ, ◌+◌, ◌*◌, ◌≤◌, min, Option, Some, length, slice_index}
+use Rattle.book_base.specs.SeqSpec.{SeqSpec}
 use Rattle.world_core.specs.Shape.{Meaning}
 use Rattle.row_table.specs.declared.rows.Rows.{Rows}
 use Rattle.client_calls.specs.Asking.{Fits, PassCount}
-use Rattle.client_calls.specs.Ends.{Sequential}
 use Rattle.client_calls.specs.Stands.{GoesOnFrom}
 use Rattle.client_calls.specs.Clients.{phases_by, HasSpent}
 use Rattle.client_calls.specs.declared.client.Client.{Client}
@@ -12,7 +12,7 @@ use Rattle.script_workers.specs.Starts.{RunCourse, IsClientOf}
 use Rattle.script_workers.specs.declared.worker.Worker.{Worker}
 
 module _ {P T E : Type 0} (meaning : P → ℕ → ℕ → Meaning) (r : Rows P) (says : Says)
-    (object : E → Sequential) (fits : Fits T) (count : T → Option PassCount) where
+    (object : E → SeqSpec) (fits : Fits T) (count : T → Option PassCount) where
   -- The worker of caller i, after this many turns that named it: its client has spent a phase at
   -- each, but none beyond its allotment, and where it isn't halted it has the other phases of its
   -- allotment left.

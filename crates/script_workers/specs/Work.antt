@@ -2,11 +2,11 @@
 -- work is done.
 use Rattle.std.specs.Prelude.{◌≡◌, ℕ, ◌+◌, ◌*◌, ◌≤◌, List, length, Option, Some}
 use Rattle.book_base.specs.declared.call.Record.{Record}
+use Rattle.book_base.specs.SeqSpec.{SeqSpec}
 use Rattle.world_core.specs.Shape.{Meaning}
 use Rattle.world_core.specs.Local.{Local}
 use Rattle.report_lines.specs.declared.line.LineEnd.{LineEnd}
 use Rattle.row_table.specs.declared.rows.Rows.{Rows}
-use Rattle.client_calls.specs.Ends.{Sequential}
 use Rattle.client_calls.specs.Stands.{GoesOnFrom}
 use Rattle.client_calls.specs.Asking.{Fits, PassCount}
 use Rattle.client_calls.specs.Clients.{phases_by, HasSpent, IsUnderWay, HasPass, HasCapacity, IsSameClient}
@@ -16,12 +16,12 @@ use Rattle.script_workers.specs.declared.worker.Worker.{Worker}
 
 -- What the end of a line says, by a sequential object.
 abbrev pub Says : Type 1
-Says = Sequential → ℕ → Local → Record → List ℕ → LineEnd → Type 0
+Says = SeqSpec → ℕ → Local → Record → List ℕ → LineEnd → Type 0
 
 -- The parameters of all definitions below: the meaning of the program, and the rows; what the ends
 -- of lines say, and by which object an ending judges; whom a pass fits, and what it counts.
 module _ {P T E : Type 0} (meaning : P → ℕ → ℕ → Meaning) (r : Rows P) (says : Says)
-    (object : E → Sequential) (fits : Fits T) (count : T → Option PassCount) where
+    (object : E → SeqSpec) (fits : Fits T) (count : T → Option PassCount) where
   -- A client is at work: it has come to its state and its lines, its pass fits its caller and
   -- agrees with them, there is capacity for all its calls, and the order that it keeps is one of
   -- its object's.

@@ -4,6 +4,7 @@ use Rattle.std.specs.Io.KnownBytes.{Appends}
 use Rattle.std.proofs.KnownBytes.{Keeps-refl}
 use Rattle.book_base.specs.declared.fault.TextFault.{TextFault}
 use Rattle.book_base.specs.Book.{Page}
+use Rattle.seq_objects.specs.Objects.{kind_spec}
 use Rattle.book_text.proofs.Readings.{one_book, one_first_fault}
 use Rattle.book_writer.specs.Sketches.{sketch_lines}
 use Rattle.seq_objects.specs.declared.kind.Kind.{Kind}
@@ -21,7 +22,7 @@ use Rattle.byte_streams.specs.declared.TheConstants.{INPUT_LIMIT}
 use Rattle.selfcheck.specs.Command.{command_of}
 use Rattle.faulty_objects.specs.declared.behaviour.Behaviour.TheVariants.{Lawful}
 use Rattle.run_writer.specs.declared.form.Form.TheVariants.{Report, Counts, Certificate}
-use Rattle.run_writer.specs.Runs.{counts_text, object_of_kind}
+use Rattle.run_writer.specs.Runs.{counts_text}
 use Rattle.named_runs.specs.BehaviourRuns.{IsNamedRunReport, IsNamedReplayReport}
 use Rattle.selfcheck.specs.ScriptInput.{soak_plan}
 use Rattle.text_fields.specs.Refusal.{refusal_text}
@@ -87,16 +88,16 @@ answer_statuses Sets bytes Fine text answer = inl refl
 answer_statuses Sets bytes Found text answer = inr refl
 answer_statuses Sets bytes _ text answer = absurd answer
 answer_statuses (Run behaviour) bytes status text answer = run_statuses
-    (object_of_kind answer.0.kind) (IsNamedRunReport behaviour answer.0) Report status text answer.2
+    (kind_spec answer.0.kind) (IsNamedRunReport behaviour answer.0) Report status text answer.2
 answer_statuses (Replay behaviour) bytes status text answer =
-    run_statuses (object_of_kind answer.0.kind)
+    run_statuses (kind_spec answer.0.kind)
     (IsNamedReplayReport behaviour answer.0) Report status text answer.2
 answer_statuses (Certify behaviour) bytes status text answer =
-    run_statuses (object_of_kind answer.0.kind)
+    run_statuses (kind_spec answer.0.kind)
     (IsNamedRunReport behaviour answer.0) Certificate status text answer.2
 answer_statuses (Monitor behaviour) bytes status text answer =
     monitor_statuses answer.0.kind answer.3.0 status text answer.3.2
-answer_statuses (Soak number) bytes status text answer = run_statuses (object_of_kind Queue)
+answer_statuses (Soak number) bytes status text answer = run_statuses (kind_spec Queue)
     (IsNamedRunReport Lawful (soak_plan number)) Counts status text answer.1
 
 -- an input that is answered is a text of the wanted form
@@ -306,13 +307,13 @@ sets_is_determined = IsDetermined-from_answers Sets one_set_verdict
 fine_answer : (command : Command) (bytes : List ℕ) (status : Status) (text : List ℕ)
     → RunsInside command bytes → IsAnswerOf command bytes status text → status ≡ Fine
 fine_answer (Run behaviour) bytes status text inside answer =
-    fine_without_error (object_of_kind answer.0.kind) (IsNamedRunReport behaviour answer.0) Report
+    fine_without_error (kind_spec answer.0.kind) (IsNamedRunReport behaviour answer.0) Report
     status text (λ report is. is.no_error (inside answer.0 answer.1)) answer.2
 fine_answer (Certify behaviour) bytes status text inside answer =
-    fine_without_error (object_of_kind answer.0.kind) (IsNamedRunReport behaviour answer.0)
+    fine_without_error (kind_spec answer.0.kind) (IsNamedRunReport behaviour answer.0)
     Certificate status text (λ report is. is.no_error (inside answer.0 answer.1)) answer.2
 fine_answer (Soak number) bytes status text inside answer =
-    fine_without_error (object_of_kind Queue) (IsNamedRunReport Lawful (soak_plan number)) Counts
+    fine_without_error (kind_spec Queue) (IsNamedRunReport Lawful (soak_plan number)) Counts
     status text (λ report is. is.no_error refl) answer.1
 fine_answer command bytes status text inside answer = absurd inside
 

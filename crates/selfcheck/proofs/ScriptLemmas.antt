@@ -2,8 +2,8 @@
 use Rattle.std.proofs.Common.{◌≡◌, ◌∙◌, ap, ◌⊎◌, ℕ, Bool, true, false, List, inl, inr, if◌then◌else◌}
 use Rattle.std.specs.List.{list_any}
 use Rattle.book_base.specs.declared.fault.TextFault.{TextFault}
+use Rattle.book_base.specs.SeqSpec.{SeqSpec}
 use Rattle.report_lines.specs.Lines.{any_error}
-use Rattle.client_calls.specs.Ends.{Sequential}
 use Rattle.client_scripts.specs.Plans.{Plan}
 use Rattle.client_scripts.specs.ScriptRules.{IsFirstScriptFault}
 use Rattle.client_scripts.proofs.Readings.{no_first_fault}
@@ -34,13 +34,13 @@ by_error true status e = inr e
 by_error false status e = inl e
 
 -- a run of which a report is shown has one of the statuses `Fine` and `Found`
-pub run_statuses : (object : Sequential) (IsOne : Findings → Type 0) (form : Form) (status : Status)
+pub run_statuses : (object : SeqSpec) (IsOne : Findings → Type 0) (form : Form) (status : Status)
     (text : List ℕ) → IsRunOutput object IsOne form status text → (status ≡ Fine) ⊎ (status ≡ Found)
 run_statuses object IsOne form status text output =
     by_error (list_any any_error output.0.lines) status output.3
 
 -- where no line of a run's report is an error, the status is `Fine`
-pub fine_without_error : (object : Sequential) (IsOne : Findings → Type 0) (form : Form)
+pub fine_without_error : (object : SeqSpec) (IsOne : Findings → Type 0) (form : Form)
     (status : Status) (text : List ℕ)
     → ((report : Findings) → IsOne report → list_any any_error report.lines ≡ false)
     → IsRunOutput object IsOne form status text → status ≡ Fine

@@ -1,6 +1,7 @@
 -- What is written for a task with a script is an output of its command, and what is written of a
 -- soak's run is an output of the soak.
 use Rattle.std.proofs.Common.{◌≡◌, ℕ, ◌≤◌, List, [], length, Option, refl, subst, arith}
+use Rattle.seq_objects.specs.Objects.{kind_spec}
 use Rattle.client_scripts.specs.Plans.{Plan}
 use Rattle.client_scripts.specs.ScriptRules.{IsScriptText}
 use Rattle.text_fields.specs.declared.version.Version.TheVariants.{Second}
@@ -10,7 +11,7 @@ use Rattle.byte_streams.specs.Writing.{EndsWriting}
 use Rattle.faulty_objects.specs.declared.behaviour.Behaviour.{Behaviour}
 use Rattle.faulty_objects.specs.declared.behaviour.Behaviour.TheVariants.{Lawful}
 use Rattle.run_writer.specs.declared.form.Form.TheVariants.{Counts}
-use Rattle.run_writer.specs.Runs.{IsRunOutput, RunEnds, object_of_kind}
+use Rattle.run_writer.specs.Runs.{IsRunOutput, RunEnds}
 use Rattle.selfcheck.specs.declared.command.Command.TheVariants.{Monitor, Soak}
 use Rattle.selfcheck.specs.declared.script_task.ScriptTask.{ScriptTask}
 use Rattle.selfcheck.specs.declared.script_task.ScriptTask.TheVariants.{Run, Replay, Certify}
@@ -24,22 +25,21 @@ use Rattle.selfcheck.proofs.OutputLemmas.{EndsWriting-answer}
 
 -- what is written of a task with an input's script is an answer of its command: one case a task
 task_answer : (task : ScriptTask) (behaviour : Behaviour) (bytes : List ℕ) (plan : Plan)
-    → IsScriptText Second bytes plan
-    → (status : Status) (text : List ℕ) → IsRunOutput (object_of_kind plan.kind)
-    (IsReportBy task behaviour plan) (form_by task) status text
+    → IsScriptText Second bytes plan → (status : Status) (text : List ℕ)
+    → IsRunOutput (kind_spec plan.kind) (IsReportBy task behaviour plan) (form_by task) status text
     → IsAnswerOf (command_for task behaviour) bytes status text
 task_answer Run behaviour bytes plan told status text output = (plan, told, output)
 task_answer Replay behaviour bytes plan told status text output = (plan, told, output)
 task_answer Certify behaviour bytes plan told status text output = (plan, told, output)
 
 pub EndsWriting-task : (task : ScriptTask) (behaviour : Behaviour) (bytes : List ℕ) (plan : Plan)
-    (result : Status) (taken taken' : Option (List ℕ))
-    → length bytes ≤ INPUT_LIMIT → IsScriptText Second bytes plan → RunEnds
-    (object_of_kind plan.kind) (IsReportBy task behaviour plan) (form_by task) result taken taken'
+    (result : Status) (taken taken' : Option (List ℕ)) → length bytes ≤ INPUT_LIMIT
+    → IsScriptText Second bytes plan → RunEnds (kind_spec plan.kind)
+    (IsReportBy task behaviour plan) (form_by task) result taken taken'
     → EndsWriting (IsOutputOf (command_for task behaviour) bytes) result taken taken'
 EndsWriting-task task behaviour bytes plan result taken taken' short told ends =
     EndsWriting-answer (command_for task behaviour) bytes
-    (IsRunOutput (object_of_kind plan.kind) (IsReportBy task behaviour plan) (form_by task)) result
+    (IsRunOutput (kind_spec plan.kind) (IsReportBy task behaviour plan) (form_by task)) result
     taken taken' short
     (task_answer task behaviour bytes plan told) ends
 
@@ -56,13 +56,13 @@ EndsWriting-monitor behaviour bytes plan result taken taken' short told few ends
 
 pub EndsWriting-soak : (number : ℕ) (plan : Plan) (result : Status) (taken taken' : Option (List ℕ))
     → plan ≡ soak_plan number
-    → RunEnds (object_of_kind plan.kind) (IsNamedRunReport Lawful plan) Counts result taken taken'
+    → RunEnds (kind_spec plan.kind) (IsNamedRunReport Lawful plan) Counts result taken taken'
     → EndsWriting (IsOutputOf (Soak number) []) result taken taken'
 EndsWriting-soak number plan result taken taken' same ends =
-    EndsWriting-answer (Soak number) [] (IsRunOutput (object_of_kind plan.kind)
+    EndsWriting-answer (Soak number) [] (IsRunOutput (kind_spec plan.kind)
     (IsNamedRunReport Lawful plan) Counts) result taken taken' (omega arith)
     (λ status text output. (
       refl,
-      subst (λ (p : Plan). IsRunOutput (object_of_kind p.kind)
+      subst (λ (p : Plan). IsRunOutput (kind_spec p.kind)
           (IsNamedRunReport Lawful p) Counts status text) same output,
     )) ends

@@ -16,7 +16,7 @@ use Rattle.client_scripts.proofs.Readings as scripts
 use Rattle.client_scripts.proofs.ReadTexts as read_scripts
 use Rattle.client_scripts.proofs.WrittenTexts as written_scripts
 use Rattle.seq_objects.specs.declared.kind.Kind.{Kind}
-use Rattle.seq_objects.specs.Objects.{kind_init, kind_next}
+use Rattle.seq_objects.specs.Objects.{kind_spec}
 use Rattle.text_fields.specs.declared.version.Version.{Version}
 use Rattle.text_fields.specs.declared.version.Version.TheVariants.{First, Second}
 use Rattle.text_fields.specs.Head.{title_words}
@@ -160,7 +160,7 @@ one_order bytes text kind other book another upgraded old new order =
     let same = books.one_book Second text kind other book another
     (((says_the_same bytes text upgraded).books kind book).0 old) new in
     let Legal : Kind → List Page → Type 0 =
-    λ k b. IsLegalOrder (kind_init k) (kind_next k) b order in (
+    λ k b. IsLegalOrder (kind_spec k) b order in (
       λ legal. subst (λ (b : List Page). Legal other b) same.1
           (subst (λ (k : Kind). Legal k book) same.0 legal),
       λ legal. subst (λ (b : List Page). Legal kind b) (sym same.1)

@@ -1,5 +1,6 @@
 -- What the bytes of an input say of a script, and what is written of a script's run.
 use Rattle.std.specs.Prelude.{ℕ, List, IsSome}
+use Rattle.seq_objects.specs.Objects.{kind_spec}
 use Rattle.client_scripts.specs.Generator.{generated}
 use Rattle.client_scripts.specs.Plans.{Plan}
 use Rattle.client_scripts.specs.ScriptRules.{IsScriptText}
@@ -13,7 +14,7 @@ use Rattle.run_writer.specs.declared.form.Form.TheVariants.{Report, Counts, Cert
 use Rattle.byte_streams.specs.declared.status.Status.{Status}
 use Rattle.named_runs.specs.Worlds.{inside_of}
 use Rattle.named_runs.specs.BehaviourRuns.{IsNamedRunReport, IsNamedReplayReport}
-use Rattle.run_writer.specs.Runs.{IsRunOutput, object_of_kind}
+use Rattle.run_writer.specs.Runs.{IsRunOutput}
 
 -- the bytes are the text of a script
 unfoldable pub IsScriptInput : List ℕ → Type 0
@@ -24,7 +25,7 @@ IsScriptInput bytes = (plan : Plan) × IsScriptText Second bytes plan
 abbrev pub IsShownOf : (Plan → Findings → Type 0) → Form → List ℕ → Status → List ℕ → Type 0
 IsShownOf IsReportFor form bytes status text =
     (plan : Plan) × IsScriptText Second bytes plan
-    × IsRunOutput (object_of_kind plan.kind) (IsReportFor plan) form status text
+    × IsRunOutput (kind_spec plan.kind) (IsReportFor plan) form status text
 
 -- The object of a behaviour is inside the world in a run of the script that the bytes are the text
 -- of.
@@ -57,5 +58,5 @@ soak_plan number = generated number 4 32 Queue
 -- What `soak` says: a status and the three counts of a lawful report of the script made from its
 -- number.
 abbrev pub IsSoakOf : ℕ → Status → List ℕ → Type 0
-IsSoakOf number status text = IsRunOutput (object_of_kind Queue)
+IsSoakOf number status text = IsRunOutput (kind_spec Queue)
     (IsNamedRunReport Lawful (soak_plan number)) Counts status text

@@ -7,7 +7,7 @@ use Rattle.book_text.specs.BookRules.{IsBookText}
 use Rattle.client_scripts.specs.Plans.{Plan}
 use Rattle.client_scripts.specs.ScriptRules.{IsScriptText}
 use Rattle.seq_objects.specs.declared.kind.Kind.{Kind}
-use Rattle.seq_objects.specs.Objects.{kind_init, kind_next}
+use Rattle.seq_objects.specs.Objects.{kind_spec}
 use Rattle.text_fields.specs.declared.version.Version.TheVariants.{First, Second}
 use Rattle.selfcheck.specs.declared.command.Command.TheVariants.{Upgrade}
 use Rattle.byte_streams.specs.declared.status.Status.TheVariants.{Fine}
@@ -28,8 +28,8 @@ UpgradesSayTheSame = (bytes text : List ℕ) → IsOutputOf Upgrade bytes Fine t
 -- The order is legal for both books, or for neither.
 abbrev pub HaveOneOrder : Kind → List Page → Kind → List Page → List Place → Type 0
 HaveOneOrder kind book other another order =
-    IsLegalOrder (kind_init kind) (kind_next kind) book order
-    ↔ IsLegalOrder (kind_init other) (kind_next other) another order
+    IsLegalOrder (kind_spec kind) book order
+    ↔ IsLegalOrder (kind_spec other) another order
 
 -- The book in the output of `upgrade` has exactly the legal orders of the book in its input.
 abbrev pub UpgradesKeepOrders : Type 0

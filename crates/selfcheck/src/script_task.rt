@@ -1,6 +1,7 @@
 ghost use Rattle.std.specs.Prelude.{◌≡◌, ◌≤◌};
+ghost use Rattle.seq_objects.specs.Objects.{kind_spec};
 ghost use Rattle.byte_streams.specs.Fault.{LeavesSink};
-ghost use Rattle.run_writer.specs.Runs.{RunEnds, object_of_kind};
+ghost use Rattle.run_writer.specs.Runs.{RunEnds};
 ghost use Rattle.selfcheck.specs.ScriptTasks.{IsReportBy, form_by};
 
 use byte_streams::{Sink, Status};
@@ -32,9 +33,8 @@ impl ScriptTask {
         script: &Script,
         sink: &mut K,
     ) -> Status
-        ensures ends { RunEnds (object_of_kind script.now.kind)
-            (IsReportBy self behaviour script.now) (form_by self) result (K.taken sink.old)
-            (K.taken sink.new) }
+        ensures ends { RunEnds (kind_spec script.now.kind) (IsReportBy self behaviour script.now)
+            (form_by self) result (K.taken sink.old) (K.taken sink.new) }
         ensures faults { LeavesSink K.faults result sink.old sink.new }
     {
         match self {

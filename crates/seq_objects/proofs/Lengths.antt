@@ -5,6 +5,7 @@ use Rattle.list_laws.proofs.Pigeonhole.{pigeonhole}
 use Rattle.book_base.specs.declared.call.Call.{Call}
 use Rattle.book_base.specs.declared.call.Place.{Place}
 use Rattle.book_base.specs.declared.TheConstants.{MAX_CALLERS, MAX_CALLS}
+use Rattle.book_base.specs.SeqSpec.{SeqSpec}
 use Rattle.book_base.specs.Book.{Page, IsSmall, IsCall}
 use Rattle.book_base.specs.Order.{call_at, StandsAt, IsLegalOrder}
 use Rattle.book_base.proofs.ViewLemmas.{same_call}
@@ -16,10 +17,9 @@ StandsWithCode order k code = (call : Call) × StandsAt order k call × (call.nu
     × (call.caller * MAX_CALLS + call.number ≡ code)
 
 -- A legal order of a small book has no more places than the greatest book has calls.
-pub order_is_short : (init : List ℕ) (next : List ℕ → ℕ → List ℕ × ℕ) (book : List Page)
-    (order : List Place) → IsSmall book → IsLegalOrder init next book order
-    → length order ≤ MAX_CALLERS * MAX_CALLS
-order_is_short init next book order small legal =
+pub order_is_short : (spec : SeqSpec) (book : List Page) (order : List Place) → IsSmall book
+    → IsLegalOrder spec book order → length order ≤ MAX_CALLERS * MAX_CALLS
+order_is_short spec book order small legal =
     pigeonhole (StandsWithCode order) (length order) (MAX_CALLERS * MAX_CALLS)
     (λ k inside. elim (slice_get_cases order k).1 [
       | inl found ↦

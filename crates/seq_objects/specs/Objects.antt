@@ -3,6 +3,7 @@
 -- at most one, and an unknown word changes no list and gets the reply `BAD`.
 use Rattle.std.proofs.Common.{◌≡◌, ℕ, ◌+◌, ◌≤◌, false, List, [], ◌∷◌, length}
 use Rattle.book_base.specs.declared.TheConstants.{BAD}
+use Rattle.book_base.specs.SeqSpec.{SeqSpec}
 use Rattle.seq_objects.specs.declared.kind.Kind.{Kind}
 use Rattle.seq_objects.specs.declared.kind.Kind.TheVariants as kinds
 use Rattle.seq_objects.specs.Words.{is_known_word}
@@ -39,6 +40,10 @@ kind_next kinds.CasRegister list word = cas_register_after list (cas_register_op
 kind_next kinds.Map list word = map_after list (map_operation word)
 
 -- The list that an object of a kind begins with has at most one item.
+-- The sequential object of a kind.
+abbrev pub kind_spec : Kind → SeqSpec
+kind_spec kind = record { init = kind_init kind; next = kind_next kind }
+
 pub length-kind_init : (kind : Kind) → length (kind_init kind) ≤ 1
 length-kind_init kinds.Queue = length-none
 length-kind_init kinds.Stack = length-none

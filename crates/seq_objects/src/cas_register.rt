@@ -61,9 +61,7 @@ fn compare_and_set(state: &mut State, expected: u32, new: u32) -> u64
 impl SeqObject for CasRegister {
     ghost is_known = { λ _. is_known_word kinds.CasRegister };
 
-    ghost init = { λ _. 0 ∷ [] };
-
-    ghost next = { λ _ list op. cas_register_after list (cas_register_operation op) };
+    ghost spec = { λ _. record { init = 0 ∷ []; next = λ list op. cas_register_after list (cas_register_operation op) } };
 
     ghost begins_small = { λ _. length-one };
 

@@ -40,9 +40,7 @@ impl CounterOperation {
 impl SeqObject for Counter {
     ghost is_known = { λ _. is_known_word kinds.Counter };
 
-    ghost init = { λ _. 0 ∷ [] };
-
-    ghost next = { λ _ list op. counter_after list (counter_operation op) };
+    ghost spec = { λ _. record { init = 0 ∷ []; next = λ list op. counter_after list (counter_operation op) } };
 
     ghost begins_small = { λ _. length-one };
 

@@ -85,9 +85,7 @@ impl Keyed for IntSet {
 impl SeqObject for IntSet {
     ghost is_known = { λ _. is_known_word kinds.IntSet };
 
-    ghost init = { λ _. [] };
-
-    ghost next = { λ _ list op. set_after list (set_operation op) };
+    ghost spec = { λ _. record { init = []; next = λ list op. set_after list (set_operation op) } };
 
     ghost begins_small = { λ _. length-none };
 

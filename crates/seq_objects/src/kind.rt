@@ -2,7 +2,7 @@ ghost use Rattle.std.specs.Prelude.{◌≡◌, ◌≢◌, ℕ, ◌∷◌, ◌++�
 ghost use Rattle.book_base.specs.PruningRules.{Leaves};
 ghost use Rattle.book_base.specs.OperationWord.{IsOperationWord};
 ghost use Rattle.seq_objects.specs.declared.kind.Kind.{Kind};
-ghost use Rattle.seq_objects.specs.Objects.{kind_init, kind_next, length-kind_init, length-kind_next, kind_next-unknown};
+ghost use Rattle.seq_objects.specs.Objects.{kind_next, kind_spec, length-kind_init, length-kind_next, kind_next-unknown};
 ghost use Rattle.seq_objects.specs.Seen.{kind_sees};
 ghost use Rattle.seq_objects.specs.Words.{kind_name, is_first_kind, is_known_word, operation_text, whole_digits, further, Spells, AppendsPrefix};
 
@@ -140,9 +140,7 @@ impl Kind {
 impl SeqObject for Kind {
     ghost is_known = { is_known_word };
 
-    ghost init = { kind_init };
-
-    ghost next = { kind_next };
+    ghost spec = { kind_spec };
 
     ghost sees = { kind_sees };
 

@@ -119,9 +119,7 @@ impl Keyed for Map {
 impl SeqObject for Map {
     ghost is_known = { λ _. is_known_word kinds.Map };
 
-    ghost init = { λ _. [] };
-
-    ghost next = { λ _ list op. map_after list (map_operation op) };
+    ghost spec = { λ _. record { init = []; next = λ list op. map_after list (map_operation op) } };
 
     ghost begins_small = { λ _. length-none };
 

@@ -61,9 +61,7 @@ impl Reader for Pqueue {
 impl SeqObject for Pqueue {
     ghost is_known = { λ _. is_known_word kinds.Pqueue };
 
-    ghost init = { λ _. [] };
-
-    ghost next = { λ _ list op. pqueue_after list (pqueue_operation op) };
+    ghost spec = { λ _. record { init = []; next = λ list op. pqueue_after list (pqueue_operation op) } };
 
     ghost sees = { λ _ book sight. ListsValues pqueue_reading book sight };
 

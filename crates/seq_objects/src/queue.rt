@@ -59,9 +59,7 @@ impl Reader for Queue {
 impl SeqObject for Queue {
     ghost is_known = { λ _. is_known_word kinds.Queue };
 
-    ghost init = { λ _. [] };
-
-    ghost next = { λ _ list op. queue_after list (queue_operation op) };
+    ghost spec = { λ _. record { init = []; next = λ list op. queue_after list (queue_operation op) } };
 
     ghost begins_small = { λ _. length-none };
 

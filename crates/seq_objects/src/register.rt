@@ -74,9 +74,7 @@ impl Reader for Register {
 impl SeqObject for Register {
     ghost is_known = { λ _. is_known_word kinds.Register };
 
-    ghost init = { λ _. 0 ∷ [] };
-
-    ghost next = { λ _ list op. register_after list (register_operation op) };
+    ghost spec = { λ _. record { init = 0 ∷ []; next = λ list op. register_after list (register_operation op) } };
 
     ghost sees = { λ _ book sight. ListsValues register_reading book sight };
 

@@ -64,9 +64,7 @@ impl Reader for Stack {
 impl SeqObject for Stack {
     ghost is_known = { λ _. is_known_word kinds.Stack };
 
-    ghost init = { λ _. [] };
-
-    ghost next = { λ _ list op. stack_after list (stack_operation op) };
+    ghost spec = { λ _. record { init = []; next = λ list op. stack_after list (stack_operation op) } };
 
     ghost sees = { λ _ book sight. ListsValues stack_reading book sight };
 

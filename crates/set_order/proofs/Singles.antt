@@ -3,6 +3,7 @@ use Rattle.std.proofs.Common.{◌≡◌, ℕ, ◌+◌, ◌≤◌, ◌↔◌, Lis
 use Rattle.std.proofs.lemmas.List.{length-replicate}
 use Rattle.std.proofs.lemmas.Option.{same_Some, none-some}
 use Rattle.book_base.specs.declared.call.Place.{Place}
+use Rattle.book_base.specs.SeqSpec.{SeqSpec}
 use Rattle.book_base.specs.Book.{Page}
 use Rattle.book_base.specs.Order.{step_at, HasLegalOrder}
 use Rattle.book_base.specs.Next.{raised, list_after, MayStandNext, Continues}
@@ -87,25 +88,28 @@ sets_from_calls next book cut list (place ∷ order) h =
     )
 
 -- For a sequential object, a book has a legal set order exactly where it has a legal order.
-pub alone_law : (init : List ℕ) (next : List ℕ → ℕ → List ℕ × ℕ) (book : List Page)
-    → HasLegalSetOrder init (served_alone next) book ↔ HasLegalOrder init next book
-alone_law init next book =
+pub alone_law : (spec : SeqSpec) (book : List Page)
+    → HasLegalSetOrder spec.init (served_alone spec.next) book ↔ HasLegalOrder spec book
+alone_law spec book =
     let long : length (no_calls book) ≡ length book = length-replicate (length book) 0 in
     let wide : length book ≤ length (no_calls book) = omega arith in (
-      λ (legal : HasLegalSetOrder init (served_alone next) book).
+      λ (legal : HasLegalSetOrder spec.init (served_alone spec.next) book).
           let calls =
-          calls_from_sets next book (no_calls book) init legal.0 (continue_from_legal_order init
-          (served_alone next) book (no_calls book) legal.0 wide (zeros book) legal.1) in (
+          calls_from_sets spec.next book (no_calls book) spec.init legal.0
+          (continue_from_legal_order spec.init
+          (served_alone spec.next) book (no_calls book) legal.0 wide (zeros book) legal.1) in (
             calls.0,
-            legal_order_from_continues book init next (no_calls book) calls.0 wide
+            legal_order_from_continues book spec (no_calls book) calls.0 wide
                 (zeros book) calls.1,
           ),
-      λ (legal : HasLegalOrder init next book).
+      λ (legal : HasLegalOrder spec book).
           let sets : List (List Place) = map (λ place. place ∷ []) legal.0 in (
             sets,
-            legal_order_from_continue init (served_alone next) book (no_calls book) sets wide
+            legal_order_from_continue spec.init (served_alone spec.next) book
+                (no_calls book) sets wide
                 (zeros book)
-                (sets_from_calls next book (no_calls book) init legal.0 (continues_from_legal_order
-                book init next (no_calls book) legal.0 wide (zeros book) legal.1)),
+                (sets_from_calls spec.next book (no_calls book) spec.init legal.0
+                (continues_from_legal_order
+                book spec (no_calls book) legal.0 wide (zeros book) legal.1)),
           ),
     )

@@ -13,9 +13,9 @@ pub struct Single<S> {
 }
 
 impl<S: SeqObject> SetObject for Single<S> {
-    ghost init = { λ single. S.init single.object };
+    ghost init = { λ single. (S.spec single.object).init };
 
-    ghost served = { λ single. served_alone (S.next single.object) };
+    ghost served = { λ single. served_alone (S.spec single.object).next };
 
     fn reset(&self, state: &mut State) {
         self.object.reset(state);
@@ -33,7 +33,7 @@ impl<S: SeqObject> SetObject for Single<S> {
 
     ghost begins_small = { λ single. S.begins_small single.object };
 
-    ghost grows_by_each = { λ single. served_alone-grows (S.next single.object) (S.grows_by_one single.object) };
+    ghost grows_by_each = { λ single. served_alone-grows (S.spec single.object).next (S.grows_by_one single.object) };
 
-    ghost replies_to_each = { λ single. served_alone-replies (S.next single.object) };
+    ghost replies_to_each = { λ single. served_alone-replies (S.spec single.object).next };
 }

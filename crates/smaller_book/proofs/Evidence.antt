@@ -1,6 +1,7 @@
 -- Evidence of evidence is evidence.
 use Rattle.std.proofs.Common.{◌≡◌, ℕ, Bool, true, false, not, ◌||◌, List, [], ◌∷◌, Option, Some, None, refl, sym, subst}
 use Rattle.std.proofs.lemmas.Bool.{true≢false}
+use Rattle.book_base.specs.SeqSpec.{spec_from}
 use Rattle.book_base.specs.Book.{Page}
 use Rattle.book_base.specs.Order.{HasLegalOrder}
 use Rattle.seq_objects.specs.declared.kind.Kind.{Kind}
@@ -79,7 +80,7 @@ pub evidence_from_all : (kind : Kind) (book part : List Page)
 evidence_from_all kind book part carries = (
   no_keys,
   λ list formed legal.
-      subst (λ (l : List ℕ). HasLegalOrder l (kind_next kind) part)
+      subst (λ (l : List ℕ). HasLegalOrder (spec_from l (kind_next kind)) part)
       (sym (items_without-none kind list)) (carries list legal),
 )
 
@@ -89,7 +90,7 @@ pub evidence_twice : (kind : Kind) (book mid part : List Page) → IsEvidence ki
 evidence_twice kind book mid part (first, outer) (second, inner) = (
   either_keys first second,
   λ list formed legal.
-      subst (λ (l : List ℕ). HasLegalOrder l (kind_next kind) part)
+      subst (λ (l : List ℕ). HasLegalOrder (spec_from l (kind_next kind)) part)
       (items_without-twice kind first second list)
       (inner (items_without kind first list) (well_formed-without kind first list formed)
       (outer list formed legal)),

@@ -9,6 +9,7 @@ use Rattle.list_laws.proofs.Places.{get_or-replicate_default}
 use Rattle.book_base.specs.declared.call.Call.{Call}
 use Rattle.book_base.specs.declared.call.Record.{Record}
 use Rattle.book_base.specs.declared.call.Place.{Place}
+use Rattle.book_base.specs.SeqSpec.{spec_from}
 use Rattle.book_base.specs.Cut.{Holds}
 use Rattle.book_base.specs.Book.{Page, answers_of, IsCall, IsAnswered, operation_of, record_of, Precedes}
 use Rattle.book_base.specs.Order.{call_at, step_at, HasLegalOrder}
@@ -410,7 +411,7 @@ no_call_below (x ∷ xs) = cond-false (ltb x 0) (1 + count_below xs 0) 0 (le-ltb
 pub has_one_in_part : (R : List ℕ → List ℕ → Type 0) (next : List ℕ → ℕ → List ℕ × ℕ)
     (book : List Page) (names : List (List ℕ)) (part : List Page) (whole few : List ℕ)
     → IsPart book names part → IsFollowed R next book names → R whole few
-    → HasLegalOrder whole next book → HasLegalOrder few next part
+    → HasLegalOrder (spec_from whole next) book → HasLegalOrder (spec_from few next) part
 has_one_in_part R next book names part whole few is lists related (order, legal) =
     let start : List ℕ = replicate (length book) 0 in
     let wide : length book ≤ length start =
@@ -422,8 +423,9 @@ has_one_in_part R next book names part whole few is lists related (order, legal)
           ∙ ap (count_below (numbers_of names i)) (sym (zeros i))));
     } in
     let rest = continues_in_part R book names part next start start whole few order is lists wide
-    follows related (continues_from_legal_order book whole next start order wide zeros legal) in (
+    follows related
+    (continues_from_legal_order book (spec_from whole next) start order wide zeros legal) in (
       rest.0,
-      legal_order_from_continues part few next start rest.0
+      legal_order_from_continues part (spec_from few next) start rest.0
           (omega (arith, is.callers, wide)) zeros rest.1,
     )

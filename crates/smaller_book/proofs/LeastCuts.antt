@@ -8,6 +8,7 @@ use Rattle.std.proofs.lemmas.List.FromFn.{get_or-range_with_len, length-range_wi
 use Rattle.std.proofs.lemmas.Option.{slice_get_within}
 use Rattle.book_base.specs.declared.call.Call.{Call}
 use Rattle.book_base.specs.declared.call.Record.{Record}
+use Rattle.book_base.specs.SeqSpec.{SeqSpec, spec_from}
 use Rattle.book_base.specs.Cut.{IsWithin}
 use Rattle.book_base.specs.Book.{Page, calls_of, IsCall, operation_of, record_of, answered, IsValid}
 use Rattle.book_base.specs.BookAt.{IsBookAt, book_at}
@@ -117,12 +118,12 @@ part_from_book_at book cut part valid at =
     }
 
 -- A valid book without a legal order has none at the cut of all its records.
-pub illegal_at_all : (init : List ℕ) (next : List ℕ → ℕ → List ℕ × ℕ) (book : List Page)
-    → IsValid book → ¬ HasLegalOrder init next book → IsIllegalCut init next book (answered book)
-illegal_at_all init next book valid none = record {
+pub illegal_at_all : (spec : SeqSpec) (book : List Page) → IsValid book → ¬ HasLegalOrder spec book
+    → IsIllegalCut spec book (answered book)
+illegal_at_all spec book valid none = record {
   wide = length-map book (λ (p : Page). length p.records);
   within = λ i. omega arith;
-  illegal = λ h. none ((has_one_where_the_book_has init next book valid).0 h);
+  illegal = λ h. none ((has_one_where_the_book_has spec book valid).0 h);
 }
 
 -- A cut that is changed to a smaller or equal count of one caller is within the cut before the
@@ -144,50 +145,49 @@ set-within cut i count few j =
 
 -- A cut at which the book has no legal order, changed to a smaller or equal count of one caller,
 -- has a count for each caller and is within the book's records.
-pub set-within_answered : (init : List ℕ) (next : List ℕ → ℕ → List ℕ × ℕ) (book : List Page)
-    (cut : List ℕ) (i count : ℕ) → IsIllegalCut init next book cut → count ≤ get_or cut i 0
-    → (length (set cut i count) ≡ length book) × IsWithin (set cut i count) (answered book)
-set-within_answered init next book cut i count is few = (
+pub set-within_answered : (spec : SeqSpec) (book : List Page) (cut : List ℕ) (i count : ℕ)
+    → IsIllegalCut spec book cut → count ≤ get_or cut i 0 → (length (set cut i count) ≡ length book)
+    × IsWithin (set cut i count) (answered book)
+set-within_answered spec book cut i count is few = (
   length-set cut i count ∙ is.wide,
   λ (j : ℕ). omega (arith, set-within cut i count few j, is.within j),
 )
 
 -- A cut at which the book has no legal order, changed to a smaller or equal count of one caller, is
 -- one as `IsIllegalCut` says where the book has no legal order at the changed cut.
-pub illegal_with : (init : List ℕ) (next : List ℕ → ℕ → List ℕ × ℕ) (book : List Page)
-    (cut : List ℕ) (i count : ℕ) → IsIllegalCut init next book cut → count ≤ get_or cut i 0
-    → ¬ HasLegalOrder init next (book_at (set cut i count) book)
-    → IsIllegalCut init next book (set cut i count)
-illegal_with init next book cut i count is few none =
-    let both = set-within_answered init next book cut i count is few in
+pub illegal_with : (spec : SeqSpec) (book : List Page) (cut : List ℕ) (i count : ℕ)
+    → IsIllegalCut spec book cut → count ≤ get_or cut i 0
+    → ¬ HasLegalOrder spec (book_at (set cut i count) book)
+    → IsIllegalCut spec book (set cut i count)
+illegal_with spec book cut i count is few none =
+    let both = set-within_answered spec book cut i count is few in
     record { wide = both.0; within = both.1; illegal = none }
 
 -- A cut with a new count of a caller is least for this caller where the count is 0 or the book has
 -- a legal order at the cut with that count less by 1.
-pub least_from_search : (init : List ℕ) (next : List ℕ → ℕ → List ℕ × ℕ) (book : List Page)
-    (cut : List ℕ) (i count : ℕ) → i < length cut
-    → (count ≡ 0) ⊎ HasLegalOrder init next (book_at (set cut i (count - 1)) book)
-    → IsLeastAt init next book (set cut i count) i
-least_from_search init next book cut i count inside h =
+pub least_from_search : (spec : SeqSpec) (book : List Page) (cut : List ℕ) (i count : ℕ)
+    → i < length cut → (count ≡ 0) ⊎ HasLegalOrder spec (book_at (set cut i (count - 1)) book)
+    → IsLeastAt spec book (set cut i count) i
+least_from_search spec book cut i count inside h =
     let at : get_or (set cut i count) i 0 ≡ count = get_or-set_same cut i count 0 inside in
     elim h [
       | inl none ↦ inl (at ∙ none)
       | inr legal ↦
           let same : one_less (set cut i count) i ≡ set cut i (count - 1)
           = ap (λ (n : ℕ). set (set cut i count) i (n - 1)) at ∙ set-set cut i count (count - 1) in
-          inr (subst (λ (c : List ℕ). HasLegalOrder init next (book_at c book)) (sym same) legal)
+          inr (subst (λ (c : List ℕ). HasLegalOrder spec (book_at c book)) (sym same) legal)
     ]
 
 -- A cut that is least for a caller stays so where the count of another caller gets smaller.
-pub least_stays : (init : List ℕ) (next : List ℕ → ℕ → List ℕ × ℕ) (book : List Page) (cut : List ℕ)
-    (i j count : ℕ) → IsValid book → j ≢ i → count ≤ get_or cut i 0
-    → IsLeastAt init next book cut j → IsLeastAt init next book (set cut i count) j
-least_stays init next book cut i j count valid other few h =
+pub least_stays : (spec : SeqSpec) (book : List Page) (cut : List ℕ) (i j count : ℕ) → IsValid book
+    → j ≢ i → count ≤ get_or cut i 0 → IsLeastAt spec book cut j
+    → IsLeastAt spec book (set cut i count) j
+least_stays spec book cut i j count valid other few h =
     let same : get_or (set cut i count) j 0 ≡ get_or cut j 0 =
     get_or-set_other cut i j count 0 other in
     elim h [
       | inl none ↦ inl (same ∙ none)
-      | inr legal ↦ inr (smaller_has_one init next book (one_less (set cut i count) j)
+      | inr legal ↦ inr (smaller_has_one spec book (one_less (set cut i count) j)
           (one_less cut j) valid (within cut i j count other few same) legal)
     ]
   where
@@ -236,26 +236,24 @@ within_one_less cut other i within less k =
     ]
 
 -- A cut at which the book has no legal order, and which is least for each caller, is a least cut.
-pub least_from_all : (init : List ℕ) (next : List ℕ → ℕ → List ℕ × ℕ) (book : List Page)
-    (cut : List ℕ) → IsValid book → IsIllegalCut init next book cut
-    → ((i : ℕ) → IsLeastAt init next book cut i) → IsLeastCut init next book cut
-least_from_all init next book cut valid here least = record {
+pub least_from_all : (spec : SeqSpec) (book : List Page) (cut : List ℕ) → IsValid book
+    → IsIllegalCut spec book cut → ((i : ℕ) → IsLeastAt spec book cut i) → IsLeastCut spec book cut
+least_from_all spec book cut valid here least = record {
   here = here;
   least = λ other i within less tried. elim (least i) [
     | inl none ↦ absurd (omega (arith, none, less))
     | inr legal ↦
-        smaller_has_one init next book other (one_less cut i) valid
+        smaller_has_one spec book other (one_less cut i) valid
         (within_one_less cut other i within less) legal
   ];
 }
 
 -- A least cut among those with one open is a least cut, where at it the book has one open and more
 -- than `FEW_CALLS` calls.
-pub least_from_open : (init : List ℕ) (next : List ℕ → ℕ → List ℕ × ℕ) (book : List Page)
-    (cut : List ℕ) → IsValid book → FEW_CALLS < size_of (book_at cut book)
-    → HasOneOpen (book_at cut book) → IsLeastOpenCut init next book cut
-    → IsLeastCut init next book cut
-least_from_open init next book cut valid large one is = record {
+pub least_from_open : (spec : SeqSpec) (book : List Page) (cut : List ℕ) → IsValid book
+    → FEW_CALLS < size_of (book_at cut book) → HasOneOpen (book_at cut book)
+    → IsLeastOpenCut spec book cut → IsLeastCut spec book cut
+least_from_open spec book cut valid large one is = record {
   here = is.here;
   least = λ other i within less tried. elim tried [
     | inl few ↦ absurd (omega (arith, few, large))
@@ -269,39 +267,37 @@ least_from_open init next book cut valid large one is = record {
 
 -- Where a book is legal below a count of a caller within a cut, it is legal below each smaller or
 -- equal count within each cut that is within this one.
-pub legal_below_stays : (init : List ℕ) (next : List ℕ → ℕ → List ℕ × ℕ) (book : List Page)
-    (cut few : List ℕ) (i high low : ℕ) → IsWithin few cut → low ≤ high
-    → IsLegalBelow init next book cut i high → IsLegalBelow init next book few i low
-legal_below_stays init next book cut few i high low within le legal other inside less one =
+pub legal_below_stays : (spec : SeqSpec) (book : List Page) (cut few : List ℕ) (i high low : ℕ)
+    → IsWithin few cut → low ≤ high → IsLegalBelow spec book cut i high
+    → IsLegalBelow spec book few i low
+legal_below_stays spec book cut few i high low within le legal other inside less one =
     legal other (λ j. omega (arith, inside j, within j)) (omega (arith, less, le)) one
 
 -- A book is legal below the count `count + 1` of a caller within a cut where it has a legal order
 -- at some cut that contains all these: the cuts within the first one that count at most `count`
 -- calls of the caller and at which the book has one open.
-pub legal_below_from_greatest : (init : List ℕ) (next : List ℕ → ℕ → List ℕ × ℕ) (book : List Page)
-    (cut tried : List ℕ) (i count : ℕ) → IsValid book → HasLegalOrder init next (book_at tried book)
+pub legal_below_from_greatest : (spec : SeqSpec) (book : List Page) (cut tried : List ℕ)
+    (i count : ℕ) → IsValid book → HasLegalOrder spec (book_at tried book)
     → ((other : List ℕ) → IsWithin other cut → get_or other i 0 ≤ count
     → HasOneOpen (book_at other book) → IsWithin other tried)
-    → IsLegalBelow init next book cut i (count + 1)
-legal_below_from_greatest init next book cut tried i count valid legal greatest other within less
+    → IsLegalBelow spec book cut i (count + 1)
+legal_below_from_greatest spec book cut tried i count valid legal greatest other within less
     one =
-    smaller_has_one init next book other tried valid
+    smaller_has_one spec book other tried valid
     (greatest other within (omega (arith, less)) one) legal
 
 -- Where a book has no legal order at a cut, each book that is the book at this cut has none.
-pub illegal_from_cut : (init : List ℕ) (next : List ℕ → ℕ → List ℕ × ℕ) (book : List Page)
-    (cut : List ℕ) (part : List Page) → IsValid book → IsIllegalCut init next book cut
-    → IsBookAt book cut part → ¬ HasLegalOrder init next part
-illegal_from_cut init next book cut part valid is at h =
-    is.illegal (subst (λ (b : List Page). HasLegalOrder init next b)
+pub illegal_from_cut : (spec : SeqSpec) (book : List Page) (cut : List ℕ) (part : List Page)
+    → IsValid book → IsIllegalCut spec book cut → IsBookAt book cut part → ¬ HasLegalOrder spec part
+illegal_from_cut spec book cut part valid is at h =
+    is.illegal (subst (λ (b : List Page). HasLegalOrder spec b)
     (is_the_only_one book cut part valid at) h)
 
 -- The book at a least cut has a legal order at each earlier cut at which it is tried, and has only
 -- calls that some view holds.
-pub earliest_from_least : (init : List ℕ) (next : List ℕ → ℕ → List ℕ × ℕ) (book : List Page)
-    (cut : List ℕ) (part : List Page) → IsValid book → IsLeastCut init next book cut
-    → IsBookAt book cut part → IsEarliest init next part
-earliest_from_least init next book cut part valid is at =
+pub earliest_from_least : (spec : SeqSpec) (book : List Page) (cut : List ℕ) (part : List Page)
+    → IsValid book → IsLeastCut spec book cut → IsBookAt book cut part → IsEarliest spec part
+earliest_from_least spec book cut part valid is at =
     let part_is : part ≡ book_at cut book = is_the_only_one book cut part valid at in
     let counts : answered part ≡ cut =
     ap answered part_is ∙ record_counts_are_the_cut book cut is.here.wide is.here.within in
@@ -314,7 +310,7 @@ earliest_from_least init next book cut part valid is at =
           ap (book_at other) part_is ∙ is_the_book_at_the_smaller book other cut valid few in
           let there : IsTried (book_at cut book) other =
           subst (λ (b : List Page). IsTried b other) part_is tried in
-          subst (λ (b : List Page). HasLegalOrder init next b) (sym same)
+          subst (λ (b : List Page). HasLegalOrder spec b) (sym same)
           (is.least other i few below there);
       held = λ call inside.
           let found = (at.calls call).0 inside in
@@ -324,18 +320,17 @@ earliest_from_least init next book cut part valid is at =
     }
 
 -- The book at a least cut has no legal order.
-pub illegal_from_least : (init : List ℕ) (next : List ℕ → ℕ → List ℕ × ℕ) (book : List Page)
-    (cut : List ℕ) (part : List Page) → IsValid book → IsLeastCut init next book cut
-    → IsBookAt book cut part → ¬ HasLegalOrder init next part
-illegal_from_least init next book cut part valid is at =
-    illegal_from_cut init next book cut part valid is.here at
+pub illegal_from_least : (spec : SeqSpec) (book : List Page) (cut : List ℕ) (part : List Page)
+    → IsValid book → IsLeastCut spec book cut → IsBookAt book cut part → ¬ HasLegalOrder spec part
+illegal_from_least spec book cut part valid is at =
+    illegal_from_cut spec book cut part valid is.here at
 
 -- From whichever list, a legal order of the book gives one of the book at a cut within its records.
 pub carried_to_cut : (next : List ℕ → ℕ → List ℕ × ℕ) (book : List Page) (cut : List ℕ)
     (part : List Page) → IsValid book → IsWithin cut (answered book) → IsBookAt book cut part
     → CarriesOver next book part
-carried_to_cut next book cut part valid within at init legal =
-    subst (λ (b : List Page). HasLegalOrder init next b)
+carried_to_cut next book cut part valid within at list legal =
+    subst (λ (b : List Page). HasLegalOrder (spec_from list next) b)
     (sym (is_the_only_one book cut part valid at))
-    (smaller_has_one init next book cut (answered book) valid within
-    ((has_one_where_the_book_has init next book valid).1 legal))
+    (smaller_has_one (spec_from list next) book cut (answered book) valid within
+    ((has_one_where_the_book_has (spec_from list next) book valid).1 legal))

@@ -31,6 +31,6 @@ followed next book names lacks = record {
 
 -- Where a part lacks only read-only calls, a legal order of the book gives one of the part.
 pub has_one_without_read_only : HasOneWithoutReadOnly
-has_one_without_read_only next book names part is lacks init legal =
-    has_one_in_part (λ whole few. whole ≡ few) next book names part init init is
+has_one_without_read_only next book names part is lacks list legal =
+    has_one_in_part (λ whole few. whole ≡ few) next book names part list list is
     (followed next book names lacks) refl legal

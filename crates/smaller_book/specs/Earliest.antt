@@ -3,6 +3,7 @@
 use Rattle.std.specs.Prelude.{◌≡◌, ℕ, ◌-◌, ◌<◌, ◌≤◌, ◌⊎◌, List, length, map, slice_index, slice_set}
 use Rattle.std.specs.List.{range_with_len}
 use Rattle.book_base.specs.declared.call.Call.{Call}
+use Rattle.book_base.specs.SeqSpec.{SeqSpec}
 use Rattle.book_base.specs.Cut.{IsWithin}
 use Rattle.book_base.specs.Book.{Page, IsCall, calls_of, answers_of, answered}
 use Rattle.book_base.specs.BookAt.{book_at}
@@ -24,23 +25,20 @@ IsTried book cut = (size_of book ≤ FEW_CALLS) ⊎ (¬ HasOneOpen book) ⊎ Has
 
 -- A book is earliest where it has a legal order at each earlier cut at which it is tried, and each
 -- of its calls is in some view.
-pub record IsEarliest (init : List ℕ) (next : List ℕ → ℕ → List ℕ × ℕ)
-    (book : List Page) : Type 0 where
+pub record IsEarliest (spec : SeqSpec) (book : List Page) : Type 0 where
   -- the book has a legal order at each cut within its records that lacks a record of some caller
   -- and at which the book is tried
-  pub earlier : (cut : List ℕ) (i : ℕ) → IsWithin cut (answered book)
-      → slice_index cut i < answers_of book i → IsTried book cut
-      → HasLegalOrder init next (book_at cut book)
+  pub earlier : (cut : List ℕ) (i : ℕ) → IsWithin cut (answered book) → slice_index cut i
+      < answers_of book i → IsTried book cut → HasLegalOrder spec (book_at cut book)
   -- each call of the book is in some view of it
   pub held : (call : Call) → IsCall book call → IsHeldByAView book call
 
 -- A cut within the records of a book, with one count for each caller, at which the book has no
 -- legal order.
-pub record IsIllegalCut (init : List ℕ) (next : List ℕ → ℕ → List ℕ × ℕ) (book : List Page)
-    (cut : List ℕ) : Type 0 where
+pub record IsIllegalCut (spec : SeqSpec) (book : List Page) (cut : List ℕ) : Type 0 where
   pub wide : length cut ≡ length book
   pub within : IsWithin cut (answered book)
-  pub illegal : ¬ HasLegalOrder init next (book_at cut book)
+  pub illegal : ¬ HasLegalOrder spec (book_at cut book)
 
 -- The cut whose count for this caller is less by one, or 0 where it was 0.
 abbrev pub one_less : List ℕ → ℕ → List ℕ
@@ -48,30 +46,28 @@ one_less cut i = slice_set cut i (slice_index cut i - 1)
 
 -- A cut is least for a caller where it has no record of this caller, or the book has a legal order
 -- at the cut with one record less of this caller.
-abbrev pub IsLeastAt : List ℕ → (List ℕ → ℕ → List ℕ × ℕ) → List Page → List ℕ → ℕ → Type 0
-IsLeastAt init next book cut i = (slice_index cut i ≡ 0)
-    ⊎ HasLegalOrder init next (book_at (one_less cut i) book)
+abbrev pub IsLeastAt : SeqSpec → List Page → List ℕ → ℕ → Type 0
+IsLeastAt spec book cut i = (slice_index cut i ≡ 0)
+    ⊎ HasLegalOrder spec (book_at (one_less cut i) book)
 
 -- A book is legal below a count of a caller, within a cut: it has a legal order at each cut that
 -- lies within this one, has fewer records of the caller than this count, and at which each view of
 -- the book holds at most one unanswered call of each caller.
-abbrev pub IsLegalBelow : List ℕ → (List ℕ → ℕ → List ℕ × ℕ) → List Page → List ℕ → ℕ → ℕ → Type 0
-IsLegalBelow init next book cut i count = (other : List ℕ) → IsWithin other cut
+abbrev pub IsLegalBelow : SeqSpec → List Page → List ℕ → ℕ → ℕ → Type 0
+IsLegalBelow spec book cut i count = (other : List ℕ) → IsWithin other cut
     → slice_index other i < count → HasOneOpen (book_at other book)
-    → HasLegalOrder init next (book_at other book)
+    → HasLegalOrder spec (book_at other book)
 
 -- A cut at which the book has no legal order, while it has one at each lesser cut at which each
 -- view of the book there holds at most one unanswered call of each caller.
-pub record IsLeastOpenCut (init : List ℕ) (next : List ℕ → ℕ → List ℕ × ℕ) (book : List Page)
-    (cut : List ℕ) : Type 0 where
-  pub here : IsIllegalCut init next book cut
-  pub least : (i : ℕ) → IsLegalBelow init next book cut i (slice_index cut i)
+pub record IsLeastOpenCut (spec : SeqSpec) (book : List Page) (cut : List ℕ) : Type 0 where
+  pub here : IsIllegalCut spec book cut
+  pub least : (i : ℕ) → IsLegalBelow spec book cut i (slice_index cut i)
 
 -- A least cut: the book has no legal order at it, while it has one at each lesser cut at which the
 -- book at the least cut is tried.
-pub record IsLeastCut (init : List ℕ) (next : List ℕ → ℕ → List ℕ × ℕ) (book : List Page)
-    (cut : List ℕ) : Type 0 where
-  pub here : IsIllegalCut init next book cut
+pub record IsLeastCut (spec : SeqSpec) (book : List Page) (cut : List ℕ) : Type 0 where
+  pub here : IsIllegalCut spec book cut
   pub least : (other : List ℕ) (i : ℕ) → IsWithin other cut
-      → slice_index other i < slice_index cut i
-      → IsTried (book_at cut book) other → HasLegalOrder init next (book_at other book)
+      → slice_index other i < slice_index cut i → IsTried (book_at cut book) other
+      → HasLegalOrder spec (book_at other book)

@@ -3,6 +3,7 @@
 use Rattle.std.specs.Prelude.{ℕ, ◌≤◌, ◌&&◌, nat_le, Bool, false, not, List, [], ◌∷◌, map, filter, length, unwrap_or, Option, Some, None, option_map, if◌then◌else◌}
 use Rattle.std.specs.List.{range_with_len, AllByRecursion}
 use Rattle.book_base.specs.declared.call.Call.{Call}
+use Rattle.book_base.specs.SeqSpec.{spec_from}
 use Rattle.book_base.specs.Book.{Page, calls_of, operation_of, record_of}
 use Rattle.book_base.specs.Order.{HasLegalOrder}
 use Rattle.book_base.specs.Pruning.{HasOneOpen}
@@ -13,7 +14,7 @@ use Rattle.seq_objects.specs.Words.{OperationEntry, is_known_word, is_operation_
 use Rattle.seq_objects.specs.Readings.{value_of, shown_value}
 use Rattle.seq_objects.specs.MapSteps.{key_of}
 use Rattle.seq_objects.specs.MapLaws.{HasKeysOnce}
-use Rattle.seq_objects.specs.Objects.{kind_init, kind_next}
+use Rattle.seq_objects.specs.Objects.{kind_next, kind_spec}
 use Rattle.smaller_book.specs.Part.{IsPart}
 
 -- The value that a reply shows, where there is a reply and it shows a value.
@@ -110,8 +111,8 @@ IsWellFormed kinds.CasRegister list = Unit {0}
 -- one from the list without the items of these keys.
 abbrev pub CarriesOverWithout : Kind → (ℕ → Bool) → List Page → List Page → Type 0
 CarriesOverWithout kind keys book part = (list : List ℕ) → IsWellFormed kind list
-    → HasLegalOrder list (kind_next kind) book
-    → HasLegalOrder (items_without kind keys list) (kind_next kind) part
+    → HasLegalOrder (spec_from list (kind_next kind)) book
+    → HasLegalOrder (spec_from (items_without kind keys list) (kind_next kind)) part
 
 -- A part is evidence of the book: there are keys such that, from whichever well-formed list the
 -- book has a legal order, the part has one from the list without the items of these keys.
@@ -122,8 +123,8 @@ IsEvidence kind book part = (keys : ℕ → Bool) × CarriesOverWithout kind key
 -- evidence of the book has one from there too, since no object begins with an item that has a key.
 abbrev pub EvidenceTells : Type 0
 EvidenceTells = (kind : Kind) (book part : List Page) → IsEvidence kind book part
-    → HasLegalOrder (kind_init kind) (kind_next kind) book
-    → HasLegalOrder (kind_init kind) (kind_next kind) part
+    → HasLegalOrder (kind_spec kind) book
+    → HasLegalOrder (kind_spec kind) part
 
 -- Where each view holds at most one unanswered call of each caller, a legal order of the book gives
 -- one of the part without all calls that are about these keys, from the list without the items of

@@ -10,7 +10,7 @@ use Rattle.book_base.specs.BookAt.{book_at}
 use Rattle.book_base.specs.Order.{HasLegalOrder}
 use Rattle.book_base.specs.Pruning.{HasOneOpen}
 use Rattle.seq_objects.specs.declared.kind.Kind.{Kind}
-use Rattle.seq_objects.specs.Objects.{kind_init, kind_next}
+use Rattle.seq_objects.specs.Objects.{kind_next, kind_spec}
 use Rattle.smaller_book.specs.declared.TheConstants.{FEW_CALLS}
 use Rattle.smaller_book.specs.Part.{size_of, numbers_of, IsPart, KeepsAnswers}
 use Rattle.smaller_book.specs.ReadOnly.{IsReadOnly}
@@ -36,7 +36,7 @@ all_but book call = map (row_but book call) (range_with_len 0 (length book))
 abbrev pub HasOneWith : Kind → List Page → List (List ℕ) → Type 0
 HasOneWith kind book names =
     (part : List Page) × IsPart book names part × KeepsAnswers book names part
-    × HasLegalOrder (kind_init kind) (kind_next kind) part
+    × HasLegalOrder (kind_spec kind) part
 
 -- A call is needed: the part of the book without this call has a legal order.
 abbrev pub IsNeeded : Kind → List Page → Call → Type 0
@@ -53,7 +53,7 @@ IsKeyNeeded kind book key = HasOneWith kind book (all_without kind (keys_from_to
 pub record IsMinimal (kind : Kind) (book : List Page) : Type 0 where
   -- the book has a legal order at each earlier cut at which it is tried, and each of its calls is
   -- in some view
-  pub earliest : IsEarliest (kind_init kind) (kind_next kind) book
+  pub earliest : IsEarliest (kind_spec kind) book
   -- without any single read-only call the book has a legal order
   pub read_only : (call : Call) → IsReadOnly (kind_next kind) book call → IsNeeded kind book call
   -- where each view holds at most one unanswered call of each caller, the book has a legal order
@@ -67,7 +67,7 @@ pub record IsSmaller (kind : Kind) (book : List Page) (names : List (List ℕ))
   pub is_part : IsPart book names part
   pub wide : length names ≡ length book
   pub evidence : IsEvidence kind book part
-  pub illegal : ¬ HasLegalOrder (kind_init kind) (kind_next kind) part
+  pub illegal : ¬ HasLegalOrder (kind_spec kind) part
   pub fewer : size_of part < size_of book
 
 -- The numbers at these places of a list of numbers, in the order of the places.
@@ -87,8 +87,8 @@ pub record IsShrunk (kind : Kind) (book : List Page) (names : List (List ℕ))
   pub is_part : IsPart book names part
   pub wide : length names ≡ length book
   pub evidence : IsEvidence kind book part
-  pub illegal : ¬ HasLegalOrder (kind_init kind) (kind_next kind) part
-  pub earliest : IsEarliest (kind_init kind) (kind_next kind) part
+  pub illegal : ¬ HasLegalOrder (kind_spec kind) part
+  pub earliest : IsEarliest (kind_spec kind) part
 
 -- A cut is a moment of a book: with each record that it holds, it holds all records of the book
 -- whose views lie within that record's view.
@@ -102,7 +102,7 @@ IsMoment book cut = (later earlier : Call) (r s : Record) → Holds cut later
 abbrev pub IsLegalAt : Kind → List Page → List ℕ → Type 0
 IsLegalAt kind book cut = (i : ℕ) → IsWithin cut (answered book)
     → slice_index cut i < answers_of book i
-    → HasLegalOrder (kind_init kind) (kind_next kind) (book_at cut book)
+    → HasLegalOrder (kind_spec kind) (book_at cut book)
 
 -- A minimal valid book, each of whose views holds at most one unanswered call of each caller, has a
 -- legal order at each moment that lacks one of its records.

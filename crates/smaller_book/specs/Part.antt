@@ -4,6 +4,7 @@ use Rattle.std.specs.Prelude.{◌≡◌, ℕ, ◌<◌, ◌≤◌, ltb, List, [],
 use Rattle.std.specs.List.{prefix_len}
 use Rattle.book_base.specs.declared.call.Call.{Call}
 use Rattle.book_base.specs.declared.call.Record.{Record}
+use Rattle.book_base.specs.SeqSpec.{spec_from}
 use Rattle.book_base.specs.Book.{Page, calls_of, answers_of, IsCall, IsAnswered, operation_of, record_of, announced}
 use Rattle.book_base.specs.Order.{HasLegalOrder}
 
@@ -70,5 +71,5 @@ KeepsAnswers book names part = (call : Call) → IsCall part call
 -- From whichever list the object begins: where the book has a legal order, the part has one; and
 -- where the part has none, the book has none.
 abbrev pub CarriesOver : (List ℕ → ℕ → List ℕ × ℕ) → List Page → List Page → Type 0
-CarriesOver next book part = (init : List ℕ) → HasLegalOrder init next book
-    → HasLegalOrder init next part
+CarriesOver next book part = (list : List ℕ) → HasLegalOrder (spec_from list next) book
+    → HasLegalOrder (spec_from list next) part

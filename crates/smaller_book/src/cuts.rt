@@ -3,7 +3,7 @@ ghost use Rattle.std.specs.Prelude.{◌≡◌, ℕ, ◌<◌, ◌≤◌, length, 
 ghost use Rattle.book_base.specs.Cut.{IsWithin};
 ghost use Rattle.book_base.specs.Book.{answers_of, answered};
 ghost use Rattle.book_base.specs.Order.{HasLegalOrder};
-ghost use Rattle.seq_objects.specs.Objects.{kind_init, kind_next};
+ghost use Rattle.seq_objects.specs.Objects.{kind_next, kind_spec};
 ghost use Rattle.smaller_book.specs.Part.{IsPart, CarriesOver};
 ghost use Rattle.smaller_book.specs.Numbers.{numbers_in};
 ghost use Rattle.smaller_book.specs.Minimal.{IsSmaller};
@@ -29,18 +29,17 @@ use std::alloc::Global;
 /// such records are taken without which the book still has one open.
 pub fn earliest(alloc: Global, kind: Kind, book: &Book) -> Result<Book, NoMemory>
     // The book has no legal order.
-    requires { ¬ HasLegalOrder (kind_init kind) (kind_next kind) book.now }
+    requires { ¬ HasLegalOrder (kind_spec kind) book.now }
     // The answer is the part of the book that has of each caller its first calls, as many as the
     // part has calls of this caller.
     ensures part { IfOk result (λ part. IsPart book.now (all_numbers part) part) }
     // Where the book has a legal order, the part has one, whichever list the object begins with.
     ensures evidence { IfOk result (CarriesOver (kind_next kind) book.now) }
     // The part has no legal order.
-    ensures illegal { IfOk result (λ part.
-        ¬ HasLegalOrder (kind_init kind) (kind_next kind) part) }
+    ensures illegal { IfOk result (λ part. ¬ HasLegalOrder (kind_spec kind) part) }
     // The part has a legal order at each cut that lacks a record of it and at which it is tried,
     // and each of its calls is in some view.
-    ensures earliest { IfOk result (IsEarliest (kind_init kind) (kind_next kind)) }
+    ensures earliest { IfOk result (IsEarliest (kind_spec kind)) }
 {
     let _callers = book.callers();
     let begun = first_illegal(alloc, kind, book)?;
@@ -54,8 +53,8 @@ pub fn earliest(alloc: Global, kind: Kind, book: &Book) -> Result<Book, NoMemory
 // few calls or a view that holds several unanswered calls of one caller; else first only such
 // records that the book keeps one open.
 fn least_cut(alloc: Global, kind: Kind, book: &Book, cut: Cut) -> Result<Cut, NoMemory>
-    requires { IsIllegalCut (kind_init kind) (kind_next kind) book.now cut }
-    ensures { IfOk result (IsLeastCut (kind_init kind) (kind_next kind) book.now) }
+    requires { IsIllegalCut (kind_spec kind) book.now cut }
+    ensures { IfOk result (IsLeastCut (kind_spec kind) book.now) }
 {
     let _callers = book.callers();
     if !is_large_and_open_at(alloc, book, &cut)? {
@@ -73,7 +72,7 @@ fn least_cut(alloc: Global, kind: Kind, book: &Book, cut: Cut) -> Result<Cut, No
 /// legal order there: it lacks the calls that only later views hold. No book is answered where it
 /// has no fewer calls at this cut.
 pub fn without_later(alloc: Global, kind: Kind, book: &Book) -> Result<Option<Smaller>, NoMemory>
-    requires { ¬ HasLegalOrder (kind_init kind) (kind_next kind) book.now }
+    requires { ¬ HasLegalOrder (kind_spec kind) book.now }
     ensures { IfOk result (λ found. IfSome found (λ smaller.
         IsSmaller kind book.now (numbers_in smaller.numbers.items) smaller.book)) }
 {
@@ -86,7 +85,7 @@ pub fn without_later(alloc: Global, kind: Kind, book: &Book) -> Result<Option<Sm
 /// it has one open. No book is answered where it has no fewer calls at that cut, or has at most
 /// `FEW_CALLS` calls from the start.
 pub fn without_open(alloc: Global, kind: Kind, book: &Book) -> Result<Option<Smaller>, NoMemory>
-    requires { ¬ HasLegalOrder (kind_init kind) (kind_next kind) book.now }
+    requires { ¬ HasLegalOrder (kind_spec kind) book.now }
     ensures { IfOk result (λ found. IfSome found (λ smaller.
         IsSmaller kind book.now (numbers_in smaller.numbers.items) smaller.book)) }
 {
@@ -105,7 +104,7 @@ fn smaller_at(
     book: &Book,
     cut: &Cut,
 ) -> Result<Option<Smaller>, NoMemory>
-    requires { IsIllegalCut (kind_init kind) (kind_next kind) book.now cut.now }
+    requires { IsIllegalCut (kind_spec kind) book.now cut.now }
     ensures { IfOk result (λ found. IfSome found (λ smaller.
         IsSmaller kind book.now (numbers_in smaller.numbers.items) smaller.book)) }
 {
@@ -136,8 +135,8 @@ fn all_records(book: &Book) -> Cut
 // at most some number of calls, for the least number that halving finds. A number with which the
 // cut found so far would lose no record needs no search.
 fn first_illegal(alloc: Global, kind: Kind, book: &Book) -> Result<Cut, NoMemory>
-    requires { ¬ HasLegalOrder (kind_init kind) (kind_next kind) book.now }
-    ensures { IfOk result (IsIllegalCut (kind_init kind) (kind_next kind) book.now) }
+    requires { ¬ HasLegalOrder (kind_spec kind) book.now }
+    ensures { IfOk result (IsIllegalCut (kind_spec kind) book.now) }
 {
     let _callers = book.callers();
     let mut cut = all_records(book);
@@ -196,8 +195,8 @@ fn held_by(view: &Cut) -> u64 {
 // Takes records from a cut, of one caller after another, while the book is found to break a rule at
 // the cut. Where it isn't found to break one at the given cut, this cut is the answer.
 fn least_broken(alloc: Global, kind: Kind, book: &Book, cut: Cut) -> Result<Cut, NoMemory>
-    requires { IsIllegalCut (kind_init kind) (kind_next kind) book.now cut }
-    ensures { IfOk result (IsIllegalCut (kind_init kind) (kind_next kind) book.now) }
+    requires { IsIllegalCut (kind_spec kind) book.now cut }
+    ensures { IfOk result (IsIllegalCut (kind_spec kind) book.now) }
 {
     let mut least = cut;
     if !breaks_rule_at(alloc, kind, book, &cut)? {
@@ -220,10 +219,10 @@ fn broken_count(
     cut: &Cut,
     caller: u32,
 ) -> Result<u64, NoMemory>
-    requires cut { IsIllegalCut (kind_init kind) (kind_next kind) book.now cut.now }
+    requires cut { IsIllegalCut (kind_spec kind) book.now cut.now }
     requires caller { caller < length book.now }
-    ensures { IfOk result (λ count.
-        IsIllegalCut (kind_init kind) (kind_next kind) book.now (slice_set cut.now caller count)) }
+    ensures { IfOk result
+        (λ count. IsIllegalCut (kind_spec kind) book.now (slice_set cut.now caller count)) }
 {
     if is_broken_with(alloc, kind, book, cut, caller, 0)? {
         return Ok(0);
@@ -251,12 +250,11 @@ fn is_broken_with(
     caller: u32,
     count: u64,
 ) -> Result<bool, NoMemory>
-    requires cut { IsIllegalCut (kind_init kind) (kind_next kind) book.now cut.now }
+    requires cut { IsIllegalCut (kind_spec kind) book.now cut.now }
     requires caller { caller < length book.now }
     requires few { count ≤ slice_index cut.now caller }
     ensures { IfOk result (λ found. IsTrue found
-        → IsIllegalCut (kind_init kind) (kind_next kind) book.now
-        (slice_set cut.now caller count)) }
+        → IsIllegalCut (kind_spec kind) book.now (slice_set cut.now caller count)) }
 {
     let tried = with_count(cut, caller, count);
     let found = breaks_rule_at(alloc, kind, book, &tried)?;
@@ -266,8 +264,8 @@ fn is_broken_with(
 // Takes from a cut, of one caller after another, as many records as can go while the book has no
 // legal order at the cut.
 fn least_of_all(alloc: Global, kind: Kind, book: &Book, cut: Cut) -> Result<Cut, NoMemory>
-    requires { IsIllegalCut (kind_init kind) (kind_next kind) book.now cut }
-    ensures { IfOk result (IsLeastCut (kind_init kind) (kind_next kind) book.now) }
+    requires { IsIllegalCut (kind_spec kind) book.now cut }
+    ensures { IfOk result (IsLeastCut (kind_spec kind) book.now) }
 {
     let mut least = cut;
     for caller in 0..book.callers() {
@@ -287,14 +285,13 @@ fn least_count(
     cut: &Cut,
     caller: u32,
 ) -> Result<u64, NoMemory>
-    requires cut { IsIllegalCut (kind_init kind) (kind_next kind) book.now cut.now }
+    requires cut { IsIllegalCut (kind_spec kind) book.now cut.now }
     requires caller { caller < length book.now }
     ensures few { IfOk result (λ count. count ≤ slice_index cut.now caller) }
-    ensures illegal { IfOk result (λ count.
-        IsIllegalCut (kind_init kind) (kind_next kind) book.now (slice_set cut.now caller count)) }
-    ensures least { IfOk result (λ count.
-        IsLeastAt (kind_init kind) (kind_next kind) book.now
-        (slice_set cut.now caller count) caller) }
+    ensures illegal { IfOk result
+        (λ count. IsIllegalCut (kind_spec kind) book.now (slice_set cut.now caller count)) }
+    ensures least { IfOk result
+        (λ count. IsLeastAt (kind_spec kind) book.now (slice_set cut.now caller count) caller) }
 {
     let mut low = 0;
     let mut high = cut.get(caller);

@@ -5,7 +5,7 @@ ghost use Rattle.book_base.specs.Book.{answered};
 ghost use Rattle.book_base.specs.BookAt.{book_at};
 ghost use Rattle.book_base.specs.Order.{HasLegalOrder};
 ghost use Rattle.book_base.specs.Pruning.{HasOneOpen};
-ghost use Rattle.seq_objects.specs.Objects.{kind_init, kind_next};
+ghost use Rattle.seq_objects.specs.Objects.{kind_spec};
 ghost use Rattle.smaller_book.specs.declared.TheConstants.{FEW_CALLS};
 ghost use Rattle.smaller_book.specs.Part.{size_of};
 
@@ -19,10 +19,9 @@ use std::alloc::Global;
 
 /// Whether a book has no legal order.
 pub fn is_illegal(alloc: Global, kind: Kind, book: &Book) -> Result<bool, NoMemory>
-    ensures illegal { IfOk result (λ found. IsTrue found
-        → ¬ HasLegalOrder (kind_init kind) (kind_next kind) book.now) }
-    ensures legal { IfOk result (λ found. found ≡ false
-        → HasLegalOrder (kind_init kind) (kind_next kind) book.now) }
+    ensures illegal { IfOk result
+        (λ found. IsTrue found → ¬ HasLegalOrder (kind_spec kind) book.now) }
+    ensures legal { IfOk result (λ found. found ≡ false → HasLegalOrder (kind_spec kind) book.now) }
 {
     if !has_one_open(book) && breaks_rule(kind, book, MOST_PAIRED) {
         return Ok(true);
@@ -45,7 +44,7 @@ const MOST_PAIRED_AT_A_CUT: u64 = 2048;
 // Whether a book is found to break a rule of its kind. A book of more than this many calls isn't
 // looked at.
 fn breaks_rule(kind: Kind, book: &Book, most: u64) -> bool
-    ensures { IsTrue result → ¬ HasLegalOrder (kind_init kind) (kind_next kind) book.now }
+    ensures { IsTrue result → ¬ HasLegalOrder (kind_spec kind) book.now }
 {
     if calls_of_all(book) > most {
         return false;
@@ -57,8 +56,8 @@ fn breaks_rule(kind: Kind, book: &Book, most: u64) -> bool
 pub fn breaks_rule_at(alloc: Global, kind: Kind, book: &Book, cut: &Cut) -> Result<bool, NoMemory>
     requires wide { length cut.now ≡ length book.now }
     requires within { IsWithin cut.now (answered book.now) }
-    ensures { IfOk result (λ found. IsTrue found
-        → ¬ HasLegalOrder (kind_init kind) (kind_next kind) (book_at cut.now book.now)) }
+    ensures { IfOk result
+        (λ found. IsTrue found → ¬ HasLegalOrder (kind_spec kind) (book_at cut.now book.now)) }
 {
     let _callers = book.callers();
     let part = book.at(alloc, cut)?;
@@ -97,10 +96,10 @@ pub fn calls_of_all(book: &Book) -> u64
 pub fn is_illegal_at(alloc: Global, kind: Kind, book: &Book, cut: &Cut) -> Result<bool, NoMemory>
     requires wide { length cut.now ≡ length book.now }
     requires within { IsWithin cut.now (answered book.now) }
-    ensures illegal { IfOk result (λ found. IsTrue found
-        → ¬ HasLegalOrder (kind_init kind) (kind_next kind) (book_at cut.now book.now)) }
-    ensures legal { IfOk result (λ found. found ≡ false
-        → HasLegalOrder (kind_init kind) (kind_next kind) (book_at cut.now book.now)) }
+    ensures illegal { IfOk result
+        (λ found. IsTrue found → ¬ HasLegalOrder (kind_spec kind) (book_at cut.now book.now)) }
+    ensures legal { IfOk result
+        (λ found. found ≡ false → HasLegalOrder (kind_spec kind) (book_at cut.now book.now)) }
 {
     let _callers = book.callers();
     let part = book.at(alloc, cut)?;

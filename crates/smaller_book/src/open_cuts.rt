@@ -6,7 +6,7 @@ ghost use Rattle.book_base.specs.Cut.{IsWithin};
 ghost use Rattle.book_base.specs.Book.{IsAnswered, record_of, answered};
 ghost use Rattle.book_base.specs.BookAt.{book_at};
 ghost use Rattle.book_base.specs.Pruning.{HasOneOpen};
-ghost use Rattle.seq_objects.specs.Objects.{kind_init, kind_next};
+ghost use Rattle.seq_objects.specs.Objects.{kind_spec};
 ghost use Rattle.smaller_book.specs.Earliest.{IsIllegalCut, IsLegalBelow, IsLeastOpenCut};
 
 use crate::judging::{calls_of_all, is_illegal_at};
@@ -18,8 +18,8 @@ use std::alloc::Global;
 /// until the book has a legal order at each lesser cut at which each view of the book there holds
 /// at most one unanswered call of each caller.
 pub fn least_open_cut(alloc: Global, kind: Kind, book: &Book, cut: Cut) -> Result<Cut, NoMemory>
-    requires { IsIllegalCut (kind_init kind) (kind_next kind) book.now cut }
-    ensures { IfOk result (IsLeastOpenCut (kind_init kind) (kind_next kind) book.now) }
+    requires { IsIllegalCut (kind_spec kind) book.now cut }
+    ensures { IfOk result (IsLeastOpenCut (kind_spec kind) book.now) }
 {
     let mut least = cut;
     for caller in 0..book.callers() {
@@ -39,13 +39,12 @@ fn least_open_of(
     cut: Cut,
     caller: u32,
 ) -> Result<Cut, NoMemory>
-    requires cut { IsIllegalCut (kind_init kind) (kind_next kind) book.now cut }
+    requires cut { IsIllegalCut (kind_spec kind) book.now cut }
     requires caller { caller < length book.now }
     ensures within { IfOk result (λ least. IsWithin least cut) }
-    ensures illegal { IfOk result (IsIllegalCut (kind_init kind) (kind_next kind) book.now) }
-    ensures least { IfOk result (λ least.
-        IsLegalBelow (kind_init kind) (kind_next kind) book.now least caller
-        (slice_index least caller)) }
+    ensures illegal { IfOk result (IsIllegalCut (kind_spec kind) book.now) }
+    ensures least { IfOk result
+        (λ least. IsLegalBelow (kind_spec kind) book.now least caller (slice_index least caller)) }
 {
     let _callers = book.callers();
     let mut least = cut;

@@ -4,7 +4,7 @@ ghost use Rattle.book_base.specs.declared.call.Call.{Call};
 ghost use Rattle.book_base.specs.Book.{IsCall};
 ghost use Rattle.book_base.specs.Order.{HasLegalOrder};
 ghost use Rattle.book_base.specs.Pruning.{HasOneOpen};
-ghost use Rattle.seq_objects.specs.Objects.{kind_init, kind_next};
+ghost use Rattle.seq_objects.specs.Objects.{kind_next, kind_spec};
 ghost use Rattle.smaller_book.specs.Part.{size_of, IsPart};
 ghost use Rattle.smaller_book.specs.Numbers.{numbers_in};
 ghost use Rattle.smaller_book.specs.ReadOnly.{IsReadOnly};
@@ -34,8 +34,7 @@ use std::alloc::Global;
 /// numbered anew with new views, and the numbers that they had come with the book.
 pub fn shrink(alloc: Global, kind: Kind, book: &Book) -> Result<Option<Smaller>, NoMemory>
     // Where no book is answered, the book has a legal order.
-    ensures none { IfOk result (λ found. IfNone found
-        (HasLegalOrder (kind_init kind) (kind_next kind) book.now)) }
+    ensures none { IfOk result (λ found. IfNone found (HasLegalOrder (kind_spec kind) book.now)) }
     // The smaller book is the part of the book that has the calls with the answered numbers.
     ensures part { IfOk result (λ found. IfSome found (λ smaller.
         IsPart book.now (numbers_in smaller.numbers.items) smaller.book)) }
@@ -45,8 +44,8 @@ pub fn shrink(alloc: Global, kind: Kind, book: &Book) -> Result<Option<Smaller>,
     ensures evidence { IfOk result (λ found. IfSome found (λ smaller.
         IsEvidence kind book.now smaller.book)) }
     // The smaller book has no legal order.
-    ensures illegal { IfOk result (λ found. IfSome found (λ smaller.
-        ¬ HasLegalOrder (kind_init kind) (kind_next kind) smaller.book)) }
+    ensures illegal { IfOk result
+        (λ found. IfSome found (λ smaller. ¬ HasLegalOrder (kind_spec kind) smaller.book)) }
     // No rule makes the smaller book smaller still and keeps it without a legal order.
     ensures minimal { IfOk result (λ found. IfSome found (λ smaller.
         IsMinimal kind smaller.book)) }
@@ -74,7 +73,7 @@ pub fn shrink(alloc: Global, kind: Kind, book: &Book) -> Result<Option<Smaller>,
 // out before single records are: each record that goes leaves an unanswered call, and a search has
 // more to try.
 fn begun(alloc: Global, kind: Kind, book: &Book) -> Result<Smaller, NoMemory>
-    requires { ¬ HasLegalOrder (kind_init kind) (kind_next kind) book.now }
+    requires { ¬ HasLegalOrder (kind_spec kind) book.now }
     ensures { IfOk result (λ smaller. IsShrunk kind
         book.now (numbers_in smaller.numbers.items) smaller.book) }
 {
@@ -86,7 +85,7 @@ fn begun(alloc: Global, kind: Kind, book: &Book) -> Result<Smaller, NoMemory>
 
 // The book at an earliest cut at which it has no legal order, with the numbers of its calls.
 fn at_earliest(alloc: Global, kind: Kind, book: &Book) -> Result<Smaller, NoMemory>
-    requires { ¬ HasLegalOrder (kind_init kind) (kind_next kind) book.now }
+    requires { ¬ HasLegalOrder (kind_spec kind) book.now }
     ensures { IfOk result (λ smaller. IsShrunk kind
         book.now (numbers_in smaller.numbers.items) smaller.book) }
 {

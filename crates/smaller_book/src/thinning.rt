@@ -1,7 +1,7 @@
 //! A book without many of the calls that it can lack and still have no legal order.
 ghost use Rattle.std.specs.Prelude.{IfOk, IfSome};
 ghost use Rattle.book_base.specs.Order.{HasLegalOrder};
-ghost use Rattle.seq_objects.specs.Objects.{kind_init, kind_next};
+ghost use Rattle.seq_objects.specs.Objects.{kind_spec};
 ghost use Rattle.smaller_book.specs.Numbers.{numbers_in};
 ghost use Rattle.smaller_book.specs.Minimal.{IsSmaller};
 
@@ -21,7 +21,7 @@ use std::alloc::Global;
 /// No answer goes while a later call of its caller is in some view: where each view holds at most
 /// one unanswered call of each caller, a search is short.
 pub fn thinned(alloc: Global, kind: Kind, book: &Book) -> Result<Option<Smaller>, NoMemory>
-    requires { ¬ HasLegalOrder (kind_init kind) (kind_next kind) book.now }
+    requires { ¬ HasLegalOrder (kind_spec kind) book.now }
     ensures { IfOk result (λ found. IfSome found (λ smaller.
         IsSmaller kind book.now (numbers_in smaller.numbers.items) smaller.book)) }
 {
@@ -107,7 +107,7 @@ fn without_open_too(
     book: &Book,
     found: Option<Smaller>,
 ) -> Result<Option<Smaller>, NoMemory>
-    requires illegal { ¬ HasLegalOrder (kind_init kind) (kind_next kind) book.now }
+    requires illegal { ¬ HasLegalOrder (kind_spec kind) book.now }
     requires found { IfSome found (λ smaller.
         IsSmaller kind book.now (numbers_in smaller.numbers.items) smaller.book) }
     ensures { IfOk result (λ found. IfSome found (λ smaller.

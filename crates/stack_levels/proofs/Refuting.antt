@@ -8,6 +8,7 @@ use Rattle.std.proofs.lemmas.Option.{same_Some, none-some}
 use Rattle.list_laws.proofs.Places.{get_or-replicate_default}
 use Rattle.book_base.specs.declared.call.Call.{Call}
 use Rattle.book_base.specs.declared.call.Place.{Place}
+use Rattle.book_base.specs.SeqSpec.{spec_from}
 use Rattle.book_base.specs.Book.{Page, IsValid, operation_of}
 use Rattle.book_base.specs.Order.{call_at}
 use Rattle.book_base.specs.Next.{next_call, raised, MayComeNext, MayStandNext, Continues}
@@ -395,7 +396,8 @@ no_order_where_closed reading book layers nodes valid one table next bound is ha
       ends = (table.bottom, table.first, table.empty);
       node = table.start;
       items = tt;
-      goes = continues_from_legal_order book [] next (no_calls book) has.0 wide zeros has.1;
+      goes = continues_from_legal_order book (spec_from [] next)
+          (no_calls book) has.0 wide zeros has.1;
     }) (omega arith)
 
 -- Where a table of levels is closed for a valid book with one open, by the set of pairs of a list,

@@ -18,7 +18,7 @@ use Rattle.history_rules.specs.Container.{Effect, Puts, Takes, Neither, value_pu
 use Rattle.stack_pruning.specs.LastFirst.{GivesLastFirst}
 use Rattle.stack_pruning.proofs.Stepping.{put_no_take, neither_no_take}
 use Rattle.stack_levels.specs.Levels.{Layer, IsAmong, IsOneLevel, LeavesTop, TakeLeads, IsFollowed, IsClosedAt, IsKeptLayer, IsClosed}
-use Rattle.stack_levels.specs.Cases.{pile, pile_deed, pile_shown, pile_next, pile_after, without_last, layer, puts_and_takes, one_below_two, up_to_two, without_start, taken_too_often, one_on_one, up_and_down, unanswered, both_below, one_below}
+use Rattle.stack_levels.specs.Cases.{pile, pile_deed, pile_shown, pile_next, pile_spec, pile_after, without_last, layer, puts_and_takes, one_below_two, up_to_two, without_start, taken_too_often, one_on_one, up_and_down, unanswered, both_below, one_below}
 use Rattle.stack_levels.proofs.Refuting.{closed_tables_have_no_order}
 
 -- ---- tables that are closed
@@ -490,10 +490,10 @@ none_yet zero = refl
 none_yet (suc i) = refl
 
 -- The book whose take shows the 2 has a legal order of the pile.
-pub has_legal_order : HasLegalOrder [] pile_next (puts_and_takes 2)
+pub has_legal_order : HasLegalOrder pile_spec (puts_and_takes 2)
 has_legal_order = (
   stand 0 0 0 ∷ stand 0 1 0 ∷ stand 0 2 3 ∷ [],
-  legal_order_from_continues (puts_and_takes 2) [] pile_next (0 ∷ [])
+  legal_order_from_continues (puts_and_takes 2) pile_spec (0 ∷ [])
       (stand 0 0 0 ∷ stand 0 1 0 ∷ stand 0 2 3 ∷ []) (omega arith) none_yet (
         stands 0 0 [] (omega arith)
             (λ r e. ap (λ (s : Record). s.reply) (sym (same_Some _ r e))) refl,

@@ -1,5 +1,6 @@
 -- Worked tables of levels, of small books of a pile, which are written out.
 use Rattle.std.specs.Prelude.{ℕ, zero, suc, false, true, Bool, List, [], ◌∷◌, ◌++◌, Option, Some, None}
+use Rattle.book_base.specs.SeqSpec.{SeqSpec}
 use Rattle.book_base.specs.Book.{Page}
 use Rattle.history_rules.specs.Container.{Effect, Puts, Takes, Neither, Reading}
 use Rattle.book_laws.specs.Cases.{answer, caller_page}
@@ -40,6 +41,10 @@ pile_after list Neither = (list, 0)
 -- The list of a pile after an operation, and the reply.
 abbrev pub pile_next : List ℕ → ℕ → List ℕ × ℕ
 pile_next list op = pile_after list (pile_deed op)
+
+-- The pile, which begins empty.
+abbrev pub pile_spec : SeqSpec
+pile_spec = record { init = []; next = pile_next }
 
 -- The level with this last word and these parents, said to be kept or not.
 abbrev pub layer : Option ℕ → Bool → List ℕ → Layer

@@ -1,5 +1,6 @@
 -- Closed tables of levels and legal orders.
 use Rattle.std.specs.Prelude.{ℕ, List, []}
+use Rattle.book_base.specs.SeqSpec.{spec_from}
 use Rattle.book_base.specs.Book.{Page, IsValid}
 use Rattle.book_base.specs.Order.{HasLegalOrder}
 use Rattle.book_base.specs.Pruning.{HasOneOpen}
@@ -12,7 +13,7 @@ use Rattle.stack_levels.specs.Levels.{Layer, IsAmong, IsClosed}
 abbrev pub StackHasNoOrder : Reading → List Page → Type 0
 StackHasNoOrder reading book = (next : List ℕ → ℕ → List ℕ × ℕ) (bound : ℕ)
     → GivesLastFirst reading next bound
-    → HasLegalOrder [] next book → ⊥
+    → HasLegalOrder (spec_from [] next) book → ⊥
 
 -- Where a table of levels is closed for a valid book, and each view of the book holds at most one
 -- unanswered call of each caller, no object that gives its last value first and begins with the

@@ -40,7 +40,7 @@ pub fn legal_books_have_no_closed_table()
     // The pile gives its last value first.
     ensures pile { GivesLastFirst pile pile_next 3 }
     // The book whose take shows the 2 has a legal order of the pile.
-    ensures legal { HasLegalOrder [] pile_next (puts_and_takes 2) }
+    ensures legal { HasLegalOrder pile_spec (puts_and_takes 2) }
     // No table is closed for the book whose take shows the 2.
     ensures none { (layers : List Layer) (pairs : List (ℕ × List ℕ))
         → ¬ IsClosed pile (puts_and_takes 2) layers (IsAmong pairs) }

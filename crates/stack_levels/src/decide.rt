@@ -35,16 +35,17 @@ pub fn decide_stack<S: SeqObject + Reader>(
     book: &Book,
 ) -> Result<Decision, NoMemory>
     // The object gives its last value first, and its values are below a bound.
-    requires stack { (bound : ℕ) × GivesLastFirst (S.reading stack.now) (S.next stack.now) bound }
+    requires stack { (bound : ℕ)
+        × GivesLastFirst (S.reading stack.now) (S.spec stack.now).next bound }
     // The object begins with the empty list.
-    requires empty { S.init stack.now ≡ [] }
+    requires empty { (S.spec stack.now).init ≡ [] }
     // The object is a container: it gives out only what was put in.
-    requires container { IsContainer (S.reading stack.now) (S.next stack.now) }
+    requires container { IsContainer (S.reading stack.now) (S.spec stack.now).next }
     // The first list of the object holds no value.
-    requires nothing { (S.reading stack.now).values (S.init stack.now) ≡ [] }
+    requires nothing { (S.reading stack.now).values (S.spec stack.now).init ≡ [] }
     // An order that is answered is legal, and where it is answered that the book has no legal
     // order, it has none.
-    ensures { IfOk result (IsRightDecision (S.init stack.now) (S.next stack.now) book.now) }
+    ensures { IfOk result (IsRightDecision (S.spec stack.now) book.now) }
 {
     if !has_one_open(book) {
         return Ok(Decision::Unsaid);
@@ -98,7 +99,7 @@ fn order_of<S: SeqObject + Reader>(
     table: &LevelTable,
     place: usize,
 ) -> Result<Decision, NoMemory>
-    ensures { IfOk result (IsRightDecision (S.init stack.now) (S.next stack.now) book.now) }
+    ensures { IfOk result (IsRightDecision (S.spec stack.now) book.now) }
 {
     let calls = calls_to(alloc, table, place)?;
     let Some(places) = places_of(alloc, stack, book, &calls)? else {

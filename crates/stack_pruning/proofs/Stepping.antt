@@ -2,6 +2,7 @@
 use Rattle.std.proofs.Common.{◌≡◌, ◌≢◌, ℕ, suc, ◌+◌, ◌-◌, ◌<◌, ◌⊎◌, ◌∙◌, List, [], ◌∷◌, ◌++◌, length, get_or, take, map, Some, refl, sym, ap, subst, inl, inr, append_assoc, arith}
 use Rattle.std.specs.List.{AllByRecursion}
 use Rattle.std.proofs.lemmas.List.{take_more, take_all}
+use Rattle.book_base.specs.SeqSpec.{SeqSpec}
 use Rattle.book_base.specs.Book.{Page}
 use Rattle.book_base.specs.Order.{step_at}
 use Rattle.book_base.specs.PruningRules.{list_after_run}
@@ -200,9 +201,9 @@ small-run reading next bound is list (step ∷ steps) small =
 
 -- Each item of a list that some order reaches is below the bound, where each item of the first list
 -- is.
-pub small_reached : (reading : Reading) (init : List ℕ) (next : List ℕ → ℕ → List ℕ × ℕ) (bound : ℕ)
-    (book : List Page) (cut list : List ℕ) → GivesLastFirst reading next bound
-    → IsSmall bound init → IsReached init next book cut list → IsSmall bound list
-small_reached reading init next bound book cut list is small reached =
+pub small_reached : (reading : Reading) (spec : SeqSpec) (bound : ℕ) (book : List Page)
+    (cut list : List ℕ) → GivesLastFirst reading spec.next bound → IsSmall bound spec.init
+    → IsReached spec book cut list → IsSmall bound list
+small_reached reading spec bound book cut list is small reached =
     subst (λ (xs : List ℕ). IsSmall bound xs) reached.reaches.reached
-    (small-run reading next bound is init (map (step_at book) reached.before) small)
+    (small-run reading spec.next bound is spec.init (map (step_at book) reached.before) small)

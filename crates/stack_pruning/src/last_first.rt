@@ -1,4 +1,5 @@
 ghost use Rattle.std.specs.Prelude.{◌≡◌, ℕ, ◌<◌, List, length, IfSome, IsTrue};
+ghost use Rattle.book_base.specs.SeqSpec.{SeqSpec};
 ghost use Rattle.book_base.specs.Next.{next_call};
 ghost use Rattle.book_base.specs.Pruning.{HasOneOpen, IsForced, IsMarked, IsMarkedWithin, IsReached, MarksAllNext, MarksSuffice};
 ghost use Rattle.value_pruning.specs.Sights.{ListsValues};
@@ -47,10 +48,10 @@ pub fn narrow_last_first<R: Reader>(
     // For each object that gives its last value first and begins with items below a bound, where
     // some order reaches this cut and list: where places continue an order from there, as many or
     // fewer that begin with the next call of a caller that the answer marks do too.
-    ensures suffice { (init : List ℕ) (next : List ℕ → ℕ → List ℕ × ℕ) (bound : ℕ)
-        → GivesLastFirst (R.reading reader.now) next bound
-        → IsSmall bound init → IsReached init next book.now cut.now words.now
-        → MarksSuffice book.now next cut.now words.now result }
+    ensures suffice { (spec : SeqSpec) (bound : ℕ)
+        → GivesLastFirst (R.reading reader.now) spec.next bound → IsSmall bound spec.init
+        → IsReached spec book.now cut.now words.now
+        → MarksSuffice book.now spec.next cut.now words.now result }
 {
     narrow_by(reader, sight, book, cut, words, words, true, forced, marks)
 }

@@ -2,6 +2,7 @@
 use Rattle.std.proofs.Common.{◌≡◌, ℕ, ◌<◌, ◌≤◌, ◌⊎◌, ◌∙◌, ltb, List, [], ◌∷◌, ◌++◌, map, refl, sym, ap, subst, inl, inr, arith}
 use Rattle.std.specs.List.{AllByRecursion}
 use Rattle.std.proofs.lemmas.Bool.{cases_lt, cond-true, cond-false, lt-ltb, le-ltb}
+use Rattle.book_base.specs.SeqSpec.{SeqSpec}
 use Rattle.book_base.specs.Book.{Page}
 use Rattle.book_base.specs.Order.{step_at}
 use Rattle.book_base.specs.PruningRules.{list_after_run}
@@ -157,9 +158,9 @@ rising-run reading next bound is list (step ∷ steps) rising =
     (rising-next reading next bound is list step.0 rising)
 
 -- Each list that an order reaches is rising.
-pub rising-reached : (reading : Reading) (init : List ℕ) (next : List ℕ → ℕ → List ℕ × ℕ)
-    (bound : ℕ) (book : List Page) (cut list : List ℕ) → GivesLeastFirst reading next bound
-    → IsRising bound init → IsReached init next book cut list → IsRising bound list
-rising-reached reading init next bound book cut list is rising reached =
+pub rising-reached : (reading : Reading) (spec : SeqSpec) (bound : ℕ) (book : List Page)
+    (cut list : List ℕ) → GivesLeastFirst reading spec.next bound → IsRising bound spec.init
+    → IsReached spec book cut list → IsRising bound list
+rising-reached reading spec bound book cut list is rising reached =
     subst (λ (xs : List ℕ). IsRising bound xs) reached.reaches.reached
-    (rising-run reading next bound is init (map (step_at book) reached.before) rising)
+    (rising-run reading spec.next bound is spec.init (map (step_at book) reached.before) rising)

@@ -1,4 +1,5 @@
-ghost use Rattle.std.specs.Prelude.{◌≡◌, ◌↔◌, ◌⊎◌, ℕ, ◌<◌, false, List, length, Some, IfSome, IsTrue};
+ghost use Rattle.std.specs.Prelude.{◌≡◌, ◌↔◌, ◌⊎◌, ℕ, ◌<◌, false, length, Some, IfSome, IsTrue};
+ghost use Rattle.book_base.specs.SeqSpec.{SeqSpec};
 ghost use Rattle.book_base.specs.Book.{IsCall, operation_of};
 ghost use Rattle.book_base.specs.Next.{next_call, MayComeNext};
 ghost use Rattle.book_base.specs.Pruning.{HasOneOpen, IsForced, IsMarked, IsMarkedWithin, IsReached, MarksAllNext, MarksSuffice};
@@ -45,10 +46,10 @@ pub fn narrow_least_first<R: Reader>(
     // that some order reaches with this cut: where places continue an order from the cut and the
     // list, as many or fewer that begin with the next call of a caller that the answer marks do
     // too.
-    ensures suffice { (init : List ℕ) (next : List ℕ → ℕ → List ℕ × ℕ) (bound : ℕ)
-        → GivesLeastFirst (R.reading reader.now) next bound
-        → IsRising bound init → IsReached init next book.now cut.now words.now
-        → MarksSuffice book.now next cut.now words.now result }
+    ensures suffice { (spec : SeqSpec) (bound : ℕ)
+        → GivesLeastFirst (R.reading reader.now) spec.next bound → IsRising bound spec.init
+        → IsReached spec book.now cut.now words.now
+        → MarksSuffice book.now spec.next cut.now words.now result }
 {
     let _callers = book.callers();
     if let Some(caller) = first_take(reader, book, cut, words, marks) {

@@ -3,6 +3,7 @@ use Rattle.std.proofs.Common.{Option, Some, None, ◌∙◌, ℕ, ◌<◌, ◌++
 use Rattle.std.proofs.lemmas.Bool.{cases_eq}
 use Rattle.std.proofs.lemmas.List.{length-set}
 use Rattle.book_base.specs.declared.call.Record.{Record}
+use Rattle.book_base.specs.SeqSpec.{SeqSpec}
 use Rattle.book_base.specs.Book.{Page, page_of, with_answer}
 use Rattle.book_base.proofs.GrowthLemmas.{page_of-set_same, page_of-set_other, record_of-with_answer_old}
 use Rattle.std.specs.Prelude.{IfSome}
@@ -27,8 +28,7 @@ grown_by_answer book i r h =
       records = λ call s e. record_of-with_answer_old book i r call s h e;
     }
 
-pub kept_by_growth : (init : List ℕ) (next : List ℕ → ℕ → List ℕ × ℕ) (a b : List Page)
-    (kept : Option KeptOrder) → HasGrown a b → IfSome kept (IsStandingFor init next a)
-    → IfSome kept (IsStandingFor init next b)
-kept_by_growth init next a b None grown h = tt
-kept_by_growth init next a b (Some s) grown h = standing_stays init next a b s grown h
+pub kept_by_growth : (spec : SeqSpec) (a b : List Page) (kept : Option KeptOrder) → HasGrown a b
+    → IfSome kept (IsStandingFor spec a) → IfSome kept (IsStandingFor spec b)
+kept_by_growth spec a b None grown h = tt
+kept_by_growth spec a b (Some s) grown h = standing_stays spec a b s grown h

@@ -7,7 +7,7 @@ use Rattle.book_base.specs.declared.fault.ReadFault.TheVariants.{Text, NoMemory}
 use Rattle.book_base.specs.Book.{Page}
 use Rattle.book_base.specs.Order.{HasLegalOrder}
 use Rattle.seq_objects.specs.declared.kind.Kind.{Kind}
-use Rattle.seq_objects.specs.Objects.{kind_init, kind_next}
+use Rattle.seq_objects.specs.Objects.{kind_spec}
 use Rattle.book_text.proofs.Readings.{one_book, no_first_fault, one_first_fault}
 use Rattle.given_book.specs.Given.{IsGiven, IsFirstGivenFault, IsNotGiven}
 use Rattle.given_book.proofs.Parts.{told_by, stopped_by}
@@ -37,9 +37,9 @@ legal_or_illegal : (bytes : List ℕ) → IsLegalGiven bytes → IsIllegalGiven 
 legal_or_illegal bytes h k =
     let same = one_given bytes h.kind k.kind h.book k.book h.told k.told in
     let by_kind = subst
-    (λ (kind : Kind). HasLegalOrder (kind_init kind) (kind_next kind) h.book) same.0 h.legal in
+    (λ (kind : Kind). HasLegalOrder (kind_spec kind) h.book) same.0 h.legal in
     k.illegal (subst
-    (λ (book : List Page). HasLegalOrder (kind_init k.kind) (kind_next k.kind) book) same.1 by_kind)
+    (λ (book : List Page). HasLegalOrder (kind_spec k.kind) book) same.1 by_kind)
 
 -- a book with a smaller witness has no legal order
 witness_is_illegal : (bytes text : List ℕ) → IsSmallerWitness bytes text → IsIllegalGiven bytes

@@ -3,7 +3,7 @@ use Rattle.std.specs.Prelude.{ℕ, ◌<◌, Bool, true, false, List}
 use Rattle.book_base.specs.Book.{Page}
 use Rattle.book_base.specs.Order.{HasLegalOrder}
 use Rattle.seq_objects.specs.declared.kind.Kind.{Kind}
-use Rattle.seq_objects.specs.Objects.{kind_init, kind_next}
+use Rattle.seq_objects.specs.Objects.{kind_spec}
 use Rattle.book_picture.specs.declared.marked_calls.MarkedCalls.{MarkedCalls}
 use Rattle.book_picture.specs.declared.marked_calls.MarkedCalls.TheVariants.{Unasked, Smaller, TooLarge, NoMemory}
 use Rattle.book_picture.specs.MarkedCalls.{numbers_in}
@@ -18,7 +18,7 @@ pub record AreOfASmallerBook (kind : Kind) (book : List Page) (names : List (Lis
   pub part : List Page
   pub is_part : IsPart book names part
   pub evidence : IsEvidence kind book part
-  pub illegal : ¬ HasLegalOrder (kind_init kind) (kind_next kind) part
+  pub illegal : ¬ HasLegalOrder (kind_spec kind) part
   pub minimal : IsMinimal kind part
 
 -- The marks of a book without a legal order: the calls of a smaller book are marked, or none where

@@ -4,7 +4,7 @@ use Rattle.book_base.specs.declared.call.Call.{Call}
 use Rattle.book_base.specs.Book.{Page}
 use Rattle.book_base.specs.Order.{HasLegalOrder}
 use Rattle.seq_objects.specs.declared.kind.Kind.{Kind}
-use Rattle.seq_objects.specs.Objects.{kind_init, kind_next}
+use Rattle.seq_objects.specs.Objects.{kind_spec}
 use Rattle.text_fields.specs.declared.version.Version.TheVariants.{Second}
 use Rattle.book_text.specs.BookRules.{IsBookText}
 use Rattle.given_book.specs.Given.{IsGiven}
@@ -22,14 +22,14 @@ pub record IsLegalGiven (bytes : List ℕ) : Type 0 where
   pub kind : Kind
   pub book : List Page
   pub told : IsGiven bytes kind book
-  pub legal : HasLegalOrder (kind_init kind) (kind_next kind) book
+  pub legal : HasLegalOrder (kind_spec kind) book
 
 -- The bytes give a book that has no legal order.
 pub record IsIllegalGiven (bytes : List ℕ) : Type 0 where
   pub kind : Kind
   pub book : List Page
   pub told : IsGiven bytes kind book
-  pub illegal : ¬ (HasLegalOrder (kind_init kind) (kind_next kind) book)
+  pub illegal : ¬ (HasLegalOrder (kind_spec kind) book)
 
 -- The bytes give a book, and the text is that of a part of it without a legal order, which shows
 -- that the book has none either and which no rule makes smaller.
@@ -41,14 +41,14 @@ pub record IsSmallerWitness (bytes text : List ℕ) : Type 0 where
   pub told : IsGiven bytes kind book
   pub is_part : IsPart book names part
   pub evidence : IsEvidence kind book part
-  pub illegal : ¬ (HasLegalOrder (kind_init kind) (kind_next kind) part)
+  pub illegal : ¬ (HasLegalOrder (kind_spec kind) part)
   pub minimal : IsMinimal kind part
   pub written : IsBookText Second text kind part
 
 -- Whether a book of this kind has a legal order.
 abbrev pub IsJudged : Kind → List Page → Bool → Type 0
-IsJudged kind book true = HasLegalOrder (kind_init kind) (kind_next kind) book
-IsJudged kind book false = ¬ (HasLegalOrder (kind_init kind) (kind_next kind) book)
+IsJudged kind book true = HasLegalOrder (kind_spec kind) book
+IsJudged kind book false = ¬ (HasLegalOrder (kind_spec kind) book)
 
 -- The call is that of the first error line of the report that the bytes begin with; there is none
 -- where they begin with no report that has an error.

@@ -4,7 +4,7 @@
 ghost use Rattle.std.specs.Prelude.{IfOk};
 ghost use Rattle.book_base.specs.Order.{HasLegalOrder};
 ghost use Rattle.frontier_check.specs.Verdict.{IsRight};
-ghost use Rattle.seq_objects.specs.Objects.{kind_init, kind_next};
+ghost use Rattle.seq_objects.specs.Objects.{kind_spec};
 ghost use Rattle.book_picture.specs.MarkedCalls.{numbers_in};
 ghost use Rattle.book_picture.specs.Titles.{is_legal};
 ghost use Rattle.witness_texts.specs.Marking.{AreOfASmallerBook, AreMarksOf, AreMarksFor};
@@ -22,7 +22,7 @@ const MOST_CALLS: u64 = 1024;
 /// The calls that are marked in the picture of a book with this verdict: none where the book has a
 /// legal order.
 pub(crate) fn marks_for(alloc: Global, kind: Kind, book: &Book, verdict: &Verdict) -> MarkedCalls
-    requires { IsRight (kind_init kind) (kind_next kind) book.now verdict.now }
+    requires { IsRight (kind_spec kind) book.now verdict.now }
     ensures { AreMarksFor kind book.now (is_legal verdict.now) result }
 {
     match verdict {
@@ -34,7 +34,7 @@ pub(crate) fn marks_for(alloc: Global, kind: Kind, book: &Book, verdict: &Verdic
 // The calls that are marked in the picture of a book without a legal order: those of a smaller
 // book.
 fn marks_of(alloc: Global, kind: Kind, book: &Book) -> MarkedCalls
-    requires { ¬ HasLegalOrder (kind_init kind) (kind_next kind) book.now }
+    requires { ¬ HasLegalOrder (kind_spec kind) book.now }
     ensures { AreMarksOf kind book.now result }
 {
     if calls_of_all(book) > MOST_CALLS {
@@ -48,7 +48,7 @@ fn marks_of(alloc: Global, kind: Kind, book: &Book) -> MarkedCalls
 
 // The numbers of the calls of a smaller book, by caller.
 fn smaller_numbers(alloc: Global, kind: Kind, book: &Book) -> Result<Vec<Vec<u64>>, NoMemory>
-    requires { ¬ HasLegalOrder (kind_init kind) (kind_next kind) book.now }
+    requires { ¬ HasLegalOrder (kind_spec kind) book.now }
     ensures { IfOk result (λ numbers.
         AreOfASmallerBook kind book.now (numbers_in numbers.items)) }
 {

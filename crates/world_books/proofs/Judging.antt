@@ -6,6 +6,7 @@ use Rattle.std.proofs.lemmas.List.{get_or_past}
 use Rattle.std.proofs.lemmas.Option.{same_Some, none-some, slice_get_within}
 use Rattle.book_base.specs.declared.call.Call.{Call}
 use Rattle.book_base.specs.declared.call.Record.{Record}
+use Rattle.book_base.specs.SeqSpec.{SeqSpec}
 use Rattle.book_base.specs.Cut.{AreComparable}
 use Rattle.book_base.specs.Book.{Page, IsValid}
 use Rattle.book_base.specs.BookAt.{greatest_count, book_at}
@@ -142,17 +143,17 @@ seen_cuts_fit s locals t = record {
 }
 
 pub no_run_has_this_error : NoRunHasThisError
-no_run_has_this_error init next s steps cut run p none linearizable =
-    none (no_false_error init next s steps cut run linearizable p)
+no_run_has_this_error spec s steps cut run p none linearizable =
+    none (no_false_error spec s steps cut run linearizable p)
 
 pub no_run_has_this_error_seen : NoRunHasThisErrorSeen
-no_run_has_this_error_seen init next calls call cut h none s steps run same linearizable =
+no_run_has_this_error_seen spec calls call cut h none s steps run same linearizable =
     let locals : List Local = (end_of s steps).locals in
     let t : AreTogether s locals = (end_of s steps, (steps, run, refl), refl) in
     let seen : HasSeenCut (map calls_in locals) call cut =
     subst (λ (cs : List (List Made)). HasSeenCut cs call cut) (sym same) h in
-    none (subst (λ (cs : List (List Made)). HasLegalOrder init next (book_at cut (book_of cs))) same
-    (no_false_error init next s steps cut run linearizable (published s locals t call cut seen)))
+    none (subst (λ (cs : List (List Made)). HasLegalOrder spec (book_at cut (book_of cs))) same
+    (no_false_error spec s steps cut run linearizable (published s locals t call cut seen)))
 
 -- The greatest counts of no cuts are all 0.
 zeros_are : (n i : ℕ) → slice_index (greatest_counts n []) i ≡ 0
@@ -167,10 +168,9 @@ none_stands : (k : ℕ) (call : Call) → StandsAt [] k call → ⊥
 none_stands k call at = none-some at.0 at.1
 
 -- at a cut of zeros no call is answered, so the empty order is legal
-empty_is_legal : (init : List ℕ) (next : List ℕ → ℕ → List ℕ × ℕ) (book : List Page) (n : ℕ)
-    → IsValid book
-    → IsLegalOrder init next (book_at (greatest_counts n []) book) []
-empty_is_legal init next book n valid =
+empty_is_legal : (spec : SeqSpec) (book : List Page) (n : ℕ) → IsValid book
+    → IsLegalOrder spec (book_at (greatest_counts n []) book) []
+empty_is_legal spec book n valid =
     let zeros : List ℕ = greatest_counts n [] in
     record {
       calls = λ k call at. absurd (none_stands k call at);
@@ -184,28 +184,27 @@ empty_is_legal init next book n valid =
       precedence = λ j k a b at bt p. absurd (none_stands j a at);
     }
 
-module _ (init : List ℕ) (next : List ℕ → ℕ → List ℕ × ℕ) (s : Shape) (locals : List Local)
-    (t : AreTogether s locals) where
-  wide : (cuts : List (List ℕ)) → AreDelivered init next locals cuts → AreCutsOf s.callers cuts
+module _ (spec : SeqSpec) (s : Shape) (locals : List Local) (t : AreTogether s locals) where
+  wide : (cuts : List (List ℕ)) → AreDelivered spec locals cuts → AreCutsOf s.callers cuts
   wide cuts all k cut e = let d = all k cut e in
       (published s locals t d.0 cut d.1).wide ∙ long s locals t
 
-  compared : (cuts : List (List ℕ)) → AreDelivered init next locals cuts → ArePairwiseComparable cuts
+  compared : (cuts : List (List ℕ)) → AreDelivered spec locals cuts → ArePairwiseComparable cuts
   compared cuts all j k a b x y = let d = all j a x in let e = all k b y in
       comparable s locals t d.0 e.0 a b d.1 e.1
 
   -- the greatest counts are one of the cuts, or all 0
   abbrev IsGood : List ℕ → Type 0
-  IsGood cut = IsPublished locals cut × HasLegalOrder init next (book_at cut (book_in locals))
+  IsGood cut = IsPublished locals cut × HasLegalOrder spec (book_at cut (book_in locals))
 
-  good : (cuts : List (List ℕ)) → AreDelivered init next locals cuts
+  good : (cuts : List (List ℕ)) → AreDelivered spec locals cuts
       → IsGood (greatest_counts s.callers cuts)
   good [] all = (
     record {
       wide = length-map-range_with_len (greatest_count []) 0 s.callers ∙ sym (long s locals t);
       within = λ i low. omega (arith, zeros_are s.callers i);
     },
-    ([], empty_is_legal init next (book_in locals) s.callers (books_are_valid s locals t)),
+    ([], empty_is_legal spec (book_in locals) s.callers (books_are_valid s locals t)),
   )
   good (first ∷ others) all =
       let found = greatest_is_one s.callers first others (wide (first ∷ others) all)
@@ -214,15 +213,15 @@ module _ (init : List ℕ) (next : List ℕ → ℕ → List ℕ × ℕ) (s : Sh
       (published s locals t d.0 (greatest_counts s.callers (first ∷ others)) d.1, d.2)
 
 pub delivered_calls_stand_in_one : DeliveredCallsStandInOne
-delivered_calls_stand_in_one init next s locals cuts t all =
+delivered_calls_stand_in_one spec s locals cuts t all =
     let top : List ℕ = greatest_counts s.callers cuts in
-    let contains = greatest_contains_each s.callers cuts (wide init next s locals t cuts all) in
+    let contains = greatest_contains_each s.callers cuts (wide spec s locals t cuts all) in
     record {
-      published = (good init next s locals t cuts all).0;
+      published = (good spec s locals t cuts all).0;
       contains = contains;
       holds =
           λ k cut call e h. omega (arith, own s locals t call cut h, contains k cut e call.caller);
       records = λ call h. record_of-part (book_in locals) top (book_at top (book_in locals))
           (is_the_book_at (book_in locals) top (books_are_valid s locals t)) call h;
-      one_order = (good init next s locals t cuts all).1;
+      one_order = (good spec s locals t cuts all).1;
     }

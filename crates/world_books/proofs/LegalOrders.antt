@@ -5,6 +5,7 @@ use Rattle.std.proofs.lemmas.Bool.{cases_lt}
 use Rattle.std.proofs.lemmas.Option.{same_Some, none-some, slice_get_within, slice_get_cases, slice_get-map, slice_get_read, get_or_from_slice_get}
 use Rattle.std.proofs.lemmas.Simd.{map-map}
 use Rattle.book_base.specs.declared.call.Call.{Call}
+use Rattle.book_base.specs.SeqSpec.{SeqSpec}
 use Rattle.book_base.specs.Book.{Page, IsCall, operation_of, Precedes}
 use Rattle.book_base.specs.Order.{call_at, StandsAt, step_at, IsLegalOrder}
 use Rattle.book_base.specs.Sequential.{IsLegalRun}
@@ -51,9 +52,8 @@ module _ (order : List Done) where
       → slice_get (map place_of order) k ≡ Some (place_of d)
   stands_at k d e = slice_get-map place_of order k ∙ ap (option_map place_of) e
 
-module _ (init : List ℕ) (next : List ℕ → ℕ → List ℕ × ℕ) (history : List Happening)
-    (book : List Page) (order : List Done)
-    (h : IsHistoryOf history book) (lin : IsLinearization init next history order) where
+module _ (spec : SeqSpec) (history : List Happening) (book : List Page) (order : List Done)
+    (h : IsHistoryOf history book) (lin : IsLinearization spec history order) where
   known : (k : ℕ) (d : Done) → slice_get order k ≡ Some d
       → operation_of book d.call ≡ Some d.operation
   known k d e = (h.invoked d.call d.operation).0
@@ -112,7 +112,7 @@ module _ (init : List ℕ) (next : List ℕ → ℕ → List ℕ × ℕ) (histor
   same_step k d e = let made : Option ℕ → ℕ × ℕ =
       λ o. (unwrap_or o 0, d.reply) in ap made (known k d e)
 
-  legal : IsLegalOrder init next book (map place_of order)
+  legal : IsLegalOrder spec book (map place_of order)
   legal =
       record {
         calls = is_call;
@@ -129,11 +129,11 @@ module _ (init : List ℕ) (next : List ℕ → ℕ → List ℕ × ℕ) (histor
               stands_at order found.1.0
                   (record { call = call; operation = found.0; reply = r.reply }) there,
             );
-        run = subst (IsLegalRun init next) (sym (map-map (step_at book) place_of order
+        run = subst (IsLegalRun spec) (sym (map-map (step_at book) place_of order
             ∙ map-same (λ d. step_at book (place_of d)) step_of order same_step)) lin.legal;
         precedence = precedence;
       }
 
 pub linearizations_are_legal_orders : LinearizationsAreLegalOrders
-linearizations_are_legal_orders init next history book order h lin =
-    legal init next history book order h lin
+linearizations_are_legal_orders spec history book order h lin =
+    legal spec history book order h lin

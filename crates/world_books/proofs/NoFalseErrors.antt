@@ -294,18 +294,18 @@ pub runs_have_their_histories : RunsHaveTheirHistories
 runs_have_their_histories s steps run = history_is s steps run
 
 pub linearizable_runs_have_legal_books : LinearizableRunsHaveLegalBooks
-linearizable_runs_have_legal_books init next s steps run (order, lin) = (
+linearizable_runs_have_legal_books spec s steps run (order, lin) = (
   map place_of order,
-  linearizations_are_legal_orders init next (history_of s steps)
+  linearizations_are_legal_orders spec (history_of s steps)
       (book_in (end_of s steps).locals) order (history_is s steps run) lin,
 )
 
 pub no_false_error : NoFalseError
-no_false_error init next s steps cut run linearizable published =
+no_false_error spec s steps cut run linearizable published =
     let locals : List Local = (end_of s steps).locals in
     let t = are s steps run in
     let good = books_are_valid s locals t in
-    smaller_has_one init next (book_in locals) cut (answered (book_in locals)) good
+    smaller_has_one spec (book_in locals) cut (answered (book_in locals)) good
     (published_cuts_are_within s locals cut t published)
-    ((has_one_where_the_book_has init next (book_in locals) good).1
-    (linearizable_runs_have_legal_books init next s steps run linearizable))
+    ((has_one_where_the_book_has spec (book_in locals) good).1
+    (linearizable_runs_have_legal_books spec s steps run linearizable))

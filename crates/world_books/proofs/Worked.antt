@@ -42,15 +42,15 @@ first_sees = record { operation = 5; answer = answer 50 (1 ∷ 1 ∷ []); made =
 pub second_sees : HasSeenCut (map calls_in (locals_after two_calls)) (call_of 1 0) (1 ∷ 1 ∷ [])
 second_sees = record { operation = 6; answer = answer 60 (1 ∷ 1 ∷ []); made = refl }
 
-pub delivered : AreDelivered [] tenfold (locals_after two_calls) ((1 ∷ 0 ∷ []) ∷ (1 ∷ 1 ∷ []) ∷ [])
+pub delivered : AreDelivered tenfold (locals_after two_calls) ((1 ∷ 0 ∷ []) ∷ (1 ∷ 1 ∷ []) ∷ [])
 delivered zero cut e =
     let same = same_Some (1 ∷ 0 ∷ []) cut e in (
       call_of 0 0,
       subst (λ (c : List ℕ). HasSeenCut (map calls_in (locals_after two_calls)) (call_of 0 0) c)
           same first_sees,
       subst (λ (c : List ℕ).
-          HasLegalOrder [] tenfold (book_at c (book_in (locals_after two_calls)))) same
-          (no_false_error [] tenfold pair two_calls (1 ∷ 0 ∷ []) refl linearizable first_published),
+          HasLegalOrder tenfold (book_at c (book_in (locals_after two_calls)))) same
+          (no_false_error tenfold pair two_calls (1 ∷ 0 ∷ []) refl linearizable first_published),
     )
 delivered (suc zero) cut e =
     let same = same_Some (1 ∷ 1 ∷ []) cut e in (
@@ -58,22 +58,22 @@ delivered (suc zero) cut e =
       subst (λ (c : List ℕ). HasSeenCut (map calls_in (locals_after two_calls)) (call_of 1 0) c)
           same second_sees,
       subst (λ (c : List ℕ).
-          HasLegalOrder [] tenfold (book_at c (book_in (locals_after two_calls)))) same
-          (no_false_error [] tenfold pair two_calls (1 ∷ 1 ∷ []) refl linearizable all_published),
+          HasLegalOrder tenfold (book_at c (book_in (locals_after two_calls)))) same
+          (no_false_error tenfold pair two_calls (1 ∷ 1 ∷ []) refl linearizable all_published),
     )
 delivered (suc (suc k)) cut e = absurd (none-some cut e)
 
 -- each reply of a run of the silent object is 0
 silent_replies : (book : List Page) (list : List ℕ) (places : List Place) (k : ℕ) (place : Place)
-    → IsRunFrom silent list (map (step_at book) places)
-    → slice_get places k ≡ Some place → place.reply ≡ 0
+    → IsRunFrom silent.next list (map (step_at book) places) → slice_get places k ≡ Some place
+    → place.reply ≡ 0
 silent_replies book list [] k place run e = absurd (none-some place e)
 silent_replies book list (first ∷ rest) zero place run e =
     ap (λ (p : Place). p.reply) (sym (same_Some first place e)) ∙ sym run.0
 silent_replies book list (first ∷ rest) (suc k) place run e =
     silent_replies book list rest k place run.1 e
 
-pub silent_error : HasLegalOrder [] silent one_answered → ⊥
+pub silent_error : HasLegalOrder silent one_answered → ⊥
 silent_error h =
     let found = h.1.answered (call_of 0 0) (answer 50 (1 ∷ 1 ∷ [])) refl in
     let wrong : 50 ≡ 0 = silent_replies one_answered [] h.0 found.0

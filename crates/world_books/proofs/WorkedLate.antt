@@ -60,7 +60,7 @@ nothing_before a b (suc (suc i), suc zero, reply, op, lt, r, v) = omega (arith, 
 nothing_before a b (suc (suc i), suc (suc zero), reply, op, lt, r, v) = omega (arith, lt)
 nothing_before a b (suc (suc i), suc (suc (suc j)), reply, op, lt, r, v) = cc
 
-pub late_linearizable : IsLinearizable [] numbering (late_history_of pair missed)
+pub late_linearizable : IsLinearizable numbering (late_history_of pair missed)
 late_linearizable = (
   order,
   record {
@@ -77,8 +77,8 @@ missed_published = published_two (locals_after missed) 0 1 refl (omega arith) (o
 
 -- the replies of a run of the numbering object are the numbers of its places
 numbered : (book : List Page) (list : List ℕ) (places : List Place) (k : ℕ) (place : Place)
-    → IsRunFrom numbering list (map (step_at book) places)
-    → slice_get places k ≡ Some place → place.reply ≡ length list + k
+    → IsRunFrom numbering.next list (map (step_at book) places) → slice_get places k ≡ Some place
+    → place.reply ≡ length list + k
 numbered book list [] k place run e = absurd (none-some place e)
 numbered book list (one ∷ rest) zero place run e =
     omega (arith, ap (λ (p : Place). p.reply) (same_Some one place e), run.0)
@@ -95,7 +95,7 @@ one_call : (call : Call) → (call.caller ≡ 1) × (call.number ≡ 0) → call
 one_call call (caller, number) =
     ap (λ (i : ℕ). call_of i call.number) caller ∙ ap (call_of 1) number
 
-pub missed_error : HasLegalOrder [] numbering missed_part → ⊥
+pub missed_error : HasLegalOrder numbering missed_part → ⊥
 missed_error (places, h) =
     let found = h.answered (call_of 1 0) (answer 1 (0 ∷ 1 ∷ [])) refl in
     let mine : Place = record { caller = 1; number = 0; reply = 1 } in
@@ -111,10 +111,10 @@ missed_error (places, h) =
     h.once 0 found.0 (call_of 1 0) (prefix, there, is) (mine, found.1, refl) in
     omega (arith, same, at)
 
-pub missed_unlawful : IsLinearizable [] numbering (history_of pair missed) → ⊥
+pub missed_unlawful : IsLinearizable numbering (history_of pair missed) → ⊥
 missed_unlawful h =
-    no_run_has_this_error [] numbering pair missed (0 ∷ 1 ∷ []) refl missed_published missed_error h
+    no_run_has_this_error numbering pair missed (0 ∷ 1 ∷ []) refl missed_published missed_error h
 
 pub returns_may_not_be_late : ReturnsMayBeLate → ⊥
 returns_may_not_be_late law =
-    missed_error (law [] numbering pair missed (0 ∷ 1 ∷ []) refl late_linearizable missed_published)
+    missed_error (law numbering pair missed (0 ∷ 1 ∷ []) refl late_linearizable missed_published)

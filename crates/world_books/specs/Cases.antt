@@ -1,6 +1,7 @@
 -- Worked runs of two callers, and their books.
 use Rattle.std.specs.Prelude.{ℕ, nat_lt, if◌then◌else◌, List, [], ◌∷◌, ◌++◌, length, slice_index}
 use Rattle.book_base.specs.declared.call.Record.{Record}
+use Rattle.book_base.specs.SeqSpec.{SeqSpec}
 use Rattle.book_base.specs.Book.{Page}
 use Rattle.book_base.specs.BookAt.{book_at}
 use Rattle.book_base.specs.Order.{HasLegalOrder}
@@ -73,10 +74,10 @@ late_history_of s steps = late_history_from s (start s) steps
 -- No error would be false even if each call returned only once it has its view.
 abbrev pub ReturnsMayBeLate : Type 0
 ReturnsMayBeLate =
-    (init : List ℕ) (next : List ℕ → ℕ → List ℕ × ℕ) (s : Shape) (steps : List Step) (cut : List ℕ)
+    (spec : SeqSpec) (s : Shape) (steps : List Step) (cut : List ℕ)
     → IsRun s steps
-    → IsLinearizable init next (late_history_of s steps) → IsPublished (end_of s steps).locals cut
-    → HasLegalOrder init next (book_at cut (book_in (end_of s steps).locals))
+    → IsLinearizable spec (late_history_of s steps) → IsPublished (end_of s steps).locals cut
+    → HasLegalOrder spec (book_at cut (book_in (end_of s steps).locals))
 
 -- Caller 1 announces 6, and its object replies 1. Right before the last look of its view caller 0
 -- announces 5, which the view misses.

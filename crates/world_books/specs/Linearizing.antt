@@ -4,6 +4,7 @@ use Rattle.std.specs.Prelude.{◌≡◌, ◌↔◌, ℕ, List, map, Some, Contai
 use Rattle.book_base.specs.declared.call.Call.{Call}
 use Rattle.book_base.specs.declared.call.Record.{Record}
 use Rattle.book_base.specs.declared.call.Place.{Place}
+use Rattle.book_base.specs.SeqSpec.{SeqSpec}
 use Rattle.book_base.specs.Book.{Page, IsCall, operation_of, record_of, Precedes}
 use Rattle.book_base.specs.BookAt.{book_at}
 use Rattle.book_base.specs.Order.{IsLegalOrder, HasLegalOrder}
@@ -40,23 +41,23 @@ place_of d = record { caller = d.call.caller; number = d.call.number; reply = d.
 -- each with its reply, and those unanswered ones that the linearization has.
 abbrev pub LinearizationsAreLegalOrders : Type 0
 LinearizationsAreLegalOrders =
-    (init : List ℕ) (next : List ℕ → ℕ → List ℕ × ℕ) (history : List Happening) (book : List Page)
+    (spec : SeqSpec) (history : List Happening) (book : List Page)
     (order : List Done)
-    → IsHistoryOf history book → IsLinearization init next history order
-    → IsLegalOrder init next book (map place_of order)
+    → IsHistoryOf history book → IsLinearization spec history order
+    → IsLegalOrder spec book (map place_of order)
 
 -- Where the object history of a run is linearizable, the book of its locals has a legal order.
 abbrev pub LinearizableRunsHaveLegalBooks : Type 0
 LinearizableRunsHaveLegalBooks =
-    (init : List ℕ) (next : List ℕ → ℕ → List ℕ × ℕ) (s : Shape) (steps : List Step) → IsRun s steps
-    → IsLinearizable init next (history_of s steps)
-    → HasLegalOrder init next (book_in (end_of s steps).locals)
+    (spec : SeqSpec) (s : Shape) (steps : List Step) → IsRun s steps
+    → IsLinearizable spec (history_of s steps)
+    → HasLegalOrder spec (book_in (end_of s steps).locals)
 
 -- Where the object history of a run is linearizable, the book at each cut of what was published has
 -- a legal order: no error is false.
 abbrev pub NoFalseError : Type 0
 NoFalseError =
-    (init : List ℕ) (next : List ℕ → ℕ → List ℕ × ℕ) (s : Shape) (steps : List Step) (cut : List ℕ)
+    (spec : SeqSpec) (s : Shape) (steps : List Step) (cut : List ℕ)
     → IsRun s steps
-    → IsLinearizable init next (history_of s steps) → IsPublished (end_of s steps).locals cut
-    → HasLegalOrder init next (book_at cut (book_in (end_of s steps).locals))
+    → IsLinearizable spec (history_of s steps) → IsPublished (end_of s steps).locals cut
+    → HasLegalOrder spec (book_at cut (book_in (end_of s steps).locals))

@@ -2,6 +2,7 @@
 use Rattle.std.specs.Prelude.{◌≡◌, ℕ, ◌+◌, List, [], map, Some, slice_get, slice_index, slice_index_or}
 use Rattle.book_base.specs.declared.call.Call.{Call}
 use Rattle.book_base.specs.declared.call.Record.{Record}
+use Rattle.book_base.specs.SeqSpec.{SeqSpec}
 use Rattle.book_base.specs.Cut.{Holds, IsWithin, AreComparable}
 use Rattle.book_base.specs.Book.{record_of}
 use Rattle.book_base.specs.BookAt.{book_at}
@@ -40,48 +41,47 @@ SeenCutsFit = (s : Shape) (locals : List Local) → AreTogether s locals → Are
 -- isn't linearizable.
 abbrev pub NoRunHasThisError : Type 0
 NoRunHasThisError =
-    (init : List ℕ) (next : List ℕ → ℕ → List ℕ × ℕ) (s : Shape) (steps : List Step) (cut : List ℕ)
+    (spec : SeqSpec) (s : Shape) (steps : List Step) (cut : List ℕ)
     → IsRun s steps
     → IsPublished (end_of s steps).locals cut
-    → ¬ HasLegalOrder init next (book_at cut (book_in (end_of s steps).locals))
-    → ¬ IsLinearizable init next (history_of s steps)
+    → ¬ HasLegalOrder spec (book_at cut (book_in (end_of s steps).locals))
+    → ¬ IsLinearizable spec (history_of s steps)
 
 -- Where the book of some calls has no legal order at a cut that one of them has seen, this is so of
 -- every run that ends with these calls, whatever its program and its cap.
 abbrev pub NoRunHasThisErrorSeen : Type 0
 NoRunHasThisErrorSeen =
-    (init : List ℕ) (next : List ℕ → ℕ → List ℕ × ℕ) (calls : List (List Made)) (call : Call)
+    (spec : SeqSpec) (calls : List (List Made)) (call : Call)
     (cut : List ℕ) → HasSeenCut calls call cut
-    → ¬ HasLegalOrder init next (book_at cut (book_of calls))
+    → ¬ HasLegalOrder spec (book_at cut (book_of calls))
     → (s : Shape) (steps : List Step) → IsRun s steps → map calls_in (end_of s steps).locals ≡ calls
-    → ¬ IsLinearizable init next (history_of s steps)
+    → ¬ IsLinearizable spec (history_of s steps)
 
 -- Each of these cuts was seen by one of the calls of these locals, and their book at it has a legal
 -- order.
-abbrev pub AreDelivered : (init : List ℕ) → (next : List ℕ → ℕ → List ℕ × ℕ) → List Local
-    → List (List ℕ) → Type 0
-AreDelivered init next locals cuts =
+abbrev pub AreDelivered : SeqSpec → List Local → List (List ℕ) → Type 0
+AreDelivered spec locals cuts =
     (k : ℕ) (cut : List ℕ) → slice_get cuts k ≡ Some cut
     → (call : Call) × HasSeenCut (map calls_in locals) call cut
-    × HasLegalOrder init next (book_at cut (book_in locals))
+    × HasLegalOrder spec (book_at cut (book_in locals))
 
 -- One cut has all delivered calls: it is one of what was published, contains each of their cuts,
 -- holds each of them, and the book at it has a legal order and the record of each.
-pub record HasAllDelivered (init : List ℕ) (next : List ℕ → ℕ → List ℕ × ℕ) (locals : List Local)
-    (cuts : List (List ℕ)) (all : List ℕ) : Type 0 where
+pub record HasAllDelivered (spec : SeqSpec) (locals : List Local) (cuts : List (List ℕ))
+    (all : List ℕ) : Type 0 where
   pub published : IsPublished locals all
   pub contains : (k : ℕ) (cut : List ℕ) → slice_get cuts k ≡ Some cut → IsWithin cut all
   pub holds : (k : ℕ) (cut : List ℕ) (call : Call) → slice_get cuts k ≡ Some cut
       → HasSeenCut (map calls_in locals) call cut → Holds all call
   pub records : (call : Call) → Holds all call
       → record_of (book_at all (book_in locals)) call ≡ record_of (book_in locals) call
-  pub one_order : HasLegalOrder init next (book_at all (book_in locals))
+  pub one_order : HasLegalOrder spec (book_at all (book_in locals))
 
 -- The greatest counts of the cuts of delivered calls are a cut that has all delivered calls. Where
 -- no call is delivered, all its counts are 0, and the order is empty.
 abbrev pub DeliveredCallsStandInOne : Type 0
 DeliveredCallsStandInOne =
-    (init : List ℕ) (next : List ℕ → ℕ → List ℕ × ℕ) (s : Shape) (locals : List Local)
+    (spec : SeqSpec) (s : Shape) (locals : List Local)
     (cuts : List (List ℕ)) → AreTogether s locals
-    → AreDelivered init next locals cuts
-    → HasAllDelivered init next locals cuts (greatest_counts s.callers cuts)
+    → AreDelivered spec locals cuts
+    → HasAllDelivered spec locals cuts (greatest_counts s.callers cuts)

@@ -33,15 +33,15 @@ pub fn a_run_is_judged()
     ensures second_sees { HasSeenCut (map calls_in (locals_after two_calls)) (call_of 1 0)
         (1 ∷ 1 ∷ []) }
     // The history of the run is linearizable for the object that gives ten times the operation.
-    ensures lawful { IsLinearizable [] tenfold (history_of pair two_calls) }
+    ensures lawful { IsLinearizable tenfold (history_of pair two_calls) }
     // Both cuts were seen, and the books there have legal orders for that object.
-    ensures delivered { AreDelivered [] tenfold (locals_after two_calls)
+    ensures delivered { AreDelivered tenfold (locals_after two_calls)
         ((1 ∷ 0 ∷ []) ∷ (1 ∷ 1 ∷ []) ∷ []) }
     // The history of the run isn't linearizable for the object that always gives 0.
-    ensures unlawful { ¬ IsLinearizable [] silent (history_of pair two_calls) }
+    ensures unlawful { ¬ IsLinearizable silent (history_of pair two_calls) }
     // The book at the cut of the first record has no legal order for the object that always gives
     // 0.
-    ensures error { ¬ HasLegalOrder [] silent
+    ensures error { ¬ HasLegalOrder silent
         (book_at (1 ∷ 0 ∷ []) (book_in (locals_after two_calls))) }
 {}
 
@@ -88,13 +88,13 @@ pub fn calls_return_at_the_first_look()
         ≡ Invoked (call_of 1 0) 6 ∷ Invoked (call_of 0 0) 5 ∷ Returned (call_of 1 0) 1 ∷ [] }
     // The history with late returns is linearizable for the object that counts the operations
     // before.
-    ensures late_lawful { IsLinearizable [] numbering (late_history_of pair missed) }
+    ensures late_lawful { IsLinearizable numbering (late_history_of pair missed) }
     // The cut of the record of caller 1 is one of what was published.
     ensures published { IsPublished (locals_after missed) (0 ∷ 1 ∷ []) }
     // The book at this cut has the call of caller 1 alone, with its record.
     ensures book { book_at (0 ∷ 1 ∷ []) (book_in (locals_after missed)) ≡ missed_part }
     // The book at this cut has no legal order for that object.
-    ensures error { ¬ HasLegalOrder [] numbering
+    ensures error { ¬ HasLegalOrder numbering
         (book_at (0 ∷ 1 ∷ []) (book_in (locals_after missed))) }
     // Calls don't return so late, since then an error would be false.
     ensures so { ¬ ReturnsMayBeLate }
@@ -102,5 +102,5 @@ pub fn calls_return_at_the_first_look()
     ensures history { history_of pair missed
         ≡ Invoked (call_of 1 0) 6 ∷ Returned (call_of 1 0) 1 ∷ Invoked (call_of 0 0) 5 ∷ [] }
     // The history isn't linearizable for that object.
-    ensures unlawful { ¬ IsLinearizable [] numbering (history_of pair missed) }
+    ensures unlawful { ¬ IsLinearizable numbering (history_of pair missed) }
 {}

@@ -23,14 +23,14 @@ at_place (x ∷ xs) (suc k) d below is = at_place xs k d (omega arith) is
 
 -- in a run of `numbering` each reply is the length of the list at its start plus the number of
 -- operations before
-pub numbered : (ds : List Done) (list : List ℕ) → IsRunFrom numbering list (map step_of ds)
+pub numbered : (ds : List Done) (list : List ℕ) → IsRunFrom numbering.next list (map step_of ds)
     → (k : ℕ) (d : Done) → k < length ds → (slice_index_or ds k d).reply ≡ length list + k
 numbered [] list run k d below = absurd (omega arith)
 numbered (x ∷ xs) list run zero d below = omega (arith, sym run.0)
 numbered (x ∷ xs) list run (suc k) d below =
     omega (arith, numbered xs (x.operation ∷ list) run.1 k d (omega arith))
 
-all_tenfold : (ds : List Done) (list : List ℕ) → IsRunFrom tenfold list (map step_of ds)
+all_tenfold : (ds : List Done) (list : List ℕ) → IsRunFrom tenfold.next list (map step_of ds)
     → (k : ℕ) (d : Done) → k < length ds
     → (slice_index_or ds k d).reply ≡ (slice_index_or ds k d).operation * 10
 all_tenfold [] list run k d below = absurd (omega arith)
@@ -38,7 +38,7 @@ all_tenfold (x ∷ xs) list run zero d below = sym run.0
 all_tenfold (x ∷ xs) list run (suc k) d below = all_tenfold xs list run.1 k d (omega arith)
 
 -- the first call returned before the second was invoked, so it comes first and can't return 1
-pub order_forbids : IsLinearizable [] numbering one_after_another → ⊥
+pub order_forbids : IsLinearizable numbering one_after_another → ⊥
 unfolding done
 order_forbids (ds, l) =
     let (x, (k, below, is)) = l.returned first 1 (1, omega arith, refl) in
@@ -65,7 +65,7 @@ invoked_with x (suc zero, below, is) = absurd cc
 invoked_with x (suc (suc k), below, is) = absurd (omega arith)
 
 -- a call with operation 5 can't return 60, which `tenfold` replies to the operation 6 alone
-pub operation_forbids : IsLinearizable [] tenfold reply_of_another → ⊥
+pub operation_forbids : IsLinearizable tenfold reply_of_another → ⊥
 unfolding done
 operation_forbids (ds, l) =
     let (x, (k, below, is)) = l.returned first 60 (1, omega arith, refl) in
@@ -119,7 +119,7 @@ two_once a b apart (suc i) (suc zero) d lt below = absurd (omega arith)
 two_once a b apart (suc i) (suc (suc j)) d lt below = absurd (omega arith)
 
 -- calls that overlap may be ordered with the second call first
-pub side_by_side_linearizable : IsLinearizable [] numbering side_by_side
+pub side_by_side_linearizable : IsLinearizable numbering side_by_side
 unfolding done
 side_by_side_linearizable = (
   done second 6 0 ∷ done first 5 1 ∷ [],
@@ -162,7 +162,7 @@ after_invoked (suc zero) d below = (1, omega arith, refl)
 after_invoked (suc (suc k)) d below = absurd (omega arith)
 
 -- a call that never returned may be in the order
-pub unanswered_stands : IsLinearizable [] numbering after_unanswered
+pub unanswered_stands : IsLinearizable numbering after_unanswered
 unfolding done
 unanswered_stands = (
   done first 5 0 ∷ done second 6 1 ∷ [],
@@ -206,7 +206,7 @@ without_invoked zero d below = (1, omega arith, refl)
 without_invoked (suc k) d below = absurd (omega arith)
 
 -- the order of the second call alone, without the call that never returned, is a linearization
-pub leaves_it_out : IsLinearization [] numbering without_unanswered second_alone
+pub leaves_it_out : IsLinearization numbering without_unanswered second_alone
 unfolding done
 leaves_it_out =
     record {
@@ -219,5 +219,5 @@ leaves_it_out =
     }
 
 -- a history is linearizable by an order without a call that never returned
-pub unanswered_left_out : IsLinearizable [] numbering without_unanswered
+pub unanswered_left_out : IsLinearizable numbering without_unanswered
 unanswered_left_out = (second_alone, leaves_it_out)

@@ -104,7 +104,7 @@ ordered (suc (suc p)) (suc zero) d e hd he before = absurd cc
 ordered p (suc (suc q)) d e hd he before = absurd cc
 
 -- the two calls in the order of their invocations are a linearization for `tenfold`
-pub linearizable : IsLinearizable [] tenfold (history_of pair two_calls)
+pub linearizable : IsLinearizable tenfold (history_of pair two_calls)
 unfolding history first second order
 linearizable = (
   order,
@@ -118,14 +118,14 @@ linearizable = (
 )
 
 -- every reply of the silent object is 0
-all_silent : (ds : List Done) (list : List ℕ) → IsRunFrom silent list (map step_of ds)
+all_silent : (ds : List Done) (list : List ℕ) → IsRunFrom silent.next list (map step_of ds)
     → (k : ℕ) (d : Done) → k < length ds → (slice_index_or ds k d).reply ≡ 0
 all_silent [] list run k d below = absurd (omega arith)
 all_silent (x ∷ xs) list run zero d below = sym run.0
 all_silent (x ∷ xs) list run (suc k) d below = all_silent xs list run.1 k d (omega arith)
 
 -- the first call returned 50, which `silent` replies to no operation
-pub not_linearizable : IsLinearizable [] silent (history_of pair two_calls) → ⊥
+pub not_linearizable : IsLinearizable silent (history_of pair two_calls) → ⊥
 not_linearizable (ds, l) =
     let (operation, (k, below, is)) = l.returned (call_of 0 0) 50 (1, omega arith, refl) in
     let wanted : Done = record { call = call_of 0 0; operation = operation; reply = 50 } in

@@ -81,7 +81,7 @@ turns_ordered (suc (suc p)) (suc zero) d e hd he before = absurd cc
 turns_ordered p (suc (suc q)) d e hd he before = absurd cc
 
 -- two calls in turn that return 0 and 1 are linearizable
-pub in_turn_linearizable : IsLinearizable [] numbering in_turn
+pub in_turn_linearizable : IsLinearizable numbering in_turn
 in_turn_linearizable = (
   turns,
   record {
@@ -94,7 +94,7 @@ in_turn_linearizable = (
 )
 
 -- the second call of the caller comes after its first, so the first can't return 1
-pub caller_forbids : IsLinearizable [] numbering out_of_turn → ⊥
+pub caller_forbids : IsLinearizable numbering out_of_turn → ⊥
 caller_forbids (ds, l) =
     let (x, (k, below, is)) = l.returned first 1 (1, omega arith, refl) in
     let (y, (m, under, are)) = l.returned again 0 (3, omega arith, refl) in
@@ -120,7 +120,7 @@ invoked_alone call x (suc zero, below, is) = absurd cc
 invoked_alone call x (suc (suc k), below, is) = absurd (omega arith)
 
 -- a call that alone is invoked can't return 1 from the empty list on
-pub one_forbids : IsLinearizable [] numbering returns_one → ⊥
+pub one_forbids : IsLinearizable numbering returns_one → ⊥
 one_forbids (ds, l) =
     let (x, (k, below, is)) = l.returned first 1 (1, omega arith, refl) in
     let d : Done = done first x 1 in
@@ -150,7 +150,7 @@ one_invoked zero d below = (0, omega arith, refl)
 one_invoked (suc k) d below = absurd (omega arith)
 
 -- a call that alone is invoked may return 1 where the first list has one operation
-pub list_allows : IsLinearizable (7 ∷ []) numbering returns_one
+pub list_allows : IsLinearizable (record numbering { init = 7 ∷ [] }) returns_one
 list_allows = (
   done first 5 1 ∷ [],
   record {
@@ -164,7 +164,7 @@ list_allows = (
 )
 
 -- a call that alone is invoked can't return 0 where the first list has one operation
-pub list_forbids : IsLinearizable (7 ∷ []) numbering returns_none → ⊥
+pub list_forbids : IsLinearizable (record numbering { init = 7 ∷ [] }) returns_none → ⊥
 list_forbids (ds, l) =
     let (x, (k, below, is)) = l.returned first 0 (1, omega arith, refl) in
     let d : Done = done first x 0 in
@@ -172,7 +172,7 @@ list_forbids (ds, l) =
     omega (arith, reply, numbered ds (7 ∷ []) l.legal k d below)
 
 -- a call that returned before it was invoked would have to come before itself
-pub before_forbids : IsLinearizable [] numbering returns_before → ⊥
+pub before_forbids : IsLinearizable numbering returns_before → ⊥
 before_forbids (ds, l) =
     let (x, (k, below, is)) = l.returned first 0 (0, omega arith, refl) in
     let d : Done = done first x 0 in

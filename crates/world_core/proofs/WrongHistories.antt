@@ -15,7 +15,7 @@ done call operation reply = record { call = call; operation = operation; reply =
 -- in a linearization for `numbering`, from the empty list on, each call that returned is at the
 -- place whose number is its reply
 module _ (history : List Happening) (ds : List Done)
-    (l : IsLinearization [] numbering history ds) where
+    (l : IsLinearization numbering history ds) where
   stands : (call : Call) (reply : ℕ) → Contains history (Returned call reply)
       → (x : ℕ) × (reply < length ds)
       × (slice_index_or ds reply (done call x reply) ≡ done call x reply)
@@ -32,7 +32,7 @@ module _ (history : List Happening) (ds : List Done)
       )
 
 -- two calls of a caller can't both return 0, since both would be at the first place of the order
-pub both_0_forbidden : IsLinearizable [] numbering both_return_0 → ⊥
+pub both_0_forbidden : IsLinearizable numbering both_return_0 → ⊥
 both_0_forbidden (ds, l) =
     let a = stands both_return_0 ds l first 0 (1, omega arith, refl) in
     let b = stands both_return_0 ds l again 0 (3, omega arith, refl) in
@@ -48,7 +48,7 @@ alone_invoked call x (suc zero, below, is) = absurd cc
 alone_invoked call x (suc (suc k), below, is) = absurd (omega arith)
 
 -- a call that alone is invoked can't return 1, since it would be at the second place of the order
-pub second_1_forbidden : IsLinearizable [] numbering second_returns_1 → ⊥
+pub second_1_forbidden : IsLinearizable numbering second_returns_1 → ⊥
 second_1_forbidden (ds, l) =
     let a = stands second_returns_1 ds l second 1 (1, omega arith, refl) in
     let d : Done = done second a.0 1 in
@@ -67,7 +67,7 @@ before_invoked call x (suc (suc (suc k)), below, is) = absurd (omega arith)
 
 -- the first call can't return 1, since only the second could be before it, which was invoked after
 -- that return
-pub unanswered_forbidden : IsLinearizable [] numbering before_unanswered → ⊥
+pub unanswered_forbidden : IsLinearizable numbering before_unanswered → ⊥
 unanswered_forbidden (ds, l) =
     let a = stands before_unanswered ds l first 1 (1, omega arith, refl) in
     let d : Done = done first a.0 1 in
@@ -85,7 +85,7 @@ unanswered_forbidden (ds, l) =
 
 -- the third call can't return 3 where the first returns 1, since the third returned before the
 -- first was invoked; the second overlaps both
-pub beside_forbidden : IsLinearizable [] numbering beside_all → ⊥
+pub beside_forbidden : IsLinearizable numbering beside_all → ⊥
 beside_forbidden (ds, l) =
     let a = stands beside_all ds l third 3 (3, omega arith, refl) in
     let b = stands beside_all ds l first 1 (6, omega arith, refl) in
@@ -104,7 +104,7 @@ three_invoked call x (suc (suc (suc (suc zero))), below, is) = absurd cc
 three_invoked call x (suc (suc (suc (suc (suc k)))), below, is) = absurd (omega arith)
 
 -- of three calls no call can return 3, since a fourth place of an order would have a call twice
-pub again_forbidden : IsLinearizable [] numbering returns_1_and_3 → ⊥
+pub again_forbidden : IsLinearizable numbering returns_1_and_3 → ⊥
 again_forbidden (ds, l) =
     let a = stands returns_1_and_3 ds l second 1 (2, omega arith, refl) in
     let b = stands returns_1_and_3 ds l third 3 (4, omega arith, refl) in

@@ -1,12 +1,13 @@
 -- Worked histories of two callers that make one call of an object each.
-use Rattle.std.specs.Prelude.{ℕ, List, [], ◌∷◌, length}
+use Rattle.std.specs.Prelude.{List, [], ◌∷◌, length}
 use Rattle.book_base.specs.declared.call.Call.{Call}
+use Rattle.book_base.specs.SeqSpec.{SeqSpec}
 use Rattle.world_core.specs.History.{Happening, Invoked, Returned, Done, call_of}
 
 -- An object that adds each operation to its list, and whose reply is the length of its list before:
 -- from the empty list on, the number of operations before.
-abbrev pub numbering : List ℕ → ℕ → List ℕ × ℕ
-numbering list operation = (operation ∷ list, length list)
+abbrev pub numbering : SeqSpec
+numbering = record { init = []; next = λ list operation. (operation ∷ list, length list) }
 
 -- The first call of caller 0.
 abbrev pub first : Call

@@ -2,6 +2,7 @@
 -- and Wing 1990).
 use Rattle.std.specs.Prelude.{◌≡◌, ◌≢◌, ℕ, ◌<◌, List, [], ◌∷◌, ◌++◌, length, map, Some, slice_get, All, AllPairs, Contains}
 use Rattle.book_base.specs.declared.call.Call.{Call}
+use Rattle.book_base.specs.SeqSpec.{SeqSpec}
 use Rattle.book_base.specs.Sequential.{IsLegalRun}
 use Rattle.world_core.specs.Shape.{Shape}
 use Rattle.world_core.specs.Local.{Local}
@@ -55,8 +56,8 @@ ReturnsBefore history a b =
 
 -- An order is a linearization of a history for the sequential object with this first list and this
 -- transition function.
-pub record IsLinearization (init : List ℕ) (next : List ℕ → ℕ → List ℕ × ℕ)
-    (history : List Happening) (order : List Done) : Type 0 where
+pub record IsLinearization (spec : SeqSpec) (history : List Happening)
+    (order : List Done) : Type 0 where
   -- each call of the order was invoked with the operation that it has there
   pub invoked : All (λ (d : Done). Contains history (Invoked d.call d.operation)) order
   -- no call is in the order twice
@@ -66,12 +67,12 @@ pub record IsLinearization (init : List ℕ) (next : List ℕ → ℕ → List �
       → (operation : ℕ)
       × Contains order (record { call = call; operation = operation; reply = reply })
   -- the replies in the order are those that the sequential object gives, from its first list on
-  pub legal : IsLegalRun init next (map step_of order)
+  pub legal : IsLegalRun spec (map step_of order)
   -- an entry of the order whose call returned before another entry's call was invoked comes before
   -- that entry
   pub ordered : (p q : ℕ) (d e : Done) → slice_get order p ≡ Some d → slice_get order q ≡ Some e
       → ReturnsBefore history d.call e.call → p < q
 
 -- A history is linearizable for a sequential object where some order is a linearization of it.
-abbrev pub IsLinearizable : List ℕ → (List ℕ → ℕ → List ℕ × ℕ) → List Happening → Type 0
-IsLinearizable init next history = (order : List Done) × IsLinearization init next history order
+abbrev pub IsLinearizable : SeqSpec → List Happening → Type 0
+IsLinearizable spec history = (order : List Done) × IsLinearization spec history order

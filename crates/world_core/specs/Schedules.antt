@@ -1,6 +1,7 @@
 -- Worked schedules: runs of one, two and three callers, written out.
 use Rattle.std.specs.Prelude.{ℕ, suc, ◌*◌, Bool, not, List, [], ◌∷◌, ◌++◌, map, take, drop}
 use Rattle.std.specs.List.{list_all}
+use Rattle.book_base.specs.SeqSpec.{SeqSpec}
 use Rattle.world_core.specs.declared.region.Region.{Region}
 use Rattle.world_core.specs.declared.region.Region.TheVariants.{N, M}
 use Rattle.world_core.specs.Shape.{Shape}
@@ -331,9 +332,9 @@ object_steps_made =
     ∷ []
 
 -- An object whose reply is ten times the operation, and whose list never changes.
-abbrev pub tenfold : List ℕ → ℕ → List ℕ × ℕ
-tenfold list operation = (list, operation * 10)
+abbrev pub tenfold : SeqSpec
+tenfold = record { init = []; next = λ list operation. (list, operation * 10) }
 
 -- An object whose reply is always 0, and whose list never changes.
-abbrev pub silent : List ℕ → ℕ → List ℕ × ℕ
-silent list operation = (list, 0)
+abbrev pub silent : SeqSpec
+silent = record { init = []; next = λ list operation. (list, 0) }

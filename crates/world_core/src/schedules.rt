@@ -522,9 +522,9 @@ pub fn object_steps_are_conditional()
 pub fn two_calls_are_linearizable()
     // The history of the two whole calls is linearizable for the object whose reply is ten times
     // the operation.
-    ensures lawful { IsLinearizable [] tenfold (history_of pair two_calls) }
+    ensures lawful { IsLinearizable tenfold (history_of pair two_calls) }
     // The history of the two whole calls isn't linearizable for the object whose reply is always 0.
-    ensures unlawful { ¬ IsLinearizable [] silent (history_of pair two_calls) }
+    ensures unlawful { ¬ IsLinearizable silent (history_of pair two_calls) }
 {}
 
 /// Which histories are linearizable. A call that returned before another was invoked comes before
@@ -534,16 +534,16 @@ pub fn two_calls_are_linearizable()
 pub fn histories_are_linearizable()
     // A history of two calls, one after another, isn't linearizable where the replies fit only an
     // order with the second call first.
-    ensures by_order { ¬ IsLinearizable [] numbering one_after_another }
+    ensures by_order { ¬ IsLinearizable numbering one_after_another }
     // A history of two calls that overlap is linearizable where the replies fit only an order with
     // the second call first.
-    ensures overlapping { IsLinearizable [] numbering side_by_side }
+    ensures overlapping { IsLinearizable numbering side_by_side }
     // A history of one call that returns the reply to another operation isn't linearizable.
-    ensures by_operation { ¬ IsLinearizable [] tenfold reply_of_another }
+    ensures by_operation { ¬ IsLinearizable tenfold reply_of_another }
     // A history is linearizable where the replies fit only an order with a call that never
     // returned.
-    ensures unanswered_stands { IsLinearizable [] numbering after_unanswered }
+    ensures unanswered_stands { IsLinearizable numbering after_unanswered }
     // A history is linearizable where the replies fit only an order without a call that never
     // returned.
-    ensures unanswered_left_out { IsLinearizable [] numbering without_unanswered }
+    ensures unanswered_left_out { IsLinearizable numbering without_unanswered }
 {}

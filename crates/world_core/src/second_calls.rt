@@ -207,16 +207,16 @@ pub fn peeks_are_kept()
 pub fn histories_of_one_caller_are_linearizable()
     // A history of two calls of one caller that return 0 and 1, one after the other, is
     // linearizable.
-    ensures in_turn { IsLinearizable [] numbering in_turn }
+    ensures in_turn { IsLinearizable numbering in_turn }
     // A history of two calls of one caller that return 1 and 0, one after the other, isn't
     // linearizable.
-    ensures by_caller { ¬ IsLinearizable [] numbering out_of_turn }
+    ensures by_caller { ¬ IsLinearizable numbering out_of_turn }
     // A history of one call, which returns 1, isn't linearizable from the empty list.
-    ensures once { ¬ IsLinearizable [] numbering returns_one }
+    ensures once { ¬ IsLinearizable numbering returns_one }
     // A history of one call, which returns 1, is linearizable from a list of one operation.
-    ensures from_a_list { IsLinearizable (7 ∷ []) numbering returns_one }
+    ensures from_a_list { IsLinearizable (record numbering { init = 7 ∷ [] }) returns_one }
     // A history of one call, which returns 0, isn't linearizable from a list of one operation.
-    ensures from_that_list { ¬ IsLinearizable (7 ∷ []) numbering returns_none }
+    ensures from_that_list { ¬ IsLinearizable (record numbering { init = 7 ∷ [] }) returns_none }
     // A history in which a call returns before it is invoked isn't linearizable.
-    ensures before_itself { ¬ IsLinearizable [] numbering returns_before }
+    ensures before_itself { ¬ IsLinearizable numbering returns_before }
 {}

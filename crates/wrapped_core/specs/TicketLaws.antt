@@ -2,6 +2,7 @@
 use Rattle.std.proofs.Common.{◌≡◌, ℕ, ◌+◌, ◌%◌, ◌^◌, ◌≤◌, true, false, ◌==◌, List, [], ◌∷◌, length, refl, ap, arith, inl, inr}
 use Rattle.std.proofs.lemmas.Bool.{cases_Bool, cond-true, cond-false}
 use Rattle.book_base.specs.declared.TheConstants.{BAD}
+use Rattle.book_base.specs.SeqSpec.{spec_from}
 use Rattle.seq_objects.specs.Items.{first_or_zero}
 use Rattle.world_core.specs.World.{Step, IsRun}
 use Rattle.world_core.specs.History.{IsLinearizable, history_of}
@@ -33,7 +34,7 @@ length-after_call first list op =
           omega (arith, same)
     ]
 
-serves : (first : ℕ) → Serves (dispenser first) taken_by (0 ∷ []) (after_call first)
+serves : (first : ℕ) → Serves (dispenser first) taken_by (spec_from (0 ∷ []) (after_call first))
 serves first =
     record {
       first = refl;
@@ -45,8 +46,8 @@ serves first =
 -- word.
 pub dispensers_linearize : (first n cap : ℕ) (steps : List Step)
     → IsRun (one_word_shape n cap (dispenser first)) steps
-    → IsLinearizable (0 ∷ []) (after_call first)
+    → IsLinearizable (spec_from (0 ∷ []) (after_call first))
     (history_of (one_word_shape n cap (dispenser first)) steps)
 dispensers_linearize first n cap steps run =
-    one_words_linearize (dispenser first) taken_by (0 ∷ []) (after_call first)
+    one_words_linearize (dispenser first) taken_by (spec_from (0 ∷ []) (after_call first))
     (serves first) n cap steps run

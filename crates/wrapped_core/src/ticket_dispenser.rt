@@ -43,9 +43,7 @@ impl SeqObject for TicketDispenser {
 
     ghost is_known = { λ _ op. op == take };
 
-    ghost init = { λ _. 0 ∷ [] };
-
-    ghost next = { λ dispenser list op. after_call dispenser.first list op };
+    ghost spec = { λ dispenser. record { init = 0 ∷ []; next = after_call dispenser.first } };
 
     ghost begins_small = { λ _. length-one };
 

@@ -1,4 +1,4 @@
-use Rattle.seq_objects.specs.Objects.{kind_init, kind_next}
+use Rattle.seq_objects.specs.Objects.{kind_spec}
 use Rattle.row_table.specs.Callers.{local_with}
 use Rattle.row_gather.proofs.Kept.{gathered_by_stays}
 use Rattle.drv_wrapper.specs.States.{announced_local}
@@ -18,8 +18,8 @@ judge_after-requires-clause-gathered g c =
 pub returns-clause-judged : goal.returns-clause-judged
 returns-clause-judged g c =
     judged_as every_reply c.args.rows.now c.args.announced c.args.reply c.publish_reply-seen.result
-    c.publish_reply-seen.ensures.published (kind_init c.args.kind)
-    (kind_next c.args.kind) c.publish_reply-seen.new.steps c.judge_after.new.steps
+    c.publish_reply-seen.ensures.published (kind_spec c.args.kind) c.publish_reply-seen.new.steps
+    c.judge_after.new.steps
     c.judge_after.new.standing c.judge_after.result
     c.judge_after.ensures.caller c.judge_after.ensures.peeks c.judge_after.ensures.record
     c.judge_after.ensures.cut c.judge_after.ensures.own c.judge_after.ensures.stance

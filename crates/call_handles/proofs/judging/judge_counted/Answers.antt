@@ -1,6 +1,6 @@
 use Rattle.std.proofs.Common.{refl, subst}
 use Rattle.std.specs.Arc.{arc_value}
-use Rattle.seq_objects.specs.Objects.{kind_init, kind_next}
+use Rattle.seq_objects.specs.Objects.{kind_spec}
 use Rattle.row_table.specs.declared.rows.Rows.{Rows}
 use Rattle.enforcer.specs.declared.judged.Judged.{Judged}
 use Rattle.enforcer.specs.After.{IsOutcome}
@@ -15,10 +15,10 @@ returns-in-Delivered-clause-ended g c =
     let kind = c.args.kept.now.kind in
     let d = c.in-Delivered in
     let standing = c.finish-ended.new.standing in
-    let holds = IsJudgedAs every_reply (arc_value c.args.kept.now.rows) (kind_init kind)
-    (kind_next kind) c.args.call c.args.reply c.in-Ok.caller in
+    let holds = IsJudgedAs every_reply (arc_value c.args.kept.now.rows)
+    (kind_spec kind) c.args.call c.args.reply c.in-Ok.caller in
     let judged = subst (λ (r : Rows _). IsOutcome c.in-Ok.judged standing (IsJudgedAs every_reply r
-    (kind_init kind) (kind_next kind) c.args.call c.args.reply c.in-Ok.caller)) c.deref.ensures
+    (kind_spec kind) c.args.call c.args.reply c.in-Ok.caller)) c.deref.ensures
     c.in-Ok.ensures.judged in
     let found = delivered_with holds standing d.reply d.view d.seen
     (subst (λ (j : Judged). IsOutcome j standing holds) d.is judged) in
@@ -29,7 +29,7 @@ returns-in-Ok-clause-ended g c =
     let kind = c.args.kept.now.kind in
     let standing = c.finish-ended.new.standing in
     let judged = subst (λ (r : Rows _). IsOutcome c.in-Ok.judged standing (IsJudgedAs every_reply r
-    (kind_init kind) (kind_next kind) c.args.call c.args.reply c.in-Ok.caller)) c.deref.ensures
+    (kind_spec kind) c.args.call c.args.reply c.in-Ok.caller)) c.deref.ensures
     c.in-Ok.ensures.judged in (
       record {
         caller = c.in-Ok.caller;
@@ -40,8 +40,8 @@ returns-in-Ok-clause-ended g c =
       },
       refl,
       subst (λ (j : Judged). IsOutcome j standing
-          (IsJudgedAs every_reply (arc_value c.args.kept.now.rows) (kind_init kind)
-          (kind_next kind) c.args.call c.args.reply c.in-Ok.caller)) c.in-Illegal.is judged,
+          (IsJudgedAs every_reply (arc_value c.args.kept.now.rows)
+          (kind_spec kind) c.args.call c.args.reply c.in-Ok.caller)) c.in-Illegal.is judged,
     )
 
 pub returns-clause-ended : goal.returns-clause-ended

@@ -1,6 +1,6 @@
 use Rattle.std.proofs.Common.{subst}
 use Rattle.book_base.specs.Order.{HasLegalOrder}
-use Rattle.seq_objects.specs.Objects.{kind_init, kind_next}
+use Rattle.seq_objects.specs.Objects.{kind_spec}
 use Rattle.row_table.specs.declared.rows.Rows.{Rows}
 use Rattle.monitor.specs.declared.round.Round.{Round}
 use Rattle.monitor.specs.declared.round.Round.TheVariants.{Legal, Illegal}
@@ -15,7 +15,7 @@ returns-in-Ok-Legal-clause-sound g c =
     let m = c.round_after.new.self in
     let made : Round = Legal c.in-Ok-Legal.field-0-0 in
     let found =
-    subst (λ (r : Round). HasFound (kind_init h.kind) (kind_next h.kind) c.deref.result.now.callers
+    subst (λ (r : Round). HasFound (kind_spec h.kind) c.deref.result.now.callers
     (local_of h.monitor) (local_of m) (own_of m) r)
     c.in-Ok-Legal.field-0-is c.in-Ok-Legal.ensures.found in
     record {
@@ -23,7 +23,7 @@ returns-in-Ok-Legal-clause-sound g c =
           c.round_after.ensures.later.monitor;
       on = c.round_after.ensures.later.on;
       stands = c.round_after.ensures.stands;
-      none = none_after (kind_init h.kind) (kind_next h.kind) c.deref.result.now.callers
+      none = none_after (kind_spec h.kind) c.deref.result.now.callers
           (local_of h.monitor) (local_of m) (own_of m) made found;
     }
 
@@ -33,7 +33,7 @@ returns-in-Ok-Legal-clause-judged g c =
     let m = c.round_after.new.self in
     let made : Round = Legal c.in-Ok-Legal.field-0-0 in
     let found =
-    subst (λ (r : Round). HasFound (kind_init h.kind) (kind_next h.kind) c.deref.result.now.callers
+    subst (λ (r : Round). HasFound (kind_spec h.kind) c.deref.result.now.callers
     (local_of h.monitor) (local_of m) (own_of m) r)
     c.in-Ok-Legal.field-0-is c.in-Ok-Legal.ensures.found in (
       c.in-Ok-Legal.field-0-0,
@@ -47,7 +47,7 @@ returns-in-Ok-Illegal-clause-sound g c =
     let m = c.round_after.new.self in
     let made : Round = Illegal c.in-Ok-Illegal.field-0-0 in
     let found =
-    subst (λ (r : Round). HasFound (kind_init h.kind) (kind_next h.kind) c.deref.result.now.callers
+    subst (λ (r : Round). HasFound (kind_spec h.kind) c.deref.result.now.callers
     (local_of h.monitor) (local_of m) (own_of m) r)
     c.in-Ok-Illegal.field-0-is c.in-Ok-Illegal.ensures.found in
     record {
@@ -55,7 +55,7 @@ returns-in-Ok-Illegal-clause-sound g c =
           c.round_after.ensures.later.monitor;
       on = c.round_after.ensures.later.on;
       stands = c.round_after.ensures.stands;
-      none = none_after (kind_init h.kind) (kind_next h.kind) c.deref.result.now.callers
+      none = none_after (kind_spec h.kind) c.deref.result.now.callers
           (local_of h.monitor) (local_of m) (own_of m) made found;
     }
 
@@ -65,7 +65,7 @@ returns-in-Ok-Illegal-clause-judged g c =
     let m = c.round_after.new.self in
     let made : Round = Illegal c.in-Ok-Illegal.field-0-0 in
     let found =
-    subst (λ (r : Round). HasFound (kind_init h.kind) (kind_next h.kind) c.deref.result.now.callers
+    subst (λ (r : Round). HasFound (kind_spec h.kind) c.deref.result.now.callers
     (local_of h.monitor) (local_of m) (own_of m) r)
     c.in-Ok-Illegal.field-0-is c.in-Ok-Illegal.ensures.found in (
       c.in-Ok-Illegal.field-0-0,
@@ -82,6 +82,6 @@ returns-clause-sound g c =
           c.round_after.ensures.later.monitor;
       on = c.round_after.ensures.later.on;
       stands = c.round_after.ensures.stands;
-      none = has_none (λ w. ¬ HasLegalOrder (kind_init h.kind) (kind_next h.kind) w.book)
+      none = has_none (λ w. ¬ HasLegalOrder (kind_spec h.kind) w.book)
           (own_of m) c.in-Err.ensures.err;
     }

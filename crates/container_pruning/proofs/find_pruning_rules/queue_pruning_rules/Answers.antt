@@ -11,16 +11,16 @@ hold-requires-clause-links g c = links_name_calls (g.R.Reader.reading c.args.rea
     c.args.book.now Queue c.in_ok-links.links c.in_ok-links.ensures.links
 
 pub returns : goal.returns
-returns g c init next queue none =
+returns g c spec queue none =
     let reading = g.R.Reader.reading c.args.reader.now in
     let book = c.args.book.now in
     let links = c.in_ok-links.links in
     let are = c.in_ok-links.ensures.links in
-    let container = queue_is_container reading next queue in
+    let container = queue_is_container reading spec.next queue in
     let ranks = ap (λ (k : Known). k.ranks) c.in_ok-known.ensures.blank in
-    c.hold.ensures.right init next (c.in_ok-known.ensures.right init next)
-    (λ refused. are.refused refused init next container none)
-    (followed_without_ranks reading init next book Queue links c.in_ok-known.known.ranks are
+    c.hold.ensures.right spec (c.in_ok-known.ensures.right spec)
+    (λ refused. are.refused refused spec container none)
+    (followed_without_ranks reading spec book Queue links c.in_ok-known.known.ranks are
     container (λ _. queue) none ranks)
-    (kept_without_ranks reading init next book Queue links c.in_ok-uses.uses
+    (kept_without_ranks reading spec book Queue links c.in_ok-uses.uses
     c.in_ok-known.known.ranks are c.in_ok-uses.ensures container (λ _. queue) none ranks)

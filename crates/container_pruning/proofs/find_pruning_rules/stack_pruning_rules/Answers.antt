@@ -12,8 +12,12 @@ pub hold-requires-clause-links : goal.hold-requires-clause-links
 hold-requires-clause-links g c = links_name_calls (g.R.Reader.reading c.args.reader.now)
     c.args.book.now Stack c.in_ok-links.links c.in_ok-links.ensures.links
 
+pub nest-requires-clause-links : goal.nest-requires-clause-links
+nest-requires-clause-links g c = links_name_calls (g.R.Reader.reading c.args.reader.now)
+    c.args.book.now Stack c.in_ok-links.links c.in_ok-links.ensures.links
+
 pub returns : goal.returns
-returns g c init next stack holds none =
+returns g c spec stack holds none =
     let reading = g.R.Reader.reading c.args.reader.now in
     let book = c.args.book.now in
     let links = c.in_ok-links.links in
@@ -26,12 +30,12 @@ returns g c init next stack holds none =
     let ranks : AreRanks reading book known.ranks =
     subst (λ (rs : List (ℕ × ℕ)). AreRanks reading book rs)
     (sym c.in_ok-nest.ensures.ranks) c.in_ok-rank_takes.ensures.ranks in
-    let right = c.in_ok-nest.ensures.right init next
-    (blank_is_found init next book c.rank_takes.new.known call_bounds)
-    (nested_by_stack reading init next book links uses are c.in_ok-uses.ensures stack none) in
-    c.hold.ensures.right init next right
-    (λ refused. are.refused refused init next (stack_is_container reading next stack) none)
-    (followed_by_stack reading init next book links known.ranks c.rank_takes.ensures.valid are ranks
+    let right = c.in_ok-nest.ensures.right spec
+    (blank_is_found spec book c.rank_takes.new.known call_bounds)
+    (nested_by_stack reading spec book links uses are c.in_ok-uses.ensures stack none) in
+    c.hold.ensures.right spec right
+    (λ refused. are.refused refused spec (stack_is_container reading spec.next stack) none)
+    (followed_by_stack reading spec book links known.ranks c.rank_takes.ensures.valid are ranks
     stack holds none)
-    (kept_by_stack reading init next book links uses known.ranks c.rank_takes.ensures.valid are
+    (kept_by_stack reading spec book links uses known.ranks c.rank_takes.ensures.valid are
     c.in_ok-uses.ensures ranks stack holds none)

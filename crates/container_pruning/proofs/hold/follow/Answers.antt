@@ -8,9 +8,9 @@ loop-caller-preserved c =
     record {
       call_bounds = c.follow_caller.ensures.call_bounds;
       ranks = c.follow_caller.ensures.ranks ∙ i.ranks;
-      right = λ init next right are.
-          c.follow_caller.ensures.right init next (i.right init next right are)
+      right = λ spec right are.
+          c.follow_caller.ensures.right spec (i.right spec right are)
           (subst
-          (λ (ranks : List (ℕ × ℕ)). AreFollowed init next c.args.book.now c.args.links.now ranks)
+          (λ (ranks : List (ℕ × ℕ)). AreFollowed spec c.args.book.now c.args.links.now ranks)
           (sym i.ranks) are);
     }

@@ -18,7 +18,7 @@ loop-number-init c = record {
       c.none-past.ensures.limit;
   call_bounds = c.requires.call_bounds;
   ranks = refl;
-  right = λ init next right are. right;
+  right = λ spec right are. right;
 }
 
 pub pass_preceding-requires-clause-call : goal.pass_preceding-requires-clause-call
@@ -52,8 +52,8 @@ loop-number-preserved c =
             call_bounds =
                 λ d h. rw w.known-is (w.hold_after.ensures.call_bounds d (i.call_bounds d h));
             ranks = rw w.known-is (w.hold_after.ensures.ranks ∙ i.ranks);
-            right = λ init next right are. rw w.known-is
-                (w.hold_after.ensures.right init next book (i.right init next right are)
+            right = λ spec right are. rw w.known-is
+                (w.hold_after.ensures.right spec book (i.right spec right are)
                 (λ j some. let from = now.predecessor_bound j some in
                 are.order from.0 call (last_held past.predecessor_bound j) put from.1 from.2 after)
                 (λ cut list early. elim now.limit [
@@ -67,6 +67,6 @@ loop-number-preserved c =
         past = later;
         call_bounds = λ d h. rw w.known-is (i.call_bounds d h);
         ranks = rw w.known-is i.ranks;
-        right = λ init next right are. rw w.known-is (i.right init next right are);
+        right = λ spec right are. rw w.known-is (i.right spec right are);
       }
     ]

@@ -13,26 +13,26 @@ loop-caller-preserved c =
             call_bounds =
                 λ d h. rw w.known-is (w.hold_back.ensures.call_bounds d (i.call_bounds d h));
             ranks = rw w.known-is (ap (λ (k : Known). k.ranks) w.hold_back.ensures.held ∙ i.ranks);
-            right = λ init next book right first. rw w.known-is
-                (w.hold_back.ensures.right init next book (i.right init next book right first)
-                (subst (λ (n : ℕ). MustComeFirst init next book
+            right = λ spec book right first. rw w.known-is
+                (w.hold_back.ensures.right spec book (i.right spec book right first)
+                (subst (λ (n : ℕ). MustComeFirst spec book
                 (record { caller = caller; number = n - 1 }) c.args.put) (sym c.get-count.ensures)
                 (first caller (omega (arith, c.get-count.ensures)))));
           }
       | else-count-gt0 w ↦ record {
         call_bounds = λ d h. rw w.known-is (i.call_bounds d h);
         ranks = rw w.known-is i.ranks;
-        right = λ init next book right first. rw w.known-is (i.right init next book right first);
+        right = λ spec book right first. rw w.known-is (i.right spec book right first);
       }
     ]
 
 pub returns-then-past-gt0-clause-right : goal.returns-then-past-gt0-clause-right
-returns-then-past-gt0-clause-right c init next book right first early =
+returns-then-past-gt0-clause-right c spec book right first early =
     let i = c.loop-caller.invariant in
-    c.hold_back_below.ensures.right init next book (i.right init next book right first)
+    c.hold_back_below.ensures.right spec book (i.right spec book right first)
     (λ cut list word. early cut list
     (subst (λ (ranks : List (ℕ × ℕ)). HasEarly ranks list c.args.past.now.limit) i.ranks word))
 
 pub returns-else-past-gt0-clause-right : goal.returns-else-past-gt0-clause-right
-returns-else-past-gt0-clause-right c init next book right first early =
-    c.loop-caller.invariant.right init next book right first
+returns-else-past-gt0-clause-right c spec book right first early =
+    c.loop-caller.invariant.right spec book right first

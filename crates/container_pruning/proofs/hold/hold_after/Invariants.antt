@@ -1,5 +1,6 @@
 use Rattle.std.proofs.Common.{◌≡◌, ℕ, ◌<◌, List, get_or}
 use Rattle.book_base.specs.declared.call.Call.{Call}
+use Rattle.book_base.specs.SeqSpec.{SeqSpec}
 use Rattle.book_base.specs.Book.{Page}
 use Rattle.book_base.specs.PruningRules.{HasCallBound, ArePruningRules, MustComeFirst}
 use Rattle.container_pruning.specs.Pasts.{last_held}
@@ -9,9 +10,8 @@ abbrev pub invariant-loop-caller : goal.invariant-loop-caller
 invariant-loop-caller l = record {
   call_bounds : (c : Call) → HasCallBound l.fn.known c → HasCallBound l.known c;
   ranks : l.known.ranks ≡ l.fn.known.ranks;
-  right : (init : List ℕ) (next : List ℕ → ℕ → List ℕ × ℕ) (book : List Page)
-      → ArePruningRules init next book l.fn.known
+  right : (spec : SeqSpec) (book : List Page) → ArePruningRules spec book l.fn.known
       → ((i : ℕ) → 0 < get_or l.past.predecessor_bound i 0
-      → MustComeFirst init next book (last_held l.past.predecessor_bound i) l.put)
-      → ArePruningRules init next book l.known;
+      → MustComeFirst spec book (last_held l.past.predecessor_bound i) l.put)
+      → ArePruningRules spec book l.known;
 }

@@ -9,7 +9,7 @@ loop-caller-preserved c =
       call_bounds = c.keep_caller.ensures.call_bounds;
       ranks = c.keep_caller.ensures.ranks ∙ i.ranks;
       right =
-          λ init next right are. c.keep_caller.ensures.right init next (i.right init next right are)
-          (subst (λ (ranks : List (ℕ × ℕ)). AreKept init next c.args.book.now c.args.links.now
+          λ spec right are. c.keep_caller.ensures.right spec (i.right spec right are)
+          (subst (λ (ranks : List (ℕ × ℕ)). AreKept spec c.args.book.now c.args.links.now
           c.args.uses.now.open_from ranks) (sym i.ranks) are);
     }

@@ -1,5 +1,6 @@
-use Rattle.std.proofs.Common.{◌≡◌, ℕ, List}
+use Rattle.std.proofs.Common.{◌≡◌}
 use Rattle.book_base.specs.declared.call.Call.{Call}
+use Rattle.book_base.specs.SeqSpec.{SeqSpec}
 use Rattle.book_base.specs.Book.{IsCall}
 use Rattle.book_base.specs.PruningRules.{HasCallBound, ArePruningRules}
 use Rattle.container_pruning.specs.Links.{AreKept}
@@ -9,8 +10,7 @@ abbrev pub invariant-loop-caller : goal.invariant-loop-caller
 invariant-loop-caller l = record {
   call_bounds : (c : Call) → IsCall l.book c → HasCallBound l.known c;
   ranks : l.known.ranks ≡ l.fn.known.ranks;
-  right : (init : List ℕ) (next : List ℕ → ℕ → List ℕ × ℕ)
-      → ArePruningRules init next l.book l.fn.known
-      → AreKept init next l.book l.links l.uses.open_from l.fn.known.ranks
-      → ArePruningRules init next l.book l.known;
+  right : (spec : SeqSpec) → ArePruningRules spec l.book l.fn.known
+      → AreKept spec l.book l.links l.uses.open_from l.fn.known.ranks
+      → ArePruningRules spec l.book l.known;
 }

@@ -27,8 +27,8 @@ loop-number-preserved c =
             call_bounds =
                 λ d h. rw w.known-is (w.hold_after.ensures.call_bounds d (i.call_bounds d h));
             ranks = rw w.known-is (w.hold_after.ensures.ranks ∙ i.ranks);
-            right = λ init next right are. rw w.known-is
-                (w.hold_after.ensures.right init next c.args.book.now (i.right init next right are)
+            right = λ spec right are. rw w.known-is
+                (w.hold_after.ensures.right spec c.args.book.now (i.right spec right are)
                 (λ j some. let from = c.requires.past.predecessor_bound j some in
                 are.order from.0
                 (last_held c.args.past.now.predecessor_bound j) put from.1 from.2 kept)
@@ -43,6 +43,6 @@ loop-number-preserved c =
       | else-at w ↦ record {
         call_bounds = λ d h. rw w.known-is (i.call_bounds d h);
         ranks = rw w.known-is i.ranks;
-        right = λ init next right are. rw w.known-is (i.right init next right are);
+        right = λ spec right are. rw w.known-is (i.right spec right are);
       }
     ]

@@ -7,6 +7,6 @@ loop-caller-preserved c =
     record {
       call_bounds = c.in_ok-nest_caller.ensures.call_bounds;
       ranks = c.in_ok-nest_caller.ensures.ranks ∙ i.ranks;
-      right = λ init next right are.
-          c.in_ok-nest_caller.ensures.right init next (i.right init next right are) are;
+      right = λ spec right are.
+          c.in_ok-nest_caller.ensures.right spec (i.right spec right are) are;
     }

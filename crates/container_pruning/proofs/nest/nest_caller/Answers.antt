@@ -7,6 +7,6 @@ loop-number-preserved c =
     record {
       call_bounds = c.in_ok-nest_take.ensures.call_bounds;
       ranks = c.in_ok-nest_take.ensures.ranks ∙ i.ranks;
-      right = λ init next right are.
-          c.in_ok-nest_take.ensures.right init next (i.right init next right are) are;
+      right = λ spec right are.
+          c.in_ok-nest_take.ensures.right spec (i.right spec right are) are;
     }

@@ -24,13 +24,13 @@ loop-caller-preserved c =
             call_bounds =
                 λ d h. rw w.known-is (w.hold_back.ensures.call_bounds d (i.call_bounds d h));
             ranks = rw w.known-is (ap (λ (k : Known). k.ranks) w.hold_back.ensures.held ∙ i.ranks);
-            right = λ init next right are. rw w.known-is
-                (w.hold_back.ensures.right init next c.args.book.now (i.right init next right are)
+            right = λ spec right are. rw w.known-is
+                (w.hold_back.ensures.right spec c.args.book.now (i.right spec right are)
                 (are c.args.take c.in-Some.put first after facts.1.0 facts.1.1));
           }
       | in_default-found w ↦ record {
         call_bounds = λ d h. rw w.known-is (i.call_bounds d h);
         ranks = rw w.known-is i.ranks;
-        right = λ init next right are. rw w.known-is (i.right init next right are);
+        right = λ spec right are. rw w.known-is (i.right spec right are);
       }
     ]

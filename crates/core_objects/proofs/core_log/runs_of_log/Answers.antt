@@ -2,5 +2,5 @@ use Rattle.log_program.proofs.LogEffects.{logs_linearize}
 use Rattle.core_objects.proofs.core_log.runs_of_log.Goals as goal
 
 pub returns : goal.returns
-returns g c = λ n cap steps run. logs_linearize (g.S.SeqObject.init c.args._program.now.object)
-    (g.S.SeqObject.next c.args._program.now.object) n cap steps run
+returns g c = λ n cap steps run.
+    logs_linearize (g.S.SeqObject.spec c.args._program.now.object) n cap steps run

@@ -6,44 +6,44 @@ use Rattle.core_objects.proofs.log_steps.load_operation.Goals as goal
 pub overflow_mul-named : goal.overflow_mul-named
 overflow_mul-named g c =
     let r = c.args.rows.now in
-    let low = named_is_low g.S.SeqObject.init g.S.SeqObject.next r c.args.announced.now c.args.named
+    let low = named_is_low g.S.SeqObject.spec r c.args.announced.now c.args.named
     c.requires.caller c.requires.named in
-    omega (arith, low, places_few g.S.SeqObject.init g.S.SeqObject.next r c.requires.words)
+    omega (arith, low, places_few g.S.SeqObject.spec r c.requires.words)
 
 pub object_load-low-requires-clause-place : goal.object_load-low-requires-clause-place
 object_load-low-requires-clause-place g c =
     omega (
       arith,
       c.requires.words,
-      named_is_low g.S.SeqObject.init g.S.SeqObject.next c.args.rows.now c.args.announced.now
+      named_is_low g.S.SeqObject.spec c.args.rows.now c.args.announced.now
           c.args.named c.requires.caller c.requires.named,
     )
 
 pub object_load-low-requires-clause-program : goal.object_load-low-requires-clause-program
 object_load-low-requires-clause-program g c =
-    λ x small. may_load_low g.S.SeqObject.init g.S.SeqObject.next c.args.rows.now
+    λ x small. may_load_low g.S.SeqObject.spec c.args.rows.now
     c.args.announced.now c.args.named c.requires.named x
 
 pub overflow_mul-named-2 : goal.overflow_mul-named-2
 overflow_mul-named-2 g c =
     let r = c.args.rows.now in
-    let low = named_is_low g.S.SeqObject.init g.S.SeqObject.next r c.args.announced.now c.args.named
+    let low = named_is_low g.S.SeqObject.spec r c.args.announced.now c.args.named
     c.requires.caller c.requires.named in
-    omega (arith, low, places_few g.S.SeqObject.init g.S.SeqObject.next r c.requires.words)
+    omega (arith, low, places_few g.S.SeqObject.spec r c.requires.words)
 
 pub overflow_add-named : goal.overflow_add-named
 overflow_add-named g c =
     let r = c.args.rows.now in
-    let low = named_is_low g.S.SeqObject.init g.S.SeqObject.next r c.args.announced.now c.args.named
+    let low = named_is_low g.S.SeqObject.spec r c.args.announced.now c.args.named
     c.requires.caller c.requires.named in
-    omega (arith, low, places_few g.S.SeqObject.init g.S.SeqObject.next r c.requires.words)
+    omega (arith, low, places_few g.S.SeqObject.spec r c.requires.words)
 
 pub object_load-high-requires-clause-place : goal.object_load-high-requires-clause-place
 object_load-high-requires-clause-place g c =
     omega (
       arith,
       c.requires.words,
-      named_is_low g.S.SeqObject.init g.S.SeqObject.next c.args.rows.now c.args.announced.now
+      named_is_low g.S.SeqObject.spec c.args.rows.now c.args.announced.now
           c.args.named c.requires.caller c.requires.named,
     )
 
@@ -58,9 +58,9 @@ object_load-high-requires-clause-program g c =
       new = c.object_load-low.result;
     } in
     λ x small.
-    may_load_high g.S.SeqObject.init g.S.SeqObject.next r b c.args.named
-    (may_load_kept g.S.SeqObject.init g.S.SeqObject.next r a b c.args.named c.requires.caller
-    (made_one g.S.SeqObject.init g.S.SeqObject.next r a b step c.object_load-low.ensures)
+    may_load_high g.S.SeqObject.spec r b c.args.named
+    (may_load_kept g.S.SeqObject.spec r a b c.args.named c.requires.caller
+    (made_one g.S.SeqObject.spec r a b step c.object_load-low.ensures)
     c.requires.named) x
 
 pub returns-clause-made : goal.returns-clause-made
@@ -79,9 +79,9 @@ returns-clause-made g c =
       old = c.object_load-high.result;
       new = c.object_load-high.result;
     } in
-    made_both g.S.SeqObject.init g.S.SeqObject.next r a b d c.requires.caller
-    (made_one g.S.SeqObject.init g.S.SeqObject.next r a b first c.object_load-low.ensures)
-    (made_one g.S.SeqObject.init g.S.SeqObject.next r b d last c.object_load-high.ensures)
+    made_both g.S.SeqObject.spec r a b d c.requires.caller
+    (made_one g.S.SeqObject.spec r a b first c.object_load-low.ensures)
+    (made_one g.S.SeqObject.spec r b d last c.object_load-high.ensures)
 
 pub returns-clause-tickets : goal.returns-clause-tickets
 returns-clause-tickets g c =
@@ -99,17 +99,17 @@ returns-clause-tickets g c =
       old = c.object_load-high.result;
       new = c.object_load-high.result;
     } in
-    let low = named_is_low g.S.SeqObject.init g.S.SeqObject.next r a c.args.named c.requires.caller
+    let low = named_is_low g.S.SeqObject.spec r a c.args.named c.requires.caller
     c.requires.named in
     λ tickets e.
-    tickets_kept g.S.SeqObject.init g.S.SeqObject.next r b d last tickets c.object_load-high.ensures
+    tickets_kept g.S.SeqObject.spec r b d last tickets c.object_load-high.ensures
     (omega (arith, low))
-    (tickets_kept g.S.SeqObject.init g.S.SeqObject.next r a b first tickets
+    (tickets_kept g.S.SeqObject.spec r a b first tickets
     c.object_load-low.ensures (omega (arith, low)) e)
 
 pub returns-clause-operation : goal.returns-clause-operation
 returns-clause-operation g c =
-    operation_known g.S.SeqObject.init g.S.SeqObject.next c.args.rows.now c.args.announced.now
+    operation_known g.S.SeqObject.spec c.args.rows.now c.args.announced.now
     c.object_load-low.new.self c.object_load-high.new.self c.args.named
     c.object_load-low.result c.object_load-high.result c.object_load-low.ensures
     c.object_load-high.ensures

@@ -12,7 +12,7 @@ use Rattle.core_objects.proofs.log_steps.load_operations.Goals as goal
 pub loop-place-init : goal.loop-place-init
 loop-place-init g c =
     record {
-      made = made_none g.S.SeqObject.init g.S.SeqObject.next c.args.rows.now c.args.announced.now
+      made = made_none g.S.SeqObject.spec c.args.rows.now c.args.announced.now
           c.requires.caller;
       tickets = c.requires.tickets;
       log = c.requires.log;
@@ -45,7 +45,7 @@ load_operation-op-requires-clause-named g c =
     record {
       own = c.requires.placed.place;
       placed =
-          place_kept g.S.SeqObject.init g.S.SeqObject.next r c.args.announced.now
+          place_kept g.S.SeqObject.spec r c.args.announced.now
           c.loop-place.announced c.requires.placed.place c.requires.caller inv.made
           c.requires.placed.placed;
       place = place;
@@ -76,13 +76,13 @@ loop-place-preserved g c =
     let count : length c.push.new.self.items ≡ length log + 1 =
     ap (λ (xs : List ℕ). length xs) grown ∙ length-append log (op ∷ []) in
     record {
-      made = made_both g.S.SeqObject.init g.S.SeqObject.next r a b d c.requires.caller inv.made
+      made = made_both g.S.SeqObject.spec r a b d c.requires.caller inv.made
           c.load_operation-op.ensures.made;
       tickets = known_then;
       log =
           subst (KnowsLog r d) (sym grown)
           (log_grown (places_on r) ticket op log (all_steps_of (announced_local d))
-          (log_kept g.S.SeqObject.init g.S.SeqObject.next r b d log
+          (log_kept g.S.SeqObject.spec r b d log
           c.load_operation-op.ensures.made inv.log)
           (ap (λ (p : ℕ). known (ticket_place (places_on r) p) (all_steps_of (announced_local d)))
           (sym inv.place) ∙ filled.0)

@@ -8,7 +8,7 @@ use Rattle.core_objects.proofs.log_steps.place_ticket.Goals as goal
 pub loop-place-init : goal.loop-place-init
 loop-place-init g c =
     record {
-      made = made_none g.S.SeqObject.init g.S.SeqObject.next c.args.rows.now c.args.announced.now
+      made = made_none g.S.SeqObject.spec c.args.rows.now c.args.announced.now
           c.requires.caller;
       stored = c.requires.stored;
       unplaced = c.requires.unplaced;
@@ -21,13 +21,13 @@ loop-place-init g c =
 pub overflow_add-number : goal.overflow_add-number
 overflow_add-number g c =
     let r = c.args.rows.now in
-    let low = (number_is_low g.S.SeqObject.init g.S.SeqObject.next r c.args.announced.now
+    let low = (number_is_low g.S.SeqObject.spec r c.args.announced.now
     c.requires.caller).1 in
     omega (
       arith,
       c.requires.number,
       low,
-      places_few g.S.SeqObject.init g.S.SeqObject.next r c.requires.words,
+      places_few g.S.SeqObject.spec r c.requires.words,
     )
 
 pub returns-then-ticket-number-clause-made : goal.returns-then-ticket-number-clause-made
@@ -39,7 +39,7 @@ returns-then-ticket-number-clause-made g c =
     let at =
     ap (λ (k : ℕ). 2 * k + length c.deref.result.now) c.requires.places
     ∙ ap (λ (xs : List ℕ). 2 * places_on r + length xs) c.deref.ensures.value in
-    tried_made g.S.SeqObject.init g.S.SeqObject.next r c.args.announced.now c.loop-place.announced
+    tried_made g.S.SeqObject.spec r c.args.announced.now c.loop-place.announced
     c.try_place-ticket.new.announced c.args.number step.0
     c.try_place-ticket.result (2 * c.args.places + length c.deref.result.now) tickets
     c.requires.caller c.requires.number inv.made step.1 at inv.unplaced
@@ -54,9 +54,9 @@ returns-then-ticket-number-clause-stored g c =
       old = step.0;
       new = c.try_place-ticket.result;
     } in
-    stored_kept g.S.SeqObject.init g.S.SeqObject.next r c.loop-place.announced
+    stored_kept g.S.SeqObject.spec r c.loop-place.announced
     c.try_place-ticket.new.announced inv.made.still.0
-    (made_one g.S.SeqObject.init g.S.SeqObject.next r c.loop-place.announced
+    (made_one g.S.SeqObject.spec r c.loop-place.announced
     c.try_place-ticket.new.announced tried step.1) inv.stored
 
 pub returns-then-ticket-number-clause-placed : goal.returns-then-ticket-number-clause-placed
@@ -73,7 +73,7 @@ returns-then-ticket-number-clause-placed g c =
     (λ (b : Bool). if b then tickets ++ c.try_place-ticket.result ∷ [] else tickets)
     (ap is_ok c.unwrap.ensures) in
     subst (HasPlaced r c.try_place-ticket.new.announced) (sym grown)
-    (tried_placed g.S.SeqObject.init g.S.SeqObject.next r c.args.announced.now
+    (tried_placed g.S.SeqObject.spec r c.args.announced.now
     c.loop-place.announced c.try_place-ticket.new.announced c.args.number step.0
     c.try_place-ticket.result (2 * c.args.places + length c.deref.result.now) tickets
     c.requires.caller c.requires.number inv.made step.1 at inv.unplaced
@@ -100,7 +100,7 @@ returns-then-ticket-number-clause-tickets g c =
     let low : length tickets < places_on r =
     omega (arith, c.loop-place-test.true, inv.place, c.requires.places) in
     subst (KnowsPlaces r c.try_place-ticket.new.announced) (sym grown)
-    (tickets_grown g.S.SeqObject.init g.S.SeqObject.next r c.loop-place.announced
+    (tickets_grown g.S.SeqObject.spec r c.loop-place.announced
     c.try_place-ticket.new.announced tried tickets step.1 at low
     c.try_place-ticket.ensures.filled inv.known)
 
@@ -129,24 +129,24 @@ loop-place-preserved g c =
     omega (arith, c.loop-place-test.true, inv.place, c.requires.places) in
     record {
       made =
-          tried_made g.S.SeqObject.init g.S.SeqObject.next r c.args.announced.now
+          tried_made g.S.SeqObject.spec r c.args.announced.now
           c.loop-place.announced c.try_place-ticket.new.announced c.args.number step.0
           c.try_place-ticket.result (2 * c.args.places + length c.deref.result.now) tickets
           c.requires.caller c.requires.number inv.made step.1 at inv.unplaced;
       stored =
-          stored_kept g.S.SeqObject.init g.S.SeqObject.next r c.loop-place.announced
+          stored_kept g.S.SeqObject.spec r c.loop-place.announced
           c.try_place-ticket.new.announced inv.made.still.0
-          (made_one g.S.SeqObject.init g.S.SeqObject.next r c.loop-place.announced
+          (made_one g.S.SeqObject.spec r c.loop-place.announced
           c.try_place-ticket.new.announced tried step.1) inv.stored;
       unplaced =
-          tried_unplaced g.S.SeqObject.init g.S.SeqObject.next r c.args.announced.now
+          tried_unplaced g.S.SeqObject.spec r c.args.announced.now
           c.loop-place.announced c.try_place-ticket.new.announced c.args.number step.0
           c.try_place-ticket.result (2 * c.args.places + length c.deref.result.now) tickets
           c.requires.caller c.requires.number inv.made step.1 at inv.unplaced
           c.if-ticket-number.false;
       known =
           subst (KnowsPlaces r c.try_place-ticket.new.announced) (sym grown)
-          (tickets_grown g.S.SeqObject.init g.S.SeqObject.next r c.loop-place.announced
+          (tickets_grown g.S.SeqObject.spec r c.loop-place.announced
           c.try_place-ticket.new.announced tried tickets step.1 at low
           c.try_place-ticket.ensures.filled inv.known);
       place = omega (arith, count, inv.place);
@@ -158,6 +158,6 @@ pub unreachable-requires : goal.unreachable-requires
 unreachable-requires g c =
     let inv = c.loop-place.invariant in
     let end = c.loop-place-test.false in
-    finds_a_place g.S.SeqObject.init g.S.SeqObject.next c.args.rows.now c.loop-place.announced
+    finds_a_place g.S.SeqObject.spec c.args.rows.now c.loop-place.announced
     c.loop-place.tickets.items inv.made.still.0 inv.known inv.unplaced
     (omega (arith, end, inv.place, c.requires.places))

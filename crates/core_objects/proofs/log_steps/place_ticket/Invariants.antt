@@ -6,8 +6,7 @@ use Rattle.core_objects.proofs.log_steps.place_ticket.Given as goal
 abbrev pub invariant-loop-place : goal.invariant-loop-place
 invariant-loop-place g l =
     record {
-      made : HasMade
-          (meaning g.S.SeqObject.init g.S.SeqObject.next) l.rows l.fn.announced l.announced;
+      made : HasMade (meaning g.S.SeqObject.spec) l.rows l.fn.announced l.announced;
       stored : HasStored l.rows l.announced;
       unplaced : place_on l.rows l.announced ≡ None;
       known : KnowsPlaces l.rows l.announced l.tickets.items;

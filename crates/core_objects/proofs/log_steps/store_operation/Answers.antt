@@ -6,13 +6,13 @@ use Rattle.core_objects.proofs.log_steps.store_operation.Goals as goal
 pub overflow_mul-number : goal.overflow_mul-number
 overflow_mul-number g c =
     let r = c.args.rows.now in
-    let low = (number_is_low g.S.SeqObject.init g.S.SeqObject.next r c.args.announced.now
+    let low = (number_is_low g.S.SeqObject.spec r c.args.announced.now
     c.requires.caller).1 in
     omega (
       arith,
       c.requires.number,
       low,
-      places_few g.S.SeqObject.init g.S.SeqObject.next r c.requires.words,
+      places_few g.S.SeqObject.spec r c.requires.words,
     )
 
 pub object_store-requires-clause-place : goal.object_store-requires-clause-place
@@ -21,39 +21,39 @@ object_store-requires-clause-place g c =
       arith,
       c.requires.number,
       c.requires.words,
-      (number_is_low g.S.SeqObject.init g.S.SeqObject.next c.args.rows.now c.args.announced.now
+      (number_is_low g.S.SeqObject.spec c.args.rows.now c.args.announced.now
           c.requires.caller).1,
     )
 
 pub object_store-requires-clause-program : goal.object_store-requires-clause-program
 object_store-requires-clause-program g c =
     λ x small.
-    may_store_low g.S.SeqObject.init g.S.SeqObject.next c.args.rows.now c.args.announced.now
+    may_store_low g.S.SeqObject.spec c.args.rows.now c.args.announced.now
     c.args.number c.low.result c.requires.number c.requires.first
     (c.low.ensures ∙ ap low_of c.op-op.ensures) x
 
 pub overflow_mul-number-2 : goal.overflow_mul-number-2
 overflow_mul-number-2 g c =
     let r = c.args.rows.now in
-    let low = (number_is_low g.S.SeqObject.init g.S.SeqObject.next r c.args.announced.now
+    let low = (number_is_low g.S.SeqObject.spec r c.args.announced.now
     c.requires.caller).1 in
     omega (
       arith,
       c.requires.number,
       low,
-      places_few g.S.SeqObject.init g.S.SeqObject.next r c.requires.words,
+      places_few g.S.SeqObject.spec r c.requires.words,
     )
 
 pub overflow_add-number : goal.overflow_add-number
 overflow_add-number g c =
     let r = c.args.rows.now in
-    let low = (number_is_low g.S.SeqObject.init g.S.SeqObject.next r c.args.announced.now
+    let low = (number_is_low g.S.SeqObject.spec r c.args.announced.now
     c.requires.caller).1 in
     omega (
       arith,
       c.requires.number,
       low,
-      places_few g.S.SeqObject.init g.S.SeqObject.next r c.requires.words,
+      places_few g.S.SeqObject.spec r c.requires.words,
     )
 
 pub object_store-requires-2-clause-place : goal.object_store-requires-2-clause-place
@@ -62,7 +62,7 @@ object_store-requires-2-clause-place g c =
       arith,
       c.requires.number,
       c.requires.words,
-      (number_is_low g.S.SeqObject.init g.S.SeqObject.next c.args.rows.now c.args.announced.now
+      (number_is_low g.S.SeqObject.spec c.args.rows.now c.args.announced.now
           c.requires.caller).1,
     )
 
@@ -71,7 +71,7 @@ object_store-requires-2-clause-program g c =
     let a = c.args.announced.now in
     let b = c.object_store.new.self in
     λ x small.
-    may_store_second g.S.SeqObject.init g.S.SeqObject.next c.args.rows.now a b b c.args.number
+    may_store_second g.S.SeqObject.spec c.args.rows.now a b b c.args.number
     c.low.result c.high.result c.object_store.ensures.0 0 c.requires.caller
     c.requires.number c.requires.first (c.low.ensures ∙ ap low_of c.op-op.ensures)
     (c.high.ensures ∙ ap high_of c.op-op.ensures) c.object_store.ensures.2 x
@@ -81,7 +81,7 @@ returns-clause-made g c =
     let a = c.args.announced.now in
     let b = c.object_store.new.self in
     let d = c.object_store-2.new.self in
-    both_made g.S.SeqObject.init g.S.SeqObject.next c.args.rows.now a b d c.args.number c.low.result
+    both_made g.S.SeqObject.spec c.args.rows.now a b d c.args.number c.low.result
     c.high.result c.object_store.ensures.0 c.object_store-2.ensures.0
     c.requires.caller c.requires.number c.requires.first (c.low.ensures ∙ ap low_of c.op-op.ensures)
     (c.high.ensures ∙ ap high_of c.op-op.ensures)
@@ -92,7 +92,7 @@ returns-clause-stored g c =
     let a = c.args.announced.now in
     let b = c.object_store.new.self in
     let d = c.object_store-2.new.self in
-    both_stored g.S.SeqObject.init g.S.SeqObject.next c.args.rows.now a b d c.args.number
+    both_stored g.S.SeqObject.spec c.args.rows.now a b d c.args.number
     c.low.result c.high.result c.object_store.ensures.0 c.object_store-2.ensures.0
     c.requires.caller c.requires.number c.requires.first (c.low.ensures ∙ ap low_of c.op-op.ensures)
     (c.high.ensures ∙ ap high_of c.op-op.ensures)
@@ -103,7 +103,7 @@ returns-clause-unplaced g c =
     let a = c.args.announced.now in
     let b = c.object_store.new.self in
     let d = c.object_store-2.new.self in
-    stored_unplaced g.S.SeqObject.init g.S.SeqObject.next c.args.rows.now a b d c.args.number
+    stored_unplaced g.S.SeqObject.spec c.args.rows.now a b d c.args.number
     c.low.result c.high.result c.object_store.ensures.0 c.object_store-2.ensures.0
     c.requires.caller c.requires.number c.requires.first (c.low.ensures ∙ ap low_of c.op-op.ensures)
     (c.high.ensures ∙ ap high_of c.op-op.ensures)
@@ -114,7 +114,7 @@ returns-clause-tickets g c =
     let a = c.args.announced.now in
     let b = c.object_store.new.self in
     let d = c.object_store-2.new.self in
-    stored_tickets g.S.SeqObject.init g.S.SeqObject.next c.args.rows.now a b d c.args.number
+    stored_tickets g.S.SeqObject.spec c.args.rows.now a b d c.args.number
     c.low.result c.high.result c.object_store.ensures.0 c.object_store-2.ensures.0
     c.requires.caller c.requires.number c.requires.first (c.low.ensures ∙ ap low_of c.op-op.ensures)
     (c.high.ensures ∙ ap high_of c.op-op.ensures)

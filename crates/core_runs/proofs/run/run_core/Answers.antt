@@ -25,14 +25,14 @@ returns-clause-no_error g c =
     let allotments = run_allotments plan in
     if_ok_as c.run_asked.result
     (λ (report : Findings).
-    IsReportOf (g.O.S.SeqObject.init sequential) (g.O.S.SeqObject.next sequential)
+    IsReportOf (g.O.S.SeqObject.spec sequential)
     (shape_of g.O.P.Program.meaning rows) (locals_on c.run_asked.new.bench) plan allotments report)
     (λ (report : Findings). list_any any_error report.lines ≡ false)
     (λ report is. no_line_is_an_error g.O.P.Program.meaning
-    (g.O.CoreObject.program_of object) rows c.requires.program (g.O.S.SeqObject.init sequential)
-    (g.O.S.SeqObject.next sequential) c.runs_of.ensures
+    (g.O.CoreObject.program_of object) rows c.requires.program
+    (g.O.S.SeqObject.spec sequential) c.runs_of.ensures
     plan.operations allotments report.lines is.lawful)
     (subst (λ (x : _). IfOk c.run_asked.result
-    (λ (report : Findings). IsReportOf (g.O.S.SeqObject.init x) (g.O.S.SeqObject.next x)
+    (λ (report : Findings). IsReportOf (g.O.S.SeqObject.spec x)
     (shape_of g.O.P.Program.meaning rows) (locals_on c.run_asked.new.bench) plan allotments report))
     c.sequential.ensures c.run_asked.ensures.report)

@@ -11,11 +11,10 @@ use Rattle.enforcer.proofs.judging.judge.Goals as goal
 
 pub returns-in-Legal-clause-verdict : goal.returns-in-Legal-clause-verdict
 returns-in-Legal-clause-verdict g c = λ locals together is.
-    let init = g.S.SeqObject.init c.args.object.now in
-    let next = g.S.SeqObject.next c.args.object.now in
-    subst (λ (book : List Page). IsLegalOrder init next book c.in-Legal.order.items)
+    let spec = g.S.SeqObject.spec c.args.object.now in
+    subst (λ (book : List Page). IsLegalOrder spec book c.in-Legal.order.items)
     (c.in-Ok.ensures.exact locals together is)
-    (subst (λ (verdict : Verdict). IsRight init next c.in-Ok.found.book verdict) c.in-Legal.is
+    (subst (λ (verdict : Verdict). IsRight spec c.in-Ok.found.book verdict) c.in-Legal.is
     c.in-Ok.ensures.verdict)
 
 pub returns-in-Legal-clause-kept : goal.returns-in-Legal-clause-kept

@@ -10,12 +10,11 @@ use Rattle.enforcer.proofs.judging_after.judge_after.Goals as goal
 
 pub returns-in-Some-clause-verdict : goal.returns-in-Some-clause-verdict
 returns-in-Some-clause-verdict g c = λ locals together is.
-    let init = g.S.SeqObject.init c.args.object.now in
-    let next = g.S.SeqObject.next c.args.object.now in
-    subst (λ (book : List Page). IsLegalOrder init next book c.in-Some.stands.order.items)
+    let spec = g.S.SeqObject.spec c.args.object.now in
+    subst (λ (book : List Page). IsLegalOrder spec book c.in-Some.stands.order.items)
     (c.in-Ok.ensures.exact locals together is)
     (subst (λ (after : Option KeptOrder).
-    IfSome after (λ s. IsLegalOrder init next c.in-Ok.found.book s.order.items)) c.in-Some.is
+    IfSome after (λ s. IsLegalOrder spec c.in-Ok.found.book s.order.items)) c.in-Some.is
     c.in-Ok.ensures.legal)
 
 pub returns-in-Some-clause-kept : goal.returns-in-Some-clause-kept

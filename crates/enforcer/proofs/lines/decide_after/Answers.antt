@@ -21,7 +21,7 @@ check_after-requires g c =
     c.in_ok-found.ensures.gathered in
     record {
       standing =
-          stands_on (g.S.SeqObject.init object) (g.S.SeqObject.next object)
+          stands_on (g.S.SeqObject.spec object)
           (shape_of g.P.Program.meaning c.args.rows.now)
           (who_of d) c.callers.result m c.args.gathered c.args.standing c.standing_in-before.result
           c.args.seen.now.cut c.in_ok-found.found.book c.callers.ensures

@@ -5,6 +5,6 @@ use Rattle.frontier_check.proofs.fresh.next_place.Goals as goal
 pub copy_from-requires : goal.copy_from-requires
 copy_from-requires g c =
     let object = c.args.object.now in
-    let fit = stands-fit (g.S.SeqObject.init object)
-    (g.S.SeqObject.next object) c.args.book.now c.args.prefix.now c.requires.put.stands in
+    let fit = stands-fit
+    (g.S.SeqObject.spec object) c.args.book.now c.args.prefix.now c.requires.put.stands in
     omega (arith, fit, c.requires.room)

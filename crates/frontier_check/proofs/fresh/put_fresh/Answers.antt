@@ -11,8 +11,8 @@ loop-preserved g c =
       spare = c.look.ensures.room;
       counts = c.look.ensures.counts;
       taken = c.look.ensures.taken;
-      marks = marks_put (g.S.SeqObject.init object)
-          (g.S.SeqObject.next object) c.args.book.now c.put.new.self c.loop.prefix.places.items
+      marks = marks_put
+          (g.S.SeqObject.spec object) c.args.book.now c.put.new.self c.loop.prefix.places.items
           c.in-Some.place c.answers_in-answered.result c.loop.marks.items
           c.mark_at_interval.new.marks.items put c.answers_in-answered.ensures
           c.in_ok-put.ensures.places c.in_ok-mark_at_interval.ensures c.loop.invariant.marks;

@@ -6,11 +6,10 @@ use Rattle.frontier_check.proofs.fresh.put_fresh.Given as goal
 
 abbrev pub invariant-loop : goal.invariant-loop
 invariant-loop g l = record {
-  put : IsPut (g.S.SeqObject.init l.object) (g.S.SeqObject.next l.object) l.book l.prefix;
+  put : IsPut (g.S.SeqObject.spec l.object) l.book l.prefix;
   room : l.prefix.here.room ≡ CAPACITY;
   spare : l.spare.room ≡ CAPACITY;
   counts : length l.guess.counts ≡ length l.book;
   taken : length l.guess.taken ≡ length l.book;
-  marks : AreMarks (g.S.SeqObject.init l.object)
-      (g.S.SeqObject.next l.object) l.book l.prefix.places.items 0 l.marks.items;
+  marks : AreMarks (g.S.SeqObject.spec l.object) l.book l.prefix.places.items 0 l.marks.items;
 }

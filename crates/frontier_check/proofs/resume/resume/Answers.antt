@@ -12,16 +12,15 @@ last_standing-requires g c =
     subst
     (λ (ms : List OrderMark). (k : ℕ) (m : OrderMark) → k < length ms → m ≡ slice_index_or ms k m
     → IsAsWide book m) (sym c.deref.ensures.value)
-    (marks_wide (g.S.SeqObject.init object)
-    (g.S.SeqObject.next object) book c.args.order.items c.args.marks.now.items c.requires.marks)
+    (marks_wide (g.S.SeqObject.spec object) book c.args.order.items c.args.marks.now.items
+    c.requires.marks)
 
 pub prefix_at-requires-clause-len : goal.prefix_at-requires-clause-len
 prefix_at-requires-clause-len g c =
     let object = c.args.object.now in
     let low = subst (λ (ms : List OrderMark). c.in-Some.index < length ms) c.deref.ensures.value
     c.in-Some.ensures.within in
-    (marks_fit (g.S.SeqObject.init object)
-    (g.S.SeqObject.next object) c.args.book.now c.args.order.items c.args.marks.now.items
+    (marks_fit (g.S.SeqObject.spec object) c.args.book.now c.args.order.items c.args.marks.now.items
     c.requires.marks c.in-Some.index c.index.result.now low c.index.ensures).0
 
 pub prefix_at-requires-clause-words : goal.prefix_at-requires-clause-words
@@ -29,8 +28,7 @@ prefix_at-requires-clause-words g c =
     let object = c.args.object.now in
     let low = subst (λ (ms : List OrderMark). c.in-Some.index < length ms) c.deref.ensures.value
     c.in-Some.ensures.within in
-    (marks_fit (g.S.SeqObject.init object)
-    (g.S.SeqObject.next object) c.args.book.now c.args.order.items c.args.marks.now.items
+    (marks_fit (g.S.SeqObject.spec object) c.args.book.now c.args.order.items c.args.marks.now.items
     c.requires.marks c.in-Some.index c.index.result.now low c.index.ensures).1
 
 pub returns-in_ok-found-in-Some-clause-put : goal.returns-in_ok-found-in-Some-clause-put
@@ -42,7 +40,7 @@ returns-in_ok-found-in-Some-clause-put g c =
     let stands =
     subst (λ (ms : List OrderMark). (m : OrderMark) → m ≡ slice_index_or ms c.in-Some.index m
     → StillStands c.args.book.now m) c.deref.ensures.value c.in-Some.ensures.stands in
-    mark_resumed (g.S.SeqObject.init object) (g.S.SeqObject.next object) c.args.book.now
+    mark_resumed (g.S.SeqObject.spec object) c.args.book.now
     c.args.order.items marks c.in-Some.index c.index.result.now c.in_ok-found-in-Some.found.0
     c.callers-callers.ensures.valid c.callers-callers.ensures.small low c.index.ensures
     c.requires.marks (stands c.index.result.now c.index.ensures)
@@ -51,21 +49,20 @@ returns-in_ok-found-in-Some-clause-put g c =
 
 pub returns-in_ok-found-in-Some-clause-marks : goal.returns-in_ok-found-in-Some-clause-marks
 returns-in_ok-found-in-Some-clause-marks g c =
-    let init = g.S.SeqObject.init c.args.object.now in
-    let next = g.S.SeqObject.next c.args.object.now in
+    let spec = g.S.SeqObject.spec c.args.object.now in
     let book = c.args.book.now in
     let marks = c.args.marks.now.items in
     let places = c.in_ok-found-in-Some.found.0.places.items in
     let low = subst (λ (ms : List OrderMark). c.in-Some.index < length ms) c.deref.ensures.value
     c.in-Some.ensures.within in
-    let upto = marks_taken init next book c.args.order.items places marks
+    let upto = marks_taken spec book c.args.order.items places marks
     (take (c.in-Some.index + 1) marks) c.in-Some.index c.index.result.now low c.index.ensures
     c.requires.marks c.in_ok-found-in-Some.ensures.places refl in
     let few : c.kept_of-kept.result ≤ c.in-Some.index + 1 = c.kept_of-kept.ensures in
-    subst (λ (ms : List OrderMark). AreMarks init next book places 0 ms)
+    subst (λ (ms : List OrderMark). AreMarks spec book places 0 ms)
     (sym (c.truncate.ensures.items
     ∙ sym (take-take c.kept_of-kept.result (c.in-Some.index + 1) marks few)))
-    (marks_fewer init next book places 0 c.kept_of-kept.result (take (c.in-Some.index + 1) marks)
+    (marks_fewer spec book places 0 c.kept_of-kept.result (take (c.in-Some.index + 1) marks)
     upto)
 
 pub returns-in_ok-found-in-Some-clause-fewer : goal.returns-in_ok-found-in-Some-clause-fewer

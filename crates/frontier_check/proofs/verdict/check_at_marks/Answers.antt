@@ -6,13 +6,12 @@ use Rattle.frontier_check.proofs.verdict.check_at_marks.Goals as goal
 
 pub order_after_mark-requires : goal.order_after_mark-requires
 order_after_mark-requires g c =
-    let init = g.S.SeqObject.init c.args.object.now in
-    let next = g.S.SeqObject.next c.args.object.now in
+    let spec = g.S.SeqObject.spec c.args.object.now in
     let book = c.args.book.now in
     let order = c.loop.order.items in
     record {
-      marks = subst (λ (ms : List OrderMark). AreMarks init next book order 0 ms)
+      marks = subst (λ (ms : List OrderMark). AreMarks spec book order 0 ms)
           (sym c.truncate.ensures.items)
-          (marks_fewer init next book order 0 c.saturating_sub-left.result
+          (marks_fewer spec book order 0 c.saturating_sub-left.result
           c.loop.marks.items c.loop.invariant);
     }

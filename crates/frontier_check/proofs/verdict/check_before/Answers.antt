@@ -6,25 +6,23 @@ use Rattle.frontier_check.proofs.verdict.check_before.Goals as goal
 
 pub order_put-requires : goal.order_put-requires
 order_put-requires g c =
-    let init = g.S.SeqObject.init c.args.object.now in
-    let next = g.S.SeqObject.next c.args.object.now in
+    let spec = g.S.SeqObject.spec c.args.object.now in
     let book = c.args.book.now in
     let order = c.loop.order.items in
     record {
-      marks = subst (λ (ms : List OrderMark). AreMarks init next book order 0 ms)
+      marks = subst (λ (ms : List OrderMark). AreMarks spec book order 0 ms)
           (sym c.truncate.ensures.items)
-          (marks_fewer init next book order 0 c.loop.left
+          (marks_fewer spec book order 0 c.loop.left
           c.loop.marks.items c.loop.invariant);
     }
 
 pub check_at_marks-requires : goal.check_at_marks-requires
 check_at_marks-requires g c =
-    let init = g.S.SeqObject.init c.args.object.now in
-    let next = g.S.SeqObject.next c.args.object.now in
+    let spec = g.S.SeqObject.spec c.args.object.now in
     let book = c.args.book.now in
     let order = c.loop.order.items in
     record {
-      marks = subst (λ (ms : List OrderMark). AreMarks init next book order 0 ms)
+      marks = subst (λ (ms : List OrderMark). AreMarks spec book order 0 ms)
           (sym c.truncate-2.ensures.items)
-          (marks_fewer init next book order 0 c.loop.left c.loop.marks.items c.loop.invariant);
+          (marks_fewer spec book order 0 c.loop.left c.loop.marks.items c.loop.invariant);
     }

@@ -6,22 +6,20 @@ use Rattle.frontier_check.proofs.verdict.order_on.Goals as goal
 
 pub returns-in-Some-clause-marks : goal.returns-in-Some-clause-marks
 returns-in-Some-clause-marks g c =
-    let init = g.S.SeqObject.init c.args.object.now in
-    let next = g.S.SeqObject.next c.args.object.now in
+    let spec = g.S.SeqObject.spec c.args.object.now in
     let book = c.args.book.now in
     let marks = c.args._marks.now in
-    subst (λ (ps : List Place). AreMarks init next book ps 0 marks)
+    subst (λ (ps : List Place). AreMarks spec book ps 0 marks)
     (sym c.in_ok-extend_from_slice-in-Some.ensures.items)
-    (marks_longer init next book c.args.prefix.places.items c.deref.result.now 0 marks
+    (marks_longer spec book c.args.prefix.places.items c.deref.result.now 0 marks
     c.requires.marks)
 
 pub returns-clause-marks : goal.returns-clause-marks
 returns-clause-marks g c =
-    let init = g.S.SeqObject.init c.args.object.now in
-    let next = g.S.SeqObject.next c.args.object.now in
+    let spec = g.S.SeqObject.spec c.args.object.now in
     let book = c.args.book.now in
     let marks = c.args._marks.now in
-    subst (λ (ps : List Place). AreMarks init next book ps 0 marks)
+    subst (λ (ps : List Place). AreMarks spec book ps 0 marks)
     (sym c.in_ok-extend_from_slice-in-None.ensures.items)
-    (marks_longer init next book c.args.prefix.places.items c.args.later.now 0 marks
+    (marks_longer spec book c.args.prefix.places.items c.args.later.now 0 marks
     c.requires.marks)

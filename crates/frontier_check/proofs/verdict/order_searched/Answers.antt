@@ -6,6 +6,6 @@ pub returns-clause-none : goal.returns-clause-none
 returns-clause-none g c =
     let object = c.args.object.now in
     let prefix : Prefix = c.in_ok-prefix.prefix in
-    none-found c.args.book.now (g.S.SeqObject.init object)
-    (g.S.SeqObject.next object) prefix.cut prefix.here.words c.run.result c.in_ok-prefix.ensures.cut
+    none-found c.args.book.now
+    (g.S.SeqObject.spec object) prefix.cut prefix.here.words c.run.result c.in_ok-prefix.ensures.cut
     c.in_ok-prefix.ensures.list c.run.ensures.none

@@ -7,15 +7,14 @@ use Rattle.frontier_check.proofs.verdict.rest_after.Goals as goal
 pub places_after-requires-clause-prefix : goal.places_after-requires-clause-prefix
 places_after-requires-clause-prefix g c =
     let object = c.args.object.now in
-    prefix-from_put (g.S.SeqObject.init object) (g.S.SeqObject.next object) c.args.book.now
+    prefix-from_put (g.S.SeqObject.spec object) c.args.book.now
     c.args.prefix.now c.requires (c.leaves_open.ensures c.if-not-leaves_open.false)
 
 pub returns-then-holds_answered : goal.returns-then-holds_answered
 returns-then-holds_answered g c =
-    let init = g.S.SeqObject.init c.args.object.now in
-    let next = g.S.SeqObject.next c.args.object.now in
-    let prefix = prefix-from_put init next c.args.book.now c.args.prefix.now c.requires
+    let spec = g.S.SeqObject.spec c.args.object.now in
+    let prefix = prefix-from_put spec c.args.book.now c.args.prefix.now c.requires
     (c.leaves_open.ensures c.if-not-leaves_open.false) in
-    subst (λ (rest : List Place). IsLegalOrder init next c.args.book.now
+    subst (λ (rest : List Place). IsLegalOrder spec c.args.book.now
     (c.args.prefix.now.places.items ++ rest)) (sym c.new.ensures.items)
     (prefix.legal [] (c.holds_answered.ensures c.if-holds_answered.true))

@@ -3,7 +3,7 @@ use Rattle.std.specs.Prelude.{IfSome}
 use Rattle.book_base.specs.Book.{Page}
 use Rattle.book_base.specs.Order.{HasLegalOrder}
 use Rattle.seq_objects.specs.declared.kind.Kind.{Kind}
-use Rattle.seq_objects.specs.Objects.{kind_init, kind_next}
+use Rattle.seq_objects.specs.Objects.{kind_spec}
 use Rattle.client_scripts.specs.Plans.{Plan}
 use Rattle.reports.specs.Findings.{IsWitness}
 use Rattle.hunts.specs.Hunting.{IsMade}
@@ -27,7 +27,7 @@ returns-in-Some-clause-caught g c =
       script = c.in_ok-script.ensures;
       ran = ran;
       witness = witness;
-      no_order = subst (λ (k : Kind). ¬ HasLegalOrder (kind_init k) (kind_next k) book)
+      no_order = subst (λ (k : Kind). ¬ HasLegalOrder (kind_spec k) book)
           (ap (λ (p : Plan). p.kind) c.in_ok-script.ensures)
           (made_no_order made told script report book ran witness);
     }

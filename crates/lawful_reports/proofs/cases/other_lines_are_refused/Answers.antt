@@ -8,9 +8,9 @@ use Rattle.report_laws.proofs.Worked.{first_is_legal, first_is_illegal}
 use Rattle.lawful_reports.proofs.cases.other_lines_are_refused.Goals as goal
 
 pub returns-clause-false_error : goal.returns-clause-false_error
-returns-clause-false_error c h = illegal_at [] tenfold (locals_after two_calls) first_failed h
+returns-clause-false_error c h = illegal_at tenfold (locals_after two_calls) first_failed h
     (call 0 0) (1 ∷ 0 ∷ []) refl first_is_legal
 
 pub returns-clause-missed_error : goal.returns-clause-missed_error
 returns-clause-missed_error c h = first_is_illegal
-    (legal_at [] silent (locals_after two_calls) both_delivered h (call 0 0) (1 ∷ 0 ∷ []) refl)
+    (legal_at silent (locals_after two_calls) both_delivered h (call 0 0) (1 ∷ 0 ∷ []) refl)

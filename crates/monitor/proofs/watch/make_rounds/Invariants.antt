@@ -11,9 +11,8 @@ invariant-loop-i g l =
     record {
       fresh : IsFresh g.P.Program.meaning l.shared.rows.now l.shared.board.now l.monitor;
       who : who_of (caller_of l.monitor) ≡ who_of (caller_of l.fn.monitor);
-      stands : OrderStandsIn (g.S.SeqObject.init l.shared.sequential.now)
-          (g.S.SeqObject.next l.shared.sequential.now) (kept_by l.monitor) l.standing;
-      rounds : HasMadeRounds (g.S.SeqObject.init l.shared.sequential.now)
-          (g.S.SeqObject.next l.shared.sequential.now) l.shared.rows.now.callers l._i
-          (local_of l.fn.monitor) (local_of l.monitor) None;
+      stands : OrderStandsIn (g.S.SeqObject.spec l.shared.sequential.now)
+          (kept_by l.monitor) l.standing;
+      rounds : HasMadeRounds (g.S.SeqObject.spec l.shared.sequential.now) l.shared.rows.now.callers
+          l._i (local_of l.fn.monitor) (local_of l.monitor) None;
     }

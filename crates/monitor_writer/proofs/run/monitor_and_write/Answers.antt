@@ -1,6 +1,6 @@
 use Rattle.std.proofs.Common.{subst}
 use Rattle.seq_objects.specs.declared.kind.Kind.{Kind}
-use Rattle.seq_objects.specs.Objects.{kind_init, kind_next}
+use Rattle.seq_objects.specs.Objects.{kind_spec}
 use Rattle.row_table.specs.Callers.{locals_on}
 use Rattle.monitored_runs.specs.Monitoring.{HasMonitored}
 use Rattle.monitor_writer.proofs.AnswerLemmas.{ends_of_run, found_of_run, fine_of_run}
@@ -8,7 +8,7 @@ use Rattle.monitor_writer.proofs.run.monitor_and_write.Goals as goal
 
 pub returns-in-Ok-clause-rounds : goal.returns-in-Ok-clause-rounds
 returns-in-Ok-clause-rounds g c some i before monitor there =
-    subst (λ (kind : Kind). HasMonitored (kind_init kind) (kind_next kind) c.args.script.now
+    subst (λ (kind : Kind). HasMonitored (kind_spec kind) c.args.script.now
     (locals_on c.monitor_over.new.bench) i before) c.kind-kind.ensures
     (c.in-Ok.ensures.rounds i before monitor there)
 

@@ -39,15 +39,15 @@ pub returns-in-Some-clause-rounds : goal.returns-in-Some-clause-rounds
 returns-in-Some-clause-rounds g c =
     let d = c.in_ok-lines.ensures in
     all_monitored _ _ _ _ c.args.script.now _ _ _ _ c.requires.begins d.bench d.lines
-    (omega (arith, d.all_lines)) d.monitors (g.S.SeqObject.init c.args.sequential.now)
-    (g.S.SeqObject.next c.args.sequential.now) _ _ _ d.one d.other c.most_rounds-most.ensures.rounds
+    (omega (arith, d.all_lines)) d.monitors
+    (g.S.SeqObject.spec c.args.sequential.now) _ _ _ d.one d.other c.most_rounds-most.ensures.rounds
 
 pub returns-in-Some-clause-answer : goal.returns-in-Some-clause-answer
 returns-in-Some-clause-answer g c =
     let d = c.in_ok-lines.ensures in
     found_by _ _ _ _ c.args.script.now _ _ _ _ c.requires.begins d.bench d.lines
-    (omega (arith, d.all_lines)) d.monitors (g.S.SeqObject.init c.args.sequential.now)
-    (g.S.SeqObject.next c.args.sequential.now) _ _ _ d.one d.other c.in-Some.witness
+    (omega (arith, d.all_lines)) d.monitors
+    (g.S.SeqObject.spec c.args.sequential.now) _ _ _ d.one d.other c.in-Some.witness
     c.in-Some.ensures
 
 pub judge_lines-requires-clause-lines : goal.judge_lines-requires-clause-lines
@@ -93,7 +93,7 @@ returns-in-None-clause-rounds g c =
     let d = c.in_ok-lines.ensures in
     if_ok_as c.judge_lines.result _ _ (λ answer h. all_monitored _ _ _ _ c.args.script.now _ _ _ _
     c.requires.begins d.bench d.lines (omega (arith, d.all_lines)) d.monitors
-    (g.S.SeqObject.init c.args.sequential.now) (g.S.SeqObject.next c.args.sequential.now) _ _ _
+    (g.S.SeqObject.spec c.args.sequential.now) _ _ _
     d.one d.other c.most_rounds-most.ensures.rounds) c.judge_lines.ensures
 
 pub returns-in-None-clause-answer : goal.returns-in-None-clause-answer
@@ -101,5 +101,5 @@ returns-in-None-clause-answer g c =
     let d = c.in_ok-lines.ensures in
     if_ok_as c.judge_lines.result _ _
     (judged _ _ _ _ c.args.script.now _ _ _ _ c.requires.begins d.bench d.lines
-    (omega (arith, d.all_lines)) d.monitors (g.S.SeqObject.init c.args.sequential.now)
-    (g.S.SeqObject.next c.args.sequential.now)) c.judge_lines.ensures
+    (omega (arith, d.all_lines)) d.monitors (g.S.SeqObject.spec c.args.sequential.now))
+    c.judge_lines.ensures

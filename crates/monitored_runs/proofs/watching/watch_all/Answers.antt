@@ -98,8 +98,8 @@ pub returns-clause-one : goal.returns-clause-one
 returns-clause-one g c l here =
     let n = length c.args.script.now.operations in
     let count = c.callers-callers.ensures.count in
-    back_watched (g.S.SeqObject.init c.args.sequential.now)
-    (g.S.SeqObject.next c.args.sequential.now) c.args.shared.now.rows.now.callers n c.args.rounds
+    back_watched (g.S.SeqObject.spec c.args.sequential.now) c.args.shared.now.rows.now.callers n
+    c.args.rounds
     c.args.bench.now c.start_all.new.bench c.watch_in-one.new.bench c.end_all.new.bench
     c.start_all.ensures.others c.end_all.ensures.others c.watch_in-one.result.0 n
     c.callers-callers.result (omega (arith, count))
@@ -109,8 +109,8 @@ pub returns-clause-other : goal.returns-clause-other
 returns-clause-other g c l here =
     let n = length c.args.script.now.operations in
     let count = c.callers-callers.ensures.count in
-    back_watched (g.S.SeqObject.init c.args.sequential.now)
-    (g.S.SeqObject.next c.args.sequential.now) c.args.shared.now.rows.now.callers n c.args.rounds
+    back_watched (g.S.SeqObject.spec c.args.sequential.now) c.args.shared.now.rows.now.callers n
+    c.args.rounds
     c.args.bench.now c.start_all.new.bench c.watch_in-one.new.bench c.end_all.new.bench
     c.start_all.ensures.others c.end_all.ensures.others c.watch_in-one.result.1 (n + 1)
     (c.callers-callers.result + 1) (omega (arith, count))

@@ -1,6 +1,6 @@
 use Rattle.std.proofs.Common.{◌∙◌, ap, sym}
 use Rattle.seq_objects.specs.declared.kind.Kind.{Kind}
-use Rattle.run_writer.specs.Runs.{object_of_kind}
+use Rattle.seq_objects.specs.Objects.{kind_spec}
 use Rattle.run_writer.proofs.RunLemmas.{RunEnds-from_report}
 use Rattle.run_writer.proofs.RunningLemmas.{has_form}
 use Rattle.named_runs.specs.Worlds.{inside_of}
@@ -12,13 +12,13 @@ pub write_report-requires : goal.write_report-requires
 write_report-requires g c =
     let found = rw c.in-Ok-Some.field-0-is at c.in-Ok-Some.ensures.report in
     record {
-      form = has_form _ (object_of_kind c.kind-kind.result) c.args.form c.in-Ok-Some.report
-          (ap object_of_kind (sym c.kind-kind.ensures)) found.named.report.lawful;
+      form = has_form _ (kind_spec c.kind-kind.result) c.args.form c.in-Ok-Some.report
+          (ap kind_spec (sym c.kind-kind.ensures)) found.named.report.lawful;
     }
 
 pub returns-in-Ok-Some-clause-ends : goal.returns-in-Ok-Some-clause-ends
 returns-in-Ok-Some-clause-ends g c =
-    RunEnds-from_report _ _ _ _ _ _ _ _ (ap object_of_kind c.kind-kind.ensures)
+    RunEnds-from_report _ _ _ _ _ _ _ _ (ap kind_spec c.kind-kind.ensures)
     (rw c.in-Ok-Some.field-0-is at c.in-Ok-Some.ensures.report) c.write_report.ensures.ends
 
 pub returns-in-Ok-Some-clause-fine : goal.returns-in-Ok-Some-clause-fine

@@ -16,18 +16,16 @@ use Rattle.order_check.proofs.order.check_order.Goals as goal
 
 pub returns-in-Some-clause-fault : goal.returns-in-Some-clause-fault
 returns-in-Some-clause-fault g c =
-    let init = g.S.SeqObject.init c.args.object.now in
-    let next = g.S.SeqObject.next c.args.object.now in
-    first_fault init next c.args.book.now c.args.order.now c.loop-p.p c.in-Some.fault
+    let spec = g.S.SeqObject.spec c.args.object.now in
+    first_fault spec c.args.book.now c.args.order.now c.loop-p.p c.in-Some.fault
     c.loop-p-test.true c.loop-p.invariant.in_place c.loop-p.invariant.given
-    (c.in-Some.ensures.fault init next)
+    (c.in-Some.ensures.fault spec)
 
 pub returns-in-Some-clause-accepted : goal.returns-in-Some-clause-accepted
 returns-in-Some-clause-accepted g c legal =
-    let init = g.S.SeqObject.init c.args.object.now in
-    let next = g.S.SeqObject.next c.args.object.now in
-    absurd (legal_orders_fail_no_test init next c.args.book.now c.args.order.now legal
-    c.in-Some.fault (c.in-Some.ensures.fault init next).fails)
+    let spec = g.S.SeqObject.spec c.args.object.now in
+    absurd (legal_orders_fail_no_test spec c.args.book.now c.args.order.now legal
+    c.in-Some.fault (c.in-Some.ensures.fault spec).fails)
 
 pub op-requires : goal.op-requires
 op-requires g c =
@@ -67,8 +65,7 @@ step-wanted-requires g c =
 
 pub returns-then-wanted-place-clause-fault : goal.returns-then-wanted-place-clause-fault
 returns-then-wanted-place-clause-fault g c =
-    let init = g.S.SeqObject.init c.args.object.now in
-    let next = g.S.SeqObject.next c.args.object.now in
+    let spec = g.S.SeqObject.spec c.args.object.now in
     let order = c.args.order.now in
     let book = c.args.book.now in
     let p = c.loop-p.p in
@@ -76,18 +73,17 @@ returns-then-wanted-place-clause-fault g c =
     let at : slice_get order p ≡ Some here = slice_get-get_or order p no_place c.loop-p-test.true in
     let op : operation_of book (call_at here) ≡ Some c.op.result =
     subst (λ (x : Call). operation_of book x ≡ Some c.op.result) c.call_at.ensures c.op.ensures in
-    let wanted : c.step-wanted.result ≡ reply_after_places init next book order p here =
-    c.step-wanted.ensures.reply ∙ reply_more init next book order p c.op.result c.loop-p.state.words
+    let wanted : c.step-wanted.result ≡ reply_after_places spec book order p here =
+    c.step-wanted.ensures.reply ∙ reply_more spec book order p c.op.result c.loop-p.state.words
     here op c.loop-p.invariant.words in
-    first_fault init next book order p (Run p c.step-wanted.result here.reply) c.loop-p-test.true
+    first_fault spec book order p (Run p c.step-wanted.result here.reply) c.loop-p-test.true
     c.loop-p.invariant.in_place c.loop-p.invariant.given
-    (run_first init next book order p here c.step-wanted.result at c.in_default.ensures.none wanted
+    (run_first spec book order p here c.step-wanted.result at c.in_default.ensures.none wanted
     c.if-wanted-place.true)
 
 pub returns-then-wanted-place-clause-accepted : goal.returns-then-wanted-place-clause-accepted
 returns-then-wanted-place-clause-accepted g c legal =
-    let init = g.S.SeqObject.init c.args.object.now in
-    let next = g.S.SeqObject.next c.args.object.now in
+    let spec = g.S.SeqObject.spec c.args.object.now in
     let order = c.args.order.now in
     let book = c.args.book.now in
     let p = c.loop-p.p in
@@ -95,10 +91,10 @@ returns-then-wanted-place-clause-accepted g c legal =
     let at : slice_get order p ≡ Some here = slice_get-get_or order p no_place c.loop-p-test.true in
     let op : operation_of book (call_at here) ≡ Some c.op.result =
     subst (λ (x : Call). operation_of book x ≡ Some c.op.result) c.call_at.ensures c.op.ensures in
-    let wanted : c.step-wanted.result ≡ reply_after_places init next book order p here =
-    c.step-wanted.ensures.reply ∙ reply_more init next book order p c.op.result c.loop-p.state.words
+    let wanted : c.step-wanted.result ≡ reply_after_places spec book order p here =
+    c.step-wanted.ensures.reply ∙ reply_more spec book order p c.op.result c.loop-p.state.words
     here op c.loop-p.invariant.words in
-    absurd (legal_orders_fail_no_test init next book order legal
+    absurd (legal_orders_fail_no_test spec book order legal
     (Run p c.step-wanted.result here.reply) (here, at, wanted, refl, c.if-wanted-place.true))
 
 pub overflow_add-place : goal.overflow_add-place
@@ -115,8 +111,7 @@ overflow_add-place g c =
 
 pub loop-p-preserved : goal.loop-p-preserved
 loop-p-preserved g c =
-    let init = g.S.SeqObject.init c.args.object.now in
-    let next = g.S.SeqObject.next c.args.object.now in
+    let spec = g.S.SeqObject.spec c.args.object.now in
     let order = c.args.order.now in
     let book = c.args.book.now in
     let p = c.loop-p.p in
@@ -134,16 +129,16 @@ loop-p-preserved g c =
     c.set.ensures ∙ ap (λ (n : ℕ). set standing here.caller (n + 1)) number in
     let op : operation_of book (call_at here) ≡ Some c.op.result =
     subst (λ (x : Call). operation_of book x ≡ Some c.op.result) c.call_at.ensures c.op.ensures in
-    let words : c.step-wanted.new.state.words ≡ (next c.loop-p.state.words c.op.result).0 =
+    let words : c.step-wanted.new.state.words ≡ (spec.next c.loop-p.state.words c.op.result).0 =
     ap (λ s. s.words) c.step-wanted.ensures.list in
     let longer =
     g.met.S.SeqObject.grows_by_one c.args.object.now c.loop-p.state.words c.op.result in
-    let wanted : reply_after_places init next book order p here ≡ here.reply =
-    sym (reply_more init next book order p c.op.result c.loop-p.state.words here op before.words)
+    let wanted : reply_after_places spec book order p here ≡ here.reply =
+    sym (reply_more spec book order p c.op.result c.loop-p.state.words here op before.words)
     ∙ (sym c.step-wanted.ensures.reply ∙ c.if-wanted-place.false) in
     record {
       room = ap (λ s. s.room) c.step-wanted.ensures.list ∙ before.room;
-      words = words ∙ list_more init next book order p c.op.result c.loop-p.state.words
+      words = words ∙ list_more spec book order p c.op.result c.loop-p.state.words
           c.loop-p-test.true op before.words;
       short = omega (
         arith,
@@ -162,22 +157,21 @@ loop-p-preserved g c =
         | inr other ↦ before.in_place k (omega (arith, less, other))
       ];
       given = λ (k : ℕ) (less : k < p + 1). elim (cases_eq k p) [
-        | inl same ↦ subst (IsGiven init next book order) (sym same)
-            (given_here init next book order p here at wanted)
+        | inl same ↦ subst (IsGiven spec book order) (sym same)
+            (given_here spec book order p here at wanted)
         | inr other ↦ before.given k (omega (arith, less, other))
       ];
     }
 
 pub returns-in-Some-first_missing-clause-fault : goal.returns-in-Some-first_missing-clause-fault
 returns-in-Some-first_missing-clause-fault g c =
-    let init = g.S.SeqObject.init c.args.object.now in
-    let next = g.S.SeqObject.next c.args.object.now in
+    let spec = g.S.SeqObject.spec c.args.object.now in
     let order = c.args.order.now in
     let book = c.args.book.now in
     let all : c.loop-p.p ≡ length order = omega (arith, c.loop-p-test.false, c.loop-p.auto.p-end) in
-    missing_first init next book order c.loop-p.standing c.in-Some-first_missing.call
+    missing_first spec book order c.loop-p.standing c.in-Some-first_missing.call
     (subst (λ (n : ℕ). (k : ℕ) → k < n → IsInPlace book order k) all c.loop-p.invariant.in_place)
-    (subst (λ (n : ℕ). (k : ℕ) → k < n → IsGiven init next book order k) all
+    (subst (λ (n : ℕ). (k : ℕ) → k < n → IsGiven spec book order k) all
     c.loop-p.invariant.given)
     (subst (λ (n : ℕ). IsStanding book order n c.loop-p.standing) all c.loop-p.invariant.standing)
     c.in-Some-first_missing.ensures.answered c.in-Some-first_missing.ensures.missing
@@ -186,33 +180,31 @@ returns-in-Some-first_missing-clause-fault g c =
 pub returns-in-Some-first_missing-clause-accepted :
     goal.returns-in-Some-first_missing-clause-accepted
 returns-in-Some-first_missing-clause-accepted g c legal =
-    let init = g.S.SeqObject.init c.args.object.now in
-    let next = g.S.SeqObject.next c.args.object.now in
+    let spec = g.S.SeqObject.spec c.args.object.now in
     let order = c.args.order.now in
     let book = c.args.book.now in
     let all : c.loop-p.p ≡ length order = omega (arith, c.loop-p-test.false, c.loop-p.auto.p-end) in
     let call : Call = c.in-Some-first_missing.call in
-    let first : IsFirstFault init next book order (Missing call.caller call.number) =
-    missing_first init next book order c.loop-p.standing call
+    let first : IsFirstFault spec book order (Missing call.caller call.number) =
+    missing_first spec book order c.loop-p.standing call
     (subst (λ (n : ℕ). (k : ℕ) → k < n → IsInPlace book order k) all c.loop-p.invariant.in_place)
-    (subst (λ (n : ℕ). (k : ℕ) → k < n → IsGiven init next book order k) all
+    (subst (λ (n : ℕ). (k : ℕ) → k < n → IsGiven spec book order k) all
     c.loop-p.invariant.given)
     (subst (λ (n : ℕ). IsStanding book order n c.loop-p.standing) all c.loop-p.invariant.standing)
     c.in-Some-first_missing.ensures.answered c.in-Some-first_missing.ensures.missing
     c.in-Some-first_missing.ensures.least in
-    absurd (legal_orders_fail_no_test init next book order legal
+    absurd (legal_orders_fail_no_test spec book order legal
     (Missing call.caller call.number) first.fails)
 
 pub returns-clause-legal : goal.returns-clause-legal
 returns-clause-legal g c =
-    let init = g.S.SeqObject.init c.args.object.now in
-    let next = g.S.SeqObject.next c.args.object.now in
+    let spec = g.S.SeqObject.spec c.args.object.now in
     let order = c.args.order.now in
     let book = c.args.book.now in
     let all : c.loop-p.p ≡ length order = omega (arith, c.loop-p-test.false, c.loop-p.auto.p-end) in
-    legal init next book order c.loop-p.standing c.callers.ensures.valid
+    legal spec book order c.loop-p.standing c.callers.ensures.valid
     (subst (λ (n : ℕ). (k : ℕ) → k < n → IsInPlace book order k) all c.loop-p.invariant.in_place)
-    (subst (λ (n : ℕ). (k : ℕ) → k < n → IsGiven init next book order k) all
+    (subst (λ (n : ℕ). (k : ℕ) → k < n → IsGiven spec book order k) all
     c.loop-p.invariant.given)
     (subst (λ (n : ℕ). IsStanding book order n c.loop-p.standing) all c.loop-p.invariant.standing)
     c.in-None.ensures.none

@@ -9,12 +9,10 @@ use Rattle.order_check.proofs.order.check_order.Given as goal
 abbrev pub invariant-loop-p : goal.invariant-loop-p
 invariant-loop-p g l = record {
   room : l.state.room ≡ CAPACITY;
-  words : l.state.words
-      ≡ list_before (g.S.SeqObject.init l.object) (g.S.SeqObject.next l.object) l.book l.order l.p;
+  words : l.state.words ≡ list_before (g.S.SeqObject.spec l.object) l.book l.order l.p;
   short : length l.state.words ≤ sum l.standing + 1;
   made : (i : ℕ) → get_or l.standing i 0 ≤ calls_of l.book i;
   standing : IsStanding l.book l.order l.p l.standing;
   in_place : (k : ℕ) → k < l.p → IsInPlace l.book l.order k;
-  given : (k : ℕ) → k < l.p
-      → IsGiven (g.S.SeqObject.init l.object) (g.S.SeqObject.next l.object) l.book l.order k;
+  given : (k : ℕ) → k < l.p → IsGiven (g.S.SeqObject.spec l.object) l.book l.order k;
 }

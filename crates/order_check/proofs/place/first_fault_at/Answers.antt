@@ -11,25 +11,25 @@ use Rattle.order_check.proofs.FirstAt.{unknown_first, twice_first, skipped_first
 use Rattle.order_check.proofs.place.first_fault_at.Goals as goal
 
 pub returns-then-not-is_call-clause-fault : goal.returns-then-not-is_call-clause-fault
-returns-then-not-is_call-clause-fault c = λ init next.
+returns-then-not-is_call-clause-fault c = λ spec.
     let order = c.args.order.now in
     let p = c.args.at in
     let book = c.args.book.now in
     let here : Place = get_or order p no_place in
     let at : slice_get order p ≡ Some here = slice_get-get_or order p no_place c.requires.place in
-    unknown_first init next book order p here at (λ (is : IsCall book (call_at here)).
+    unknown_first spec book order p here at (λ (is : IsCall book (call_at here)).
     let made = c.is_call.ensures.1 (subst (IsCall book) (sym c.call_at-call.ensures) is) in
     cc)
 
 pub returns-then-call-next-clause-fault : goal.returns-then-call-next-clause-fault
-returns-then-call-next-clause-fault c = λ init next.
+returns-then-call-next-clause-fault c = λ spec.
     let order = c.args.order.now in
     let p = c.args.at in
     let here : Place = get_or order p no_place in
     let at : slice_get order p ≡ Some here = slice_get-get_or order p no_place c.requires.place in
     let is : IsCall c.args.book.now (call_at here) = subst
     (IsCall c.args.book.now) c.call_at-call.ensures (c.is_call.ensures.0 c.if-not-is_call.false) in
-    twice_first init next c.args.book.now order p c.args.standing.now here c.requires.standing at is
+    twice_first spec c.args.book.now order p c.args.standing.now here c.requires.standing at is
     (omega (
       arith,
       c.if-call-next.true,
@@ -39,14 +39,14 @@ returns-then-call-next-clause-fault c = λ init next.
     ))
 
 pub returns-then-call-next-2-clause-fault : goal.returns-then-call-next-2-clause-fault
-returns-then-call-next-2-clause-fault c = λ init next.
+returns-then-call-next-2-clause-fault c = λ spec.
     let order = c.args.order.now in
     let p = c.args.at in
     let here : Place = get_or order p no_place in
     let at : slice_get order p ≡ Some here = slice_get-get_or order p no_place c.requires.place in
     let is : IsCall c.args.book.now (call_at here) = subst
     (IsCall c.args.book.now) c.call_at-call.ensures (c.is_call.ensures.0 c.if-not-is_call.false) in
-    skipped_first init next c.args.book.now order p c.args.standing.now here
+    skipped_first spec c.args.book.now order p c.args.standing.now here
     c.requires.standing at is
     (omega (
       arith,
@@ -89,7 +89,7 @@ returns-then-call-answers-clause-none c =
     absurd (omega (arith, unanswered, slice_get_within _ here.number r known)))
 
 pub returns-in-Some-clause-fault : goal.returns-in-Some-clause-fault
-returns-in-Some-clause-fault c = λ init next.
+returns-in-Some-clause-fault c = λ spec.
     let order = c.args.order.now in
     let p = c.args.at in
     let book = c.args.book.now in
@@ -107,14 +107,14 @@ returns-in-Some-clause-fault c = λ init next.
       ap (λ (x : Call). get_or c.args.standing.now x.caller 0) c.call_at-call.ensures,
     ) in
     let found = c.in-Some.ensures.preceded in
-    late_first init next book order p c.in-Some.earlier c.args.standing.now here c.requires.standing
+    late_first spec book order p c.in-Some.earlier c.args.standing.now here c.requires.standing
     at is number found.0 found.1.0 found.1.1
     (subst (λ (x : Call). Precedes book x found.1.0) c.call_at-call.ensures found.1.2)
     (subst (λ (x : Call). (j : ℕ) (other : Call) → j < c.in-Some.earlier → StandsAt order j other
     → Precedes book x other → ⊥) c.call_at-call.ensures c.in-Some.ensures.least)
 
 pub returns-then-wanted-place-clause-fault : goal.returns-then-wanted-place-clause-fault
-returns-then-wanted-place-clause-fault c = λ init next.
+returns-then-wanted-place-clause-fault c = λ spec.
     let order = c.args.order.now in
     let p = c.args.at in
     let book = c.args.book.now in
@@ -131,7 +131,7 @@ returns-then-wanted-place-clause-fault c = λ init next.
       ap (λ (x : Call). x.number) c.call_at-call.ensures,
       ap (λ (x : Call). get_or c.args.standing.now x.caller 0) c.call_at-call.ensures,
     ) in
-    record_first init next book order p c.args.standing.now here c.record-wanted.result
+    record_first spec book order p c.args.standing.now here c.record-wanted.result
     c.requires.standing at is number
     (subst (λ (x : Call). (j : ℕ) (other : Call) → j < p → StandsAt order j other
     → Precedes book x other → ⊥) c.call_at-call.ensures c.in_default.ensures.none)

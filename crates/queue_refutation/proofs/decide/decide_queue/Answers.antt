@@ -3,5 +3,5 @@ use Rattle.queue_refutation.proofs.decide.decide_queue.Goals as goal
 
 pub returns-then-branch : goal.returns-then-branch
 returns-then-branch g c has =
-    c.in_ok-refute_by_counts.ensures.refuted c.if-branch.true _ _ _ _ c.in_ok-table.ensures
+    c.in_ok-refute_by_counts.ensures.refuted c.if-branch.true _ _ _ c.in_ok-table.ensures
     (queue_is_container _ _ c.requires.queue) c.requires.empty has

@@ -13,7 +13,7 @@ returns-clause-lines c = delivered_lines
 
 pub returns-clause-lawful : goal.returns-clause-lawful
 returns-clause-lawful c =
-    worlds_are_lawful [] tenfold pair five_and_six (5 ∷ 5 ∷ [])
+    worlds_are_lawful tenfold pair five_and_six (5 ∷ 5 ∷ [])
     (locals_after two_calls) both_delivered both_together delivered_lines (search rules)
 
 pub returns-clause-errors : goal.returns-clause-errors
@@ -21,7 +21,7 @@ returns-clause-errors c = failed_lines
 
 pub returns-clause-lawful_errors : goal.returns-clause-lawful_errors
 returns-clause-lawful_errors c =
-    worlds_are_lawful [] silent pair five_and_six (5 ∷ 5 ∷ [])
+    worlds_are_lawful silent pair five_and_six (5 ∷ 5 ∷ [])
     (locals_after two_calls) both_failed both_together failed_lines (search rules)
 
 pub returns-clause-false_error : goal.returns-clause-false_error

@@ -9,5 +9,5 @@ use Rattle.report_laws.proofs.cases.an_error_ends_the_lines.Goals as goal
 
 pub returns-clause-lawful : goal.returns-clause-lawful
 returns-clause-lawful c =
-    worlds_are_lawful [] silent pair ((5 ∷ 7 ∷ []) ∷ (6 ∷ 8 ∷ []) ∷ []) (10 ∷ 10 ∷ [])
+    worlds_are_lawful silent pair ((5 ∷ 7 ∷ []) ∷ (6 ∷ 8 ∷ []) ∷ []) (10 ∷ 10 ∷ [])
     (locals_after two_calls) both_failed both_together failed_lines (search rules)

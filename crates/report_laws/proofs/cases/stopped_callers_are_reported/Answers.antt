@@ -11,10 +11,10 @@ returns-clause-run c = stopped_together
 
 pub returns-clause-lawful : goal.returns-clause-lawful
 returns-clause-lawful c =
-    worlds_are_lawful [] silent pair five_and_six (3 ∷ 2 ∷ [])
+    worlds_are_lawful silent pair five_and_six (3 ∷ 2 ∷ [])
     (locals_after (take 24 two_calls)) stopped stopped_together stopped_lines (search rules)
 
 pub returns-clause-without_calls : goal.returns-clause-without_calls
 returns-clause-without_calls c =
-    worlds_are_lawful [] silent pair five_and_six (0 ∷ 0 ∷ [])
+    worlds_are_lawful silent pair five_and_six (0 ∷ 0 ∷ [])
     (locals_after []) nothing none_together no_lines (search rules)

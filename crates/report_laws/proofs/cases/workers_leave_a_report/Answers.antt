@@ -11,7 +11,7 @@ pub returns-clause-worked : goal.returns-clause-worked
 returns-clause-worked c = both_worked
 
 pub returns-clause-lawful : goal.returns-clause-lawful
-returns-clause-lawful c = workers_are_lawful [] tenfold pair five_and_six (4 ∷ 5 ∷ [])
+returns-clause-lawful c = workers_are_lawful tenfold pair five_and_six (4 ∷ 5 ∷ [])
     (locals_after one_judging) one_unchecked judging_together both_worked
 
 pub returns-clause-unpublished : goal.returns-clause-unpublished

@@ -20,7 +20,7 @@ published_together = (
   refl,
 )
 
-published_lines : AreLinesOf [] silent (locals_after (announced_both ++ published_one)) stopped
+published_lines : AreLinesOf silent (locals_after (announced_both ++ published_one)) stopped
 published_lines = record { calls = refl; judged = stopped_lines.judged }
 
 recorded : HaveMade pair five_and_six (3 ∷ 2 ∷ []) (locals_after (take 24 two_calls)) stopped
@@ -50,7 +50,7 @@ returns-clause-recorded c = record {
   lines = stopped_lines;
   made = recorded.made;
   asked = asked_second 3 (inl refl) (locals_after (take 24 two_calls));
-  lawful = worlds_are_lawful [] silent pair five_and_six (3 ∷ 2 ∷ [])
+  lawful = worlds_are_lawful silent pair five_and_six (3 ∷ 2 ∷ [])
       (locals_after (take 24 two_calls)) stopped stopped_together stopped_lines recorded;
 }
 
@@ -61,7 +61,7 @@ returns-clause-published c = record {
   lines = published_lines;
   made = published.made;
   asked = asked_second 4 (inr refl) (locals_after (announced_both ++ published_one));
-  lawful = worlds_are_lawful [] silent pair five_and_six (4 ∷ 2 ∷ [])
+  lawful = worlds_are_lawful silent pair five_and_six (4 ∷ 2 ∷ [])
       (locals_after (announced_both ++ published_one)) stopped published_together
       published_lines published;
 }

@@ -1,5 +1,4 @@
 use Rattle.std.proofs.Common.{sym, ap}
-use Rattle.script_workers.specs.Starts.{object_by}
 use Rattle.run_writer.proofs.RunLemmas.{RunEnds-from_report}
 use Rattle.run_writer.proofs.RunningLemmas.{one_standing, has_form}
 use Rattle.run_writer.proofs.run.core_and_write.Goals as goal
@@ -7,14 +6,14 @@ use Rattle.run_writer.proofs.run.core_and_write.Goals as goal
 pub write_report-requires : goal.write_report-requires
 write_report-requires g c = record {
   form = has_form _ _ c.args.form c.in-Ok.report
-      (ap (object_by g.O.S.SeqObject.init g.O.S.SeqObject.next) (sym c.sequential.ensures))
+      (ap g.O.S.SeqObject.spec (sym c.sequential.ensures))
       c.in-Ok.ensures.report.lawful;
 }
 
 pub returns-in-Ok-clause-ends : goal.returns-in-Ok-clause-ends
 returns-in-Ok-clause-ends g c =
     RunEnds-from_report _ _ _ _ _ _ _ _
-    (ap (object_by g.O.S.SeqObject.init g.O.S.SeqObject.next) c.sequential.ensures)
+    (ap g.O.S.SeqObject.spec c.sequential.ensures)
     (record { report = c.in-Ok.ensures.report; no_error = c.in-Ok.ensures.no_error })
     c.write_report.ensures.ends
 

@@ -1,18 +1,18 @@
 use Rattle.std.proofs.Common.{refl, ap}
+use Rattle.seq_objects.specs.Objects.{kind_spec}
 use Rattle.run_writer.proofs.RunLemmas.{RunEnds-from_report}
 use Rattle.run_writer.proofs.RunningLemmas.{by_its_kind, ends_by_one, no_memory_ends, has_form}
-use Rattle.run_writer.specs.Runs.{object_of_kind}
 use Rattle.run_writer.proofs.run.replay_and_write.Goals as goal
 
 pub write_report-requires : goal.write_report-requires
 write_report-requires g c = record {
-  form = has_form (object_of_kind c.kind-kind.result) _ c.args.form _ refl
+  form = has_form (kind_spec c.kind-kind.result) _ c.args.form _ refl
       c.in-Ok.ensures.report.lawful;
 }
 
 pub returns-in-Ok-clause-ends : goal.returns-in-Ok-clause-ends
 returns-in-Ok-clause-ends g c =
-    RunEnds-from_report _ _ _ _ _ _ _ _ (ap object_of_kind c.kind-kind.ensures)
+    RunEnds-from_report _ _ _ _ _ _ _ _ (ap kind_spec c.kind-kind.ensures)
     (record {
       report = by_its_kind _ _ _ _ _ _ c.kind-kind.ensures c.in-Ok.ensures.report;
       told_in = c.in-Ok.ensures.told;

@@ -2,6 +2,7 @@ use Rattle.std.proofs.Common.{◌≡◌, ◌∙◌, sym, subst, ap, refl, ℕ, L
 use Rattle.std.specs.Prelude.{IfSome}
 use Rattle.std.proofs.lemmas.List.{map-append}
 use Rattle.std.proofs.lemmas.Slice.{pushed}
+use Rattle.book_base.specs.SeqSpec.{SeqSpec}
 use Rattle.world_core.specs.Local.{Local}
 use Rattle.world_core.specs.Calls.{calls_in}
 use Rattle.report_lines.specs.Phases.{HasMade, IsTold}
@@ -11,7 +12,7 @@ use Rattle.reports.specs.declared.report.Own.{Own}
 use Rattle.reports.specs.ReportLayout.{lines_in}
 use Rattle.client_calls.specs.Stands.{caller_at, local_at_stand}
 use Rattle.client_calls.specs.Clients.{phases_by}
-use Rattle.client_calls.specs.Ends.{Sequential, HasLeftAt}
+use Rattle.client_calls.specs.Ends.{HasLeftAt}
 use Rattle.client_calls.specs.Course.{HasTold, HasCounted}
 use Rattle.client_calls.proofs.Told.{if_some_as}
 use Rattle.script_workers.specs.Starts.{allotments_by, course_of}
@@ -100,7 +101,7 @@ returns-clause-back g c =
           c.requires.next_lines;
       free = λ none. done.free (sym done.wants_memory ∙ none);
       left = λ none.
-          subst (λ (o : Sequential).
+          subst (λ (o : SeqSpec).
           HasLeftAt (g.E.Ending.says o) r.callers (operations_at course.operations i)
           (slice_index course.allotments i) (phases_by k) l f.lines.items) judges
           (subst

@@ -1,10 +1,10 @@
-use Rattle.seq_objects.specs.Objects.{kind_init, kind_next}
+use Rattle.seq_objects.specs.Objects.{kind_spec}
 use Rattle.smaller_book.proofs.LeastCuts.{least_from_open}
 use Rattle.smaller_book.proofs.cuts.least_cut.Goals as goal
 
 pub returns-then-branch : goal.returns-then-branch
 returns-then-branch c =
-    least_from_open (kind_init c.args.kind) (kind_next c.args.kind) c.args.book.now
+    least_from_open (kind_spec c.args.kind) c.args.book.now
     c.in_ok-least.least c.callers-callers.ensures.valid
     (c.in_ok-is_large_and_open_at-2.ensures.large c.if-branch.true)
     (c.in_ok-is_large_and_open_at-2.ensures.open c.if-branch.true) c.in_ok-least.ensures

@@ -1,9 +1,9 @@
 use Rattle.std.proofs.Common.{ℕ, ◌<◌}
-use Rattle.seq_objects.specs.Objects.{kind_init, kind_next}
+use Rattle.seq_objects.specs.Objects.{kind_spec}
 use Rattle.smaller_book.specs.Earliest.{IsIllegalCut, IsLeastAt}
 use Rattle.smaller_book.proofs.cuts.least_of_all.Given as goal
 
 abbrev pub invariant-loop-caller : goal.invariant-loop-caller
 invariant-loop-caller l =
-    IsIllegalCut (kind_init l.kind) (kind_next l.kind) l.book l.least
-    × ((j : ℕ) → j < l.caller → IsLeastAt (kind_init l.kind) (kind_next l.kind) l.book l.least j)
+    IsIllegalCut (kind_spec l.kind) l.book l.least
+    × ((j : ℕ) → j < l.caller → IsLeastAt (kind_spec l.kind) l.book l.least j)

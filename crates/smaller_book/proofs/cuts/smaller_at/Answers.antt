@@ -2,7 +2,7 @@ use Rattle.std.proofs.Common.{ℕ, List, length, sym, subst, ◌∙◌}
 use Rattle.std.specs.List.{range_with_len}
 use Rattle.std.proofs.lemmas.List.FromFn.{length-map-range_with_len}
 use Rattle.book_base.specs.Book.{Page, calls_of}
-use Rattle.seq_objects.specs.Objects.{kind_init, kind_next}
+use Rattle.seq_objects.specs.Objects.{kind_next, kind_spec}
 use Rattle.smaller_book.specs.Earliest.{all_numbers}
 use Rattle.smaller_book.specs.Minimal.{IsSmaller}
 use Rattle.smaller_book.proofs.Evidence.{evidence_from_all}
@@ -25,8 +25,8 @@ returns c =
       wide = length-map-range_with_len kept_by 0 (length part) ∙ is.callers;
       evidence = evidence_from_all kind book part (carried_to_cut (kind_next kind) book cut part
           valid c.requires.within c.in_ok-part.ensures);
-      illegal = illegal_from_cut (kind_init kind)
-          (kind_next kind) book cut part valid c.requires c.in_ok-part.ensures;
+      illegal =
+          illegal_from_cut (kind_spec kind) book cut part valid c.requires c.in_ok-part.ensures;
       fewer = size-less_at book (all_numbers part) part fewer.0 is fewer.1;
     } in
     subst (λ names. IsSmaller kind book names part) (sym c.in_ok-numbers.ensures) whole

@@ -1,12 +1,12 @@
 use Rattle.std.proofs.Common.{sym, subst}
-use Rattle.seq_objects.specs.Objects.{kind_init, kind_next}
+use Rattle.seq_objects.specs.Objects.{kind_spec}
 use Rattle.smaller_book.specs.Earliest.{IsIllegalCut}
 use Rattle.smaller_book.proofs.LeastCuts.{illegal_at_all}
 use Rattle.smaller_book.proofs.cuts.without_open.Goals as goal
 
 pub least_open_cut-requires : goal.least_open_cut-requires
 least_open_cut-requires c =
-    subst (IsIllegalCut (kind_init c.args.kind) (kind_next c.args.kind) c.args.book.now)
+    subst (IsIllegalCut (kind_spec c.args.kind) c.args.book.now)
     (sym c.all_records.ensures)
-    (illegal_at_all (kind_init c.args.kind)
-    (kind_next c.args.kind) c.args.book.now c.callers-callers.ensures.valid c.requires)
+    (illegal_at_all (kind_spec c.args.kind) c.args.book.now
+    c.callers-callers.ensures.valid c.requires)

@@ -3,12 +3,12 @@ use Rattle.std.specs.Prelude.{◌↔◌, IsTrue, IsSomeAnd}
 use Rattle.book_base.specs.declared.call.Record.{Record}
 use Rattle.book_base.specs.Book.{operation_of}
 use Rattle.book_base.specs.PruningRules.{Leaves}
-use Rattle.seq_objects.specs.Objects.{kind_next}
+use Rattle.seq_objects.specs.Objects.{kind_spec}
 use Rattle.smaller_book.proofs.removal.is_read_only.Goals as goal
 
 pub returns : goal.returns
 returns c =
-    let next = kind_next c.args.kind in
+    let next = (kind_spec c.args.kind).next in
     let P : Option ℕ → Option Record → Type 0 = λ op known. IsTrue c.leaves.result
     ↔ IsSomeAnd known (λ r. Leaves next (unwrap_or op 0) r.reply) in
     subst (λ known. P (operation_of c.args.book.now c.args.call) known)

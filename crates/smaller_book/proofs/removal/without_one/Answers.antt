@@ -1,7 +1,7 @@
 use Rattle.std.proofs.Common.{ℕ, sym, subst, inl, inr, arith}
 use Rattle.std.specs.Prelude.{IfNone}
 use Rattle.std.proofs.lemmas.Bool.{cases_eq}
-use Rattle.seq_objects.specs.Objects.{kind_next}
+use Rattle.seq_objects.specs.Objects.{kind_spec}
 use Rattle.smaller_book.specs.ReadOnly.{IsReadOnly}
 use Rattle.smaller_book.specs.Minimal.{IsNeeded}
 use Rattle.smaller_book.proofs.removal.without_one.Goals as goal
@@ -9,7 +9,7 @@ use Rattle.smaller_book.proofs.removal.without_one.Goals as goal
 pub loop-caller-preserved : goal.loop-caller-preserved
 loop-caller-preserved c call late below leaves =
     let kind = c.args.kind in
-    let next = kind_next c.args.kind in
+    let next = (kind_spec c.args.kind).next in
     let book = c.args.book.now in
     let i = c.loop-caller.caller in
     elim (cases_eq call.caller i) [

@@ -3,11 +3,11 @@ use Rattle.stack_pruning.proofs.Representing.{stand_for_itself}
 use Rattle.stack_pruning.proofs.last_first.narrow_last_first.Goals as goal
 
 pub returns-clause-suffice : goal.returns-clause-suffice
-returns-clause-suffice g c init next bound is small reached =
+returns-clause-suffice g c spec bound is small reached =
     let reading = g.R.Reader.reading c.args.reader.now in
     let book = c.args.book.now in
     let cut = c.args.cut.now in
     let words = c.args.words.now in
-    c.narrow_by.ensures.suffice next bound words is
-    (small_reached reading init next bound book cut words is small reached)
+    c.narrow_by.ensures.suffice spec.next bound words is
+    (small_reached reading spec bound book cut words is small reached)
     (stand_for_itself reading book cut words)

@@ -1,7 +1,7 @@
 use Rattle.std.proofs.Common.{sym, ap, subst}
 use Rattle.frontier_check.specs.Verdict.{IsRight}
 use Rattle.frontier_check.specs.declared.verdict.Verdict.{Verdict}
-use Rattle.seq_objects.specs.Objects.{kind_init, kind_next}
+use Rattle.seq_objects.specs.Objects.{kind_spec}
 use Rattle.book_picture.specs.Titles.{is_legal}
 use Rattle.witness_texts.specs.Marking.{AreMarksFor}
 use Rattle.witness_texts.proofs.marking.marks_for.Goals as goal
@@ -9,7 +9,7 @@ use Rattle.witness_texts.proofs.marking.marks_for.Goals as goal
 pub marks_of-requires : goal.marks_of-requires
 marks_of-requires c =
     let kind = c.args.kind in
-    subst (λ (v : Verdict). IsRight (kind_init kind) (kind_next kind) c.args.book.now v)
+    subst (λ (v : Verdict). IsRight (kind_spec kind) c.args.book.now v)
     c.in-Illegal.is c.requires
 
 pub returns-in-Illegal : goal.returns-in-Illegal

@@ -16,6 +16,6 @@ returns-clause-blank c =
     ∙ ap (made (blank_call_bounds c.args.book.now)) c.new.ensures.empty
 
 pub returns-clause-right : goal.returns-clause-right
-returns-clause-right c init next =
-    subst (λ (known : Known). ArePruningRules init next c.args.book.now known)
-    (sym (returns-clause-blank c)) (blank_is_right init next c.args.book.now)
+returns-clause-right c spec =
+    subst (λ (known : Known). ArePruningRules spec c.args.book.now known)
+    (sym (returns-clause-blank c)) (blank_is_right spec c.args.book.now)

@@ -38,8 +38,8 @@ returns c =
       call_bounds = λ d h. subst (λ (k : Known). HasCallBound k d) (sym held)
           (has_call_bound-with_call_bound known c.args.call
           (raised (call_bound_of known c.args.call) _) d c.requires.call_bound h);
-      right = λ init next book right first.
-          subst (λ (k : Known). ArePruningRules init next book k) (sym held)
-          (held_back_is_right init
-          next book known c.args.call c.args.other c.requires.call_bound right first);
+      right = λ spec book right first.
+          subst (λ (k : Known). ArePruningRules spec book k) (sym held)
+          (held_back_is_right spec book known c.args.call c.args.other c.requires.call_bound
+          right first);
     }

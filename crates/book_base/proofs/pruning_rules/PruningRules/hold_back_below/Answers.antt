@@ -37,7 +37,7 @@ returns c =
           (has_call_bound-with_call_bound known c.args.call
           (raised (call_bound_of known c.args.call) _) d c.requires h);
       right =
-          λ init next book right infeasible. subst (λ (k : Known). ArePruningRules init next book k)
-          (sym is_limited) (limited_is_right init next book known c.args.call c.args.limit
+          λ spec book right infeasible. subst (λ (k : Known). ArePruningRules spec book k)
+          (sym is_limited) (limited_is_right spec book known c.args.call c.args.limit
           c.requires right infeasible);
     }

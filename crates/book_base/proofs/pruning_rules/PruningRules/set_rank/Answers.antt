@@ -8,6 +8,6 @@ pub returns-clause-ranks : goal.returns-clause-ranks
 returns-clause-ranks c = grind (arith, common_steps)
 
 pub returns-clause-right : goal.returns-clause-right
-returns-clause-right c init next book right infeasible =
-    ranked_is_right init next book c.args.self.now _ c.args.word c.args.rank
+returns-clause-right c spec book right infeasible =
+    ranked_is_right spec book c.args.self.now _ c.args.word c.args.rank
     (ap (λ (k : Known). k.call_bounds) c.self.view_is) (returns-clause-ranks c) right infeasible

@@ -1,6 +1,6 @@
 use Rattle.std.specs.Arc.{arc_value}
 use Rattle.book_base.specs.Order.{HasLegalOrder}
-use Rattle.seq_objects.specs.Objects.{kind_init, kind_next}
+use Rattle.seq_objects.specs.Objects.{kind_spec}
 use Rattle.monitor.specs.Monitors.{own_of}
 use Rattle.call_handles.specs.Callers.{every_reply}
 use Rattle.call_handles.proofs.Watched.{has_none}
@@ -14,6 +14,6 @@ returns-clause-sound c =
       of = monitor.ensures.monitor every_reply (arc_value c.args.rows) c.requires.caller;
       on = monitor.ensures.board;
       stands = tt;
-      none = has_none (λ w. ¬ HasLegalOrder (kind_init kind) (kind_next kind) w.book)
+      none = has_none (λ w. ¬ HasLegalOrder (kind_spec kind) w.book)
           (own_of monitor.result) monitor.ensures.nothing.0;
     }

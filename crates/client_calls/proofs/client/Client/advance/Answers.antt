@@ -1,4 +1,5 @@
 use Rattle.std.proofs.Common.{◌≡◌, refl, sym, subst, ap, ℕ, ◌+◌, ◌*◌, ◌<◌, List, length, arith}
+use Rattle.book_base.specs.SeqSpec.{SeqSpec}
 use Rattle.report_lines.specs.Phases.{Progress}
 use Rattle.row_table.specs.declared.caller.Caller.{Caller}
 use Rattle.row_table.specs.Callers.{shape_of, who_of, local_with}
@@ -6,7 +7,6 @@ use Rattle.drv_wrapper.specs.States.{caller_announced, announced_local, caller_a
 use Rattle.drv_wrapper.proofs.Locals.{local_has_phase}
 use Rattle.enforcer.specs.States.{caller_published}
 use Rattle.client_calls.specs.Asking.{FitsCaller}
-use Rattle.client_calls.specs.Ends.{Sequential}
 use Rattle.client_calls.specs.Endings.{caller_ended, HasEnded, IsNoted}
 use Rattle.client_calls.specs.declared.stand.CallerState.{CallerState}
 use Rattle.client_calls.specs.declared.stand.CallerState.TheVariants as at
@@ -156,13 +156,13 @@ returns-clause-course g c =
           w.in-Published.published ends.0 w.end_call-stand.result sheet.lines.items
           (come_at _ _ w.in-Published.is c.requires.course)
           (subst
-          (λ (o : Sequential). HasEnded meaning rows (says o) w.in-Published.published ends.0)
+          (λ (o : SeqSpec). HasEnded meaning rows (says o) w.in-Published.published ends.0)
           w.end_call-stand.ensures.object ends.1)
           (subst
           (λ (o : ℕ). IsNoted o old.lines.items ends.0 sheet.lines.items w.end_call-stand.result)
           c.next_op-op.ensures ends.2) in
           come_with s _ h sheet w.stand-is w.sheet-is meaning rows says object
-          (subst (λ (o : Sequential). HasCome meaning rows (says o) sheet.who sheet.operations.now
+          (subst (λ (o : SeqSpec). HasCome meaning rows (says o) sheet.who sheet.operations.now
           w.end_call-stand.result sheet.lines.items) (sym w.end_call-stand.ensures.object)
           (subst (λ (i : ℕ). HasCome meaning rows (says (object old.ending)) i sheet.operations.now
           w.end_call-stand.result sheet.lines.items) (sym w.end_call-stand.ensures.same.0)

@@ -38,10 +38,7 @@ returns-in-Err-clause-grows g c = peeks_grow _ _ _ _ c.in-Err.ensures.unjudged_p
 
 pub returns-in-Ok-clause-says : goal.returns-in-Ok-clause-says
 returns-in-Ok-clause-says g c =
-    says_judged (record {
-      init = g.S.SeqObject.init c.args.self.now.sequential.now;
-      next = g.S.SeqObject.next c.args.self.now.sequential.now;
-    }) c.args.rows.now.callers
+    says_judged (g.S.SeqObject.spec c.args.self.now.sequential.now) c.args.rows.now.callers
     c.in-Ok.caller c.in-Ok.end c.ended_by.result _ _ c.ended_by.ensures c.in-Ok.ensures.end
     c.in-Ok.ensures.verdict
 

@@ -11,8 +11,9 @@ loop-place-init g c =
     let log : List ℕ = c.args.log.now in
     let made : ℕ = c.args.made in
     let begins = g.met.S.SeqObject.begins_small object in
-    let few = length-list_of (g.S.SeqObject.next object) (g.met.S.SeqObject.grows_by_one object)
-    (g.S.SeqObject.init object) (take made log) in
+    let few =
+    length-list_of (g.S.SeqObject.spec object).next (g.met.S.SeqObject.grows_by_one object)
+    (g.S.SeqObject.spec object).init (take made log) in
     let taken = length-take-le made log c.requires.made in
     record {
       words = c.requires.state;
@@ -37,10 +38,11 @@ loop-place-preserved g c =
     record {
       words =
           words
-          ∙ ap (λ (xs : List ℕ). (g.S.SeqObject.next object xs op).0) inv.words
+          ∙ ap (λ (xs : List ℕ). ((g.S.SeqObject.spec object).next xs op).0) inv.words
           ∙ sym
-          (ap (list_of (g.S.SeqObject.next object) (g.S.SeqObject.init object)) taken
-          ∙ list_of-append (g.S.SeqObject.next object) (g.S.SeqObject.init object) (take i log) op);
+          (ap (list_of (g.S.SeqObject.spec object).next (g.S.SeqObject.spec object).init) taken
+          ∙ list_of-append (g.S.SeqObject.spec object).next (g.S.SeqObject.spec object).init
+          (take i log) op);
       room = ap (λ (s : Contents). s.room) c.step.ensures.list ∙ inv.room;
       few = omega (arith, ap (λ (xs : List ℕ). length xs) words, longer, inv.few);
       within = omega (arith, low);
@@ -55,6 +57,7 @@ returns-clause-state g c =
     let all : take c.loop-place.place log ≡ log =
     take_all c.loop-place.place log (omega (arith, end, inv.within)) in
     ap (λ (s : Contents). s.words) c.step-2.ensures.list
-    ∙ ap (λ (xs : List ℕ). (g.S.SeqObject.next object xs c.args.op).0)
-    (inv.words ∙ ap (list_of (g.S.SeqObject.next object) (g.S.SeqObject.init object)) all)
-    ∙ sym (list_of-append (g.S.SeqObject.next object) (g.S.SeqObject.init object) log c.args.op)
+    ∙ ap (λ (xs : List ℕ). ((g.S.SeqObject.spec object).next xs c.args.op).0)
+    (inv.words ∙ ap (list_of (g.S.SeqObject.spec object).next (g.S.SeqObject.spec object).init) all)
+    ∙ sym
+    (list_of-append (g.S.SeqObject.spec object).next (g.S.SeqObject.spec object).init log c.args.op)

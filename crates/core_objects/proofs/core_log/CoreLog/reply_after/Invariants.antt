@@ -5,8 +5,8 @@ use Rattle.core_objects.proofs.core_log.CoreLog.reply_after.Given as goal
 abbrev pub invariant-loop-place : goal.invariant-loop-place
 invariant-loop-place g l =
     record {
-      words : l.state.words ≡ list_of (g.S.SeqObject.next l.self.object)
-          (g.S.SeqObject.init l.self.object) (take l.place l.log);
+      words : l.state.words ≡ list_of (g.S.SeqObject.spec l.self.object).next
+          (g.S.SeqObject.spec l.self.object).init (take l.place l.log);
       room : l.state.room ≡ l.fn.state.room;
       few : length l.state.words ≤ l.place + 1;
       within : l.place ≤ length l.log;

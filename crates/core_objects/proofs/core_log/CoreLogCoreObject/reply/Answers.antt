@@ -17,21 +17,21 @@ overflow_add-number g c =
     ap (λ (i : ℕ). i * pass.cap + c.number.result) who
     ∙ ap (λ (k : ℕ). who_announced a * k + c.number.result) c.requires.fits.cap_is
     ∙ ap (λ (m : ℕ). who_announced a * r.cap + m) c.number.ensures in
-    let low = (number_is_low g.S.SeqObject.init g.S.SeqObject.next r a c.requires.caller).1 in
+    let low = (number_is_low g.S.SeqObject.spec r a c.requires.caller).1 in
     omega (
       arith,
       same,
       low,
-      places_few g.S.SeqObject.init g.S.SeqObject.next r c.requires.program.objects,
+      places_few g.S.SeqObject.spec r c.requires.program.objects,
     )
 
 pub load_operations-requires-clause-log : goal.load_operations-requires-clause-log
 load_operations-requires-clause-log g c =
     let r = c.args.rows.now in
     let log : List ℕ = c.args.pass.now.log.items in
-    log_kept g.S.SeqObject.init g.S.SeqObject.next r c.store_operation.new.announced
+    log_kept g.S.SeqObject.spec r c.store_operation.new.announced
     c.place_ticket.new.announced log c.place_ticket.ensures.made
-    (log_kept g.S.SeqObject.init g.S.SeqObject.next r c.args.announced.now
+    (log_kept g.S.SeqObject.spec r c.args.announced.now
     c.store_operation.new.announced log c.store_operation.ensures.made c.requires.fits.log_known)
 
 pub reply_after-reply-requires-clause-made : goal.reply_after-reply-requires-clause-made
@@ -47,7 +47,7 @@ reply_after-reply-requires-clause-state g c =
     let count : length c.args.pass.now.log.items ≡ c.len-made.result =
     omega (arith, c.len-made.ensures, c.args.pass.now.log.ok) in
     c.requires.fits.state_is
-    ∙ ap (list_of (g.S.SeqObject.next object) (g.S.SeqObject.init object))
+    ∙ ap (list_of (g.S.SeqObject.spec object).next (g.S.SeqObject.spec object).init)
     (sym c.load_operations.ensures.before
     ∙ ap (λ (k : ℕ). take k log) count
     ∙ ap (take c.len-made.result) (sym c.deref-2.ensures.value))
@@ -65,18 +65,18 @@ returns g c =
     let log : List ℕ = c.load_operations.new.log.items in
     let op : ℕ = c.op-op.result in
     let reply : ℕ = c.reply_after-reply.result in
-    let placing : HasMade (meaning g.S.SeqObject.init g.S.SeqObject.next) r a d =
-    made_both g.S.SeqObject.init g.S.SeqObject.next r a b d c.requires.caller
+    let placing : HasMade (meaning g.S.SeqObject.spec) r a d =
+    made_both g.S.SeqObject.spec r a b d c.requires.caller
     c.store_operation.ensures.made c.place_ticket.ensures.made in
-    let made : HasMade (meaning g.S.SeqObject.init g.S.SeqObject.next) r a e =
-    made_both g.S.SeqObject.init g.S.SeqObject.next r a d e c.requires.caller placing
+    let made : HasMade (meaning g.S.SeqObject.spec) r a e =
+    made_both g.S.SeqObject.spec r a d e c.requires.caller placing
     c.load_operations.ensures.made in
     let here = c.place_ticket.ensures.made.still.0 in
     let stored : HasStored r e =
-    stored_kept g.S.SeqObject.init g.S.SeqObject.next r d e here c.load_operations.ensures.made
+    stored_kept g.S.SeqObject.spec r d e here c.load_operations.ensures.made
     c.place_ticket.ensures.stored in
     let placed : HasPlaced r e tickets =
-    placed_kept g.S.SeqObject.init g.S.SeqObject.next r d e tickets here
+    placed_kept g.S.SeqObject.spec r d e tickets here
     c.load_operations.ensures.made c.place_ticket.ensures.placed in
     let tickets_known : KnowsPlaces r e tickets =
     subst (KnowsPlaces r e) c.deref.ensures.value c.load_operations.ensures.tickets in
@@ -84,11 +84,11 @@ returns g c =
     let count : length log + 1 ≡ length tickets =
     c.load_operations.ensures.whole ∙ ap (λ (xs : List ℕ). length xs) c.deref.ensures.value in
     let operation : op_announced e ≡ op = made.operation ∙ sym c.op-op.ensures in
-    let reply_is : reply ≡ (g.S.SeqObject.next object
-    (list_of (g.S.SeqObject.next object) (g.S.SeqObject.init object) log) op).1 =
+    let reply_is : reply ≡ ((g.S.SeqObject.spec object).next
+    (list_of (g.S.SeqObject.spec object).next (g.S.SeqObject.spec object).init log) op).1 =
     c.reply_after-reply.ensures.reply
-    ∙ ap (λ (xs : List ℕ). (g.S.SeqObject.next object
-    (list_of (g.S.SeqObject.next object) (g.S.SeqObject.init object) xs) op).1)
+    ∙ ap (λ (xs : List ℕ). ((g.S.SeqObject.spec object).next
+    (list_of (g.S.SeqObject.spec object).next (g.S.SeqObject.spec object).init xs) op).1)
     c.deref-2.ensures.value in
     let grown : c.push.new.self.items ≡ log ++ op ∷ [] =
     c.push.ensures.items ∙ ap (λ (b : Bool). if b then log ++ op ∷ [] else log)
@@ -96,13 +96,13 @@ returns g c =
     let longer : length c.push.new.self.items ≡ length log + 1 =
     ap (λ (xs : List ℕ). length xs) grown ∙ length-append log (op ∷ []) in
     let all_known : KnowsLog r e (log ++ op ∷ []) =
-    own_log_known g.S.SeqObject.init g.S.SeqObject.next r e op log tickets stored
+    own_log_known g.S.SeqObject.spec r e op log tickets stored
     (sym operation) placed tickets_known count log_known in
     let steps : all_steps_of (announced_local e) ≡ all_steps_of (announced_local a) ++ made.steps =
-    made_all g.S.SeqObject.init g.S.SeqObject.next r a e made in
+    made_all g.S.SeqObject.spec r a e made in
     record {
       made = (
-        has_replied g.S.SeqObject.init g.S.SeqObject.next r a e object log tickets op reply
+        has_replied g.S.SeqObject.spec r a e object log tickets op reply
             c.requires.first made c.requires.program.program_is operation placed
             count log_known reply_is,
         record {
@@ -115,7 +115,7 @@ returns g c =
           state_fits = c.reply_after-reply.ensures.room ∙ fits.state_fits;
           state_is =
               c.reply_after-reply.ensures.state
-              ∙ ap (list_of (g.S.SeqObject.next object) (g.S.SeqObject.init object))
+              ∙ ap (list_of (g.S.SeqObject.spec object).next (g.S.SeqObject.spec object).init)
               (ap (λ (xs : List ℕ). xs ++ op ∷ []) c.deref-2.ensures.value ∙ sym grown);
           tickets_known = subst (KnowsTickets (places_on r) tickets) steps tickets_known;
           log_known =

@@ -7,6 +7,7 @@ invariant-loop-entry g l =
     record {
       room : l.state.room ≡ l.fn.state.room;
       length : length l.state.words ≤ length l.fn.state.words + l.entry-index;
-      list : list_after (g.S.SeqObject.next l.self.object) l.state.words (drop l.entry-index l.log)
-          ≡ list_after (g.S.SeqObject.next l.self.object) l.fn.state.words (l.fn.log);
+      list : list_after (g.S.SeqObject.spec l.self.object).next l.state.words
+          (drop l.entry-index l.log)
+          ≡ list_after (g.S.SeqObject.spec l.self.object).next l.fn.state.words (l.fn.log);
     }

@@ -8,7 +8,7 @@ use Rattle.faulty_objects.proofs.late.Late.replay.Given as goal
 abbrev pub invariant-loop-entry : goal.invariant-loop-entry
 invariant-loop-entry g l =
     record {
-      list : l.scratch.state.words ≡ list_after (g.S.SeqObject.next l.self.object)
+      list : l.scratch.state.words ≡ list_after (g.S.SeqObject.spec l.self.object).next
           l.fn.scratch.state.words (late_changes [] (take l.entry-index l.log));
       waiting : (i : ℕ) → i < vec_len l.fn.scratch.waiting
           → slice_index_or l.scratch.waiting.items i None ≡ waiting_of i (take l.entry-index l.log);

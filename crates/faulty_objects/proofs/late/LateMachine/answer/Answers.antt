@@ -15,7 +15,7 @@ returns-clause-reply g c =
     let d : Entry = record { caller = 0; op = 0 } in
     let within =
     c.requires.callers (length log - 1) d (let some = c.requires.some in omega arith) in
-    late_answered (g.S.SeqObject.next object) (g.S.SeqObject.init object) log d
+    late_answered (g.S.SeqObject.spec object) log d
     c.replay.new.scratch.waiting.items _ c.replay.new.scratch.state.words
     c.make_waiting.new.scratch.state.words c.step.result c.requires.some
     (ap (λ (s : Contents). s.words) c.reset.ensures) c.replay.ensures.list

@@ -9,7 +9,7 @@ returns-clause-put g c =
     let object = c.args.object.now in
     let prefix : Prefix =
     record { places = c.new.result; cut = c.zero.result; here = c.reset.new.state } in
-    put-start (g.S.SeqObject.init object) (g.S.SeqObject.next object) c.args.book.now prefix
+    put-start (g.S.SeqObject.spec object) c.args.book.now prefix
     c.callers.ensures.valid c.callers.ensures.small (g.met.S.SeqObject.begins_small object)
     c.new.ensures.items (c.zero.ensures ∙ ap (λ (n : ℕ). replicate n 0) c.callers.ensures.count)
     (ap (λ (s : Contents). s.words) c.reset.ensures)
@@ -19,7 +19,7 @@ returns-clause-prefix g c =
     let object = c.args.object.now in
     let prefix : Prefix =
     record { places = c.new.result; cut = c.zero.result; here = c.reset.new.state } in
-    prefix-start (g.S.SeqObject.init object) (g.S.SeqObject.next object) c.args.book.now prefix
+    prefix-start (g.S.SeqObject.spec object) c.args.book.now prefix
     c.callers.ensures.valid c.callers.ensures.small (g.met.S.SeqObject.begins_small object)
     c.new.ensures.items (c.zero.ensures ∙ ap (λ (n : ℕ). replicate n 0) c.callers.ensures.count)
     (ap (λ (s : Contents). s.words) c.reset.ensures)

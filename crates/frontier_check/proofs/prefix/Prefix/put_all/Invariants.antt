@@ -5,6 +5,6 @@ use Rattle.frontier_check.proofs.prefix.Prefix.put_all.Given as goal
 
 abbrev pub invariant-loop-place : goal.invariant-loop-place
 invariant-loop-place g l = record {
-  put : IsPut (g.S.SeqObject.init l.object) (g.S.SeqObject.next l.object) l.book l.self;
+  put : IsPut (g.S.SeqObject.spec l.object) l.book l.self;
   room : l.self.here.room ≡ CAPACITY;
 }

@@ -8,8 +8,8 @@ loop-place-preserved g c =
     record {
       put = put;
       room = c.put.ensures.room;
-      marks = marks_put (g.S.SeqObject.init object)
-          (g.S.SeqObject.next object) c.args.book.now c.put.new.self c.loop-place.self.places.items
+      marks = marks_put
+          (g.S.SeqObject.spec object) c.args.book.now c.put.new.self c.loop-place.self.places.items
           _ c.answers_in-answered.result c.loop-place.marks.items
           c.mark_at_interval.new.marks.items put c.answers_in-answered.ensures
           c.in_ok-put.ensures.places c.in_ok-mark_at_interval.ensures c.loop-place.invariant.marks;

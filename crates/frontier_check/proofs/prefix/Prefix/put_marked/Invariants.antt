@@ -6,8 +6,7 @@ use Rattle.frontier_check.proofs.prefix.Prefix.put_marked.Given as goal
 
 abbrev pub invariant-loop-place : goal.invariant-loop-place
 invariant-loop-place g l = record {
-  put : IsPut (g.S.SeqObject.init l.object) (g.S.SeqObject.next l.object) l.book l.self;
+  put : IsPut (g.S.SeqObject.spec l.object) l.book l.self;
   room : l.self.here.room ≡ CAPACITY;
-  marks : AreMarks (g.S.SeqObject.init l.object)
-      (g.S.SeqObject.next l.object) l.book l.self.places.items 0 l.marks.items;
+  marks : AreMarks (g.S.SeqObject.spec l.object) l.book l.self.places.items 0 l.marks.items;
 }

@@ -19,8 +19,8 @@ enter-requires-clause-walk g c =
       choices = c.pop.new.self;
       memo = old.memo;
     } in
-    (walk-choose c.args.self.now.book.now c.args.self.now.prefix.now (g.S.SeqObject.init object)
-    (g.S.SeqObject.next object) old new c.in-Some.choice c.requires.walk c.in-Some.ensures.items
+    (walk-choose c.args.self.now.book.now c.args.self.now.prefix.now
+    (g.S.SeqObject.spec object) old new c.in-Some.choice c.requires.walk c.in-Some.ensures.items
     refl refl refl refl).0
 
 pub remember-requires-clause-wide : goal.remember-requires-clause-wide
@@ -28,8 +28,8 @@ remember-requires-clause-wide g c =
     let object = c.args.self.now.object.now in
     let w = c.requires.walk in
     ap length c.deref.ensures.value
-    ∙ (leads-wide c.args.self.now.book.now c.args.self.now.prefix.now (g.S.SeqObject.init object)
-    (g.S.SeqObject.next object) c.args.walk.now.frames.items c.args.walk.now.counts.items
+    ∙ (leads-wide c.args.self.now.book.now c.args.self.now.prefix.now
+    (g.S.SeqObject.spec object) c.args.walk.now.frames.items c.args.walk.now.counts.items
     c.args.walk.now.here.words w.begins (g.met.S.SeqObject.grows_by_one object) w.leads
     ∙ sym w.callers)
 
@@ -37,8 +37,7 @@ pub retreat-requires : goal.retreat-requires
 retreat-requires g c =
     let book = c.args.self.now.book.now in
     let object = c.args.self.now.object.now in
-    let init = g.S.SeqObject.init object in
-    let next = g.S.SeqObject.next object in
+    let spec = g.S.SeqObject.spec object in
     let old = c.args.walk.now in
     let new : Walk = record {
       frames = old.frames;
@@ -49,12 +48,12 @@ retreat-requires g c =
     } in
     let none : old.choices.items ≡ [] =
     nil_from_length old.choices.items (let e = c.in-None.ensures.cases.0 in search rules) in
-    let walk : IsWalk book c.args.self.now.prefix.now init next old [] = subst
-    (λ (cs : List Choice). IsWalk book c.args.self.now.prefix.now init next old (places_of cs)) none
+    let walk : IsWalk book c.args.self.now.prefix.now spec old [] = subst
+    (λ (cs : List Choice). IsWalk book c.args.self.now.prefix.now spec old (places_of cs)) none
     c.requires.walk in
     let made = c.in_ok-remember-in-None.ensures in
     record {
-      walk = walk-remember book c.args.self.now.prefix.now init next old new walk refl refl refl
+      walk = walk-remember book c.args.self.now.prefix.now spec old new walk refl refl refl
           made.memo made.callers
           (λ (cut list : List ℕ) (there : Remembers new.memo cut list).
           elim (made.only cut list there) [

@@ -12,7 +12,7 @@ use Rattle.frontier_check.proofs.search.Search.choices.Goals.{then-has+then-not-
 pub returns-in-Some-clause-open : goal.returns-in-Some-clause-open
 returns-in-Some-clause-open g c =
     let book = c.args.self.now.book.now in
-    let next = g.S.SeqObject.next c.args.self.now.object.now in
+    let next = (g.S.SeqObject.spec c.args.self.now.object.now).next in
     let cut = c.args.counts.now in
     let list = c.args.here.now.words in
     let one : Choice = record { turn = 0; place = c.in-Some.place } in
@@ -34,8 +34,7 @@ pub loop-caller-preserved : goal.loop-caller-preserved
 loop-caller-preserved g c =
     let book = c.args.self.now.book.now in
     let object = c.args.self.now.object.now in
-    let init = g.S.SeqObject.init object in
-    let next = g.S.SeqObject.next object in
+    let spec = g.S.SeqObject.spec object in
     let cut = c.args.counts.now in
     let list = c.args.here.now.words in
     let marks = c.to_try-marks.result in
@@ -45,7 +44,7 @@ loop-caller-preserved g c =
     elim c.if-has.branch [
       | then-has+then-not-is_infeasible+in_ok-consider w ↦ record {
         room = rw w.spare-is w.consider.ensures.room;
-        chosen = rw w.choices-is (chosen-next book next cut list marks caller before
+        chosen = rw w.choices-is (chosen-next book spec.next cut list marks caller before
             (places_of w.consider.new.choices.items) i.chosen w.in_ok-consider.ensures.more);
         few = rw w.choices-is (omega (arith, i.few, w.consider.ensures.few));
       }
@@ -53,14 +52,14 @@ loop-caller-preserved g c =
         room = rw w.spare-is i.room;
         chosen = rw w.choices-is (elim w.else-has.branch [
           | else-has-via-then-has+else-not-is_infeasible v ↦
-              let infeasible : IsInfeasible init next book cut list (next_call cut caller) =
-              subst (λ (counts : List ℕ). IsInfeasible init next book counts list
+              let infeasible : IsInfeasible spec book cut list (next_call cut caller) =
+              subst (λ (counts : List ℕ). IsInfeasible spec book counts list
               (next_call counts caller)) c.cut_of-cut.ensures
               (v.is_infeasible.ensures v.if-not-is_infeasible.false) in
-              infeasible-skip init next book cut list marks before caller c.requires.reached
+              infeasible-skip spec book cut list marks before caller c.requires.reached
               i.chosen infeasible
           | else-has-via-else-has v ↦
-              unmarked-skip book next cut list marks before caller i.chosen
+              unmarked-skip book spec.next cut list marks before caller i.chosen
               (λ (marked : IsMarked marks caller).
               absurd (let yes = c.has.ensures.1 marked in let untrue = v.if-has.false in cc))
         ]);
@@ -71,7 +70,7 @@ loop-caller-preserved g c =
 pub returns-clause-open : goal.returns-clause-open
 returns-clause-open g c =
     let book = c.args.self.now.book.now in
-    let next = g.S.SeqObject.next c.args.self.now.object.now in
+    let next = (g.S.SeqObject.spec c.args.self.now.object.now).next in
     let cut = c.args.counts.now in
     let list = c.args.here.now.words in
     let marks = c.to_try-marks.result in

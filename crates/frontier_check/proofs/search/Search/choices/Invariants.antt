@@ -6,7 +6,7 @@ use Rattle.frontier_check.proofs.search.Search.choices.Given as goal
 abbrev pub invariant-loop-caller : goal.invariant-loop-caller
 invariant-loop-caller g l = record {
   room : l.spare.room ≡ CAPACITY;
-  chosen : AreChosen l.self.book.now (g.S.SeqObject.next l.self.object.now) l.counts l.here.words
-      l.marks l.caller (places_of l.choices.items);
+  chosen : AreChosen l.self.book.now (g.S.SeqObject.spec l.self.object.now).next l.counts
+      l.here.words l.marks l.caller (places_of l.choices.items);
   few : length l.choices.items ≤ l.caller;
 }

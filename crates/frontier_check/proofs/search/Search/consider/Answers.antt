@@ -15,13 +15,13 @@ use Rattle.frontier_check.proofs.search.Search.consider.Goals as goal
 
 pub choose-requires-clause-calls : goal.choose-requires-clause-calls
 choose-requires-clause-calls g c =
-    all_calls c.args.self.now.book.now (g.S.SeqObject.next c.args.self.now.object.now)
+    all_calls c.args.self.now.book.now (g.S.SeqObject.spec c.args.self.now.object.now).next
     c.args.counts.now c.args.here.now.words (places_of c.args.choices.now.items) c.requires.sound
 
 pub returns-clause-more : goal.returns-clause-more
 returns-clause-more g c =
     let book = c.args.self.now.book.now in
-    let next = g.S.SeqObject.next c.args.self.now.object.now in
+    let next = (g.S.SeqObject.spec c.args.self.now.object.now).next in
     let cut = c.args.counts.now in
     let list = c.args.here.now.words in
     let place : Place =
@@ -39,7 +39,7 @@ returns-clause-more g c =
 pub returns-then-not-answered-clause-more : goal.returns-then-not-answered-clause-more
 returns-then-not-answered-clause-more g c =
     let book = c.args.self.now.book.now in
-    let next = g.S.SeqObject.next c.args.self.now.object.now in
+    let next = (g.S.SeqObject.spec c.args.self.now.object.now).next in
     let list = c.args.here.now.words in
     let call : Call = record { caller = c.args.caller; number = c.from-number.result } in
     let same : c.words.result.now ≡ c.words-2.result.now =
@@ -56,7 +56,7 @@ returns-then-not-answered-clause-more g c =
 pub returns-then-not-is_recorded-clause-more : goal.returns-then-not-is_recorded-clause-more
 returns-then-not-is_recorded-clause-more g c =
     let book = c.args.self.now.book.now in
-    let next = g.S.SeqObject.next c.args.self.now.object.now in
+    let next = (g.S.SeqObject.spec c.args.self.now.object.now).next in
     let call : Call = record { caller = c.args.caller; number = c.from-number.result } in
     considered-skip book next c.args.counts.now c.args.here.now.words
     (places_of c.args.choices.now.items) call c.op.result c.step-reply.result c.requires.sound

@@ -17,8 +17,8 @@ set_count-requires-clause-caller g c =
     let object = c.args.self.now.object.now in
     let old = c.args.walk.now in
     let w = c.requires.walk in
-    let s = standing c.args.self.now.book.now c.args.self.now.prefix.now (g.S.SeqObject.init object)
-    (g.S.SeqObject.next object) old.frames.items old.counts.items old.here.words c.args.place
+    let s = standing c.args.self.now.book.now c.args.self.now.prefix.now
+    (g.S.SeqObject.spec object) old.frames.items old.counts.items old.here.words c.args.place
     w.begins (g.met.S.SeqObject.grows_by_one object) w.leads w.here.sound.0.may_come in
     omega (
       arith,
@@ -33,8 +33,8 @@ copy_from-requires g c =
     let object = c.args.self.now.object.now in
     let old = c.args.walk.now in
     let w = c.requires.walk in
-    let s = standing c.args.self.now.book.now c.args.self.now.prefix.now (g.S.SeqObject.init object)
-    (g.S.SeqObject.next object) old.frames.items old.counts.items old.here.words c.args.place
+    let s = standing c.args.self.now.book.now c.args.self.now.prefix.now
+    (g.S.SeqObject.spec object) old.frames.items old.counts.items old.here.words c.args.place
     w.begins (g.met.S.SeqObject.grows_by_one object) w.leads w.here.sound.0.may_come in
     omega (
       arith,
@@ -47,7 +47,7 @@ copy_from-requires g c =
 pub returns-then-remembers-clause-outcome : goal.returns-then-remembers-clause-outcome
 returns-then-remembers-clause-outcome g c =
     let book = c.args.self.now.book.now in
-    let next = g.S.SeqObject.next c.args.self.now.object.now in
+    let spec = g.S.SeqObject.spec c.args.self.now.object.now in
     let old = c.args.walk.now in
     let e = c.step.ensures in
     let new : Walk = record {
@@ -59,9 +59,9 @@ returns-then-remembers-clause-outcome g c =
     } in
     let made : List ℕ → ℕ → Contents = λ words room. record { words = words; room = room } in
     let there : Remembers old.memo (raised old.counts.items c.args.place.caller)
-    (list_after book next old.here.words c.args.place) =
+    (list_after book spec.next old.here.words c.args.place) =
     remembers-moved old.memo c.step.new.walk.memo (raised old.counts.items c.args.place.caller)
-    c.deref.result.now (list_after book next old.here.words c.args.place) c.words.result.now
+    c.deref.result.now (list_after book spec.next old.here.words c.args.place) c.words.result.now
     e.memo (c.deref.ensures.value ∙ e.counts)
     (c.words.ensures ∙ ap (λ (s : Contents). s.words) e.here)
     (c.remembers.ensures c.if-remembers.true) in
@@ -73,7 +73,7 @@ returns-then-remembers-clause-outcome g c =
     c.copy_from.ensures ∙ (ap (λ (words : List ℕ). made words c.step.new.walk.here.room)
     (ap (λ (s : Contents). s.words) e.spare)
     ∙ ap (made old.here.words) (ap (λ (s : Contents). s.room) e.here)) in
-    walk-skip book c.args.self.now.prefix.now (g.S.SeqObject.init c.args.self.now.object.now) next
+    walk-skip book c.args.self.now.prefix.now spec
     old new c.args.place c.requires.walk there e.frames counts here e.choices e.memo
 
 pub least_open-requires : goal.least_open-requires
@@ -81,8 +81,8 @@ least_open-requires g c =
     let object = c.args.self.now.object.now in
     let old = c.args.walk.now in
     let w = c.requires.walk in
-    let s = standing c.args.self.now.book.now c.args.self.now.prefix.now (g.S.SeqObject.init object)
-    (g.S.SeqObject.next object) old.frames.items old.counts.items old.here.words c.args.place
+    let s = standing c.args.self.now.book.now c.args.self.now.prefix.now
+    (g.S.SeqObject.spec object) old.frames.items old.counts.items old.here.words c.args.place
     w.begins (g.met.S.SeqObject.grows_by_one object) w.leads w.here.sound.0.may_come in
     ap length (c.deref-2.ensures.value ∙ c.step.ensures.counts) ∙ (length-set old.counts.items
     c.args.place.caller (get_or old.counts.items c.args.place.caller 0 + 1) ∙ s.wide)
@@ -92,8 +92,8 @@ choices-requires-clause-wide g c =
     let object = c.args.self.now.object.now in
     let old = c.args.walk.now in
     let w = c.requires.walk in
-    let s = standing c.args.self.now.book.now c.args.self.now.prefix.now (g.S.SeqObject.init object)
-    (g.S.SeqObject.next object) old.frames.items old.counts.items old.here.words c.args.place
+    let s = standing c.args.self.now.book.now c.args.self.now.prefix.now
+    (g.S.SeqObject.spec object) old.frames.items old.counts.items old.here.words c.args.place
     w.begins (g.met.S.SeqObject.grows_by_one object) w.leads w.here.sound.0.may_come in
     ap length (c.deref-in-Some.ensures.value ∙ c.step.ensures.counts) ∙ (length-set old.counts.items
     c.args.place.caller (get_or old.counts.items c.args.place.caller 0 + 1) ∙ s.wide)
@@ -102,12 +102,13 @@ pub choices-requires-clause-reached : goal.choices-requires-clause-reached
 choices-requires-clause-reached g c =
     let book = c.args.self.now.book.now in
     let object = c.args.self.now.object.now in
-    let next = g.S.SeqObject.next object in
+    let spec = g.S.SeqObject.spec object in
     let old = c.args.walk.now in
     let e = c.step.ensures in
     let frame : WalkFrame =
     record { place = c.args.place; words = c.in_ok-words.words; choices = old.choices } in
-    let to : LeadsTo book next old frame c.deref-in-Some.result.now c.step.new.walk.here.words =
+    let to : LeadsTo book spec.next old frame c.deref-in-Some.result.now
+    c.step.new.walk.here.words =
     record {
       words = c.in_ok-words.ensures.items
           ∙ (c.words-2.ensures ∙ ap (λ (s : Contents). s.words) e.spare);
@@ -115,14 +116,14 @@ choices-requires-clause-reached g c =
       cut_is = c.deref-in-Some.ensures.value ∙ e.counts;
       list_is = ap (λ (s : Contents). s.words) e.here;
     } in
-    deeper-reached book c.args.self.now.prefix.now (g.S.SeqObject.init object) next old frame
+    deeper-reached book c.args.self.now.prefix.now spec old frame
     c.deref-in-Some.result.now c.step.new.walk.here.words c.requires.walk to
 
 pub choices-requires-clause-fits : goal.choices-requires-clause-fits
 choices-requires-clause-fits g c =
     let book = c.args.self.now.book.now in
     let object = c.args.self.now.object.now in
-    let next = g.S.SeqObject.next object in
+    let spec = g.S.SeqObject.spec object in
     let old = c.args.walk.now in
     let e = c.step.ensures in
     let frame : WalkFrame =
@@ -130,7 +131,8 @@ choices-requires-clause-fits g c =
     let least : IsLeast book c.deref-in-Some.result.now (length book) c.in-Some.first =
     subst (λ (cut : List ℕ). IsLeast book cut (length book) c.in-Some.first)
     (c.deref-2.ensures.value ∙ sym c.deref-in-Some.ensures.value) c.in-Some.ensures.least in
-    let to : LeadsTo book next old frame c.deref-in-Some.result.now c.step.new.walk.here.words =
+    let to : LeadsTo book spec.next old frame c.deref-in-Some.result.now
+    c.step.new.walk.here.words =
     record {
       words = c.in_ok-words.ensures.items
           ∙ (c.words-2.ensures ∙ ap (λ (s : Contents). s.words) e.spare);
@@ -138,14 +140,14 @@ choices-requires-clause-fits g c =
       cut_is = c.deref-in-Some.ensures.value ∙ e.counts;
       list_is = ap (λ (s : Contents). s.words) e.here;
     } in
-    deeper-fits book c.args.self.now.prefix.now (g.S.SeqObject.init object) next old frame
+    deeper-fits book c.args.self.now.prefix.now spec old frame
     c.deref-in-Some.result.now c.step.new.walk.here.words c.in-Some.first
     (g.met.S.SeqObject.grows_by_one object) c.requires.walk to least
 
 pub returns-in_ok-push-in-None-clause-outcome : goal.returns-in_ok-push-in-None-clause-outcome
 returns-in_ok-push-in-None-clause-outcome g c =
     let book = c.args.self.now.book.now in
-    let next = g.S.SeqObject.next c.args.self.now.object.now in
+    let spec = g.S.SeqObject.spec c.args.self.now.object.now in
     let old = c.args.walk.now in
     let e = c.step.ensures in
     let frame : WalkFrame = record {
@@ -160,7 +162,7 @@ returns-in_ok-push-in-None-clause-outcome g c =
       choices = c.replace-choices.new.dest;
       memo = c.step.new.walk.memo;
     } in
-    let deeper : IsDeeper book next old new frame = record {
+    let deeper : IsDeeper book spec.next old new frame = record {
       frames = c.in_ok-push-in-None.ensures.items ∙ ap (λ v. v.items ++ frame ∷ []) e.frames;
       words = c.in_ok-words.ensures.items
           ∙ (c.words-2.ensures ∙ ap (λ (s : Contents). s.words) e.spare);
@@ -171,7 +173,7 @@ returns-in_ok-push-in-None-clause-outcome g c =
       memo = e.memo;
     } in
     walk-found book c.args.self.now.prefix.now
-    (g.S.SeqObject.init c.args.self.now.object.now) next old new frame c.requires.walk deeper
+    spec old new frame c.requires.walk deeper
     (subst (λ (cut : List ℕ). HoldsAnswered book cut) c.deref-2.ensures.value
     c.in-None.ensures.none)
 
@@ -179,7 +181,7 @@ pub returns-in_ok-push-in-Some-clause-outcome : goal.returns-in_ok-push-in-Some-
 returns-in_ok-push-in-Some-clause-outcome g c =
     let book = c.args.self.now.book.now in
     let object = c.args.self.now.object.now in
-    let next = g.S.SeqObject.next object in
+    let spec = g.S.SeqObject.spec object in
     let old = c.args.walk.now in
     let e = c.step.ensures in
     let frame : WalkFrame = record {
@@ -194,7 +196,7 @@ returns-in_ok-push-in-Some-clause-outcome g c =
       choices = c.replace-choices-in-Some.new.dest;
       memo = c.step.new.walk.memo;
     } in
-    let deeper : IsDeeper book next old new frame = record {
+    let deeper : IsDeeper book spec.next old new frame = record {
       frames = c.in_ok-push-in-Some.ensures.items ∙ ap (λ v. v.items ++ frame ∷ []) e.frames;
       words = c.in_ok-words.ensures.items
           ∙ (c.words-2.ensures ∙ ap (λ (s : Contents). s.words) e.spare);
@@ -206,11 +208,12 @@ returns-in_ok-push-in-Some-clause-outcome g c =
     } in
     let fresh : new.choices ≡ c.in_ok-fresh-in-Some.fresh =
     c.replace-choices-in-Some.ensures.after in
-    let here : IsOpen book next new.counts.items new.here.words (places_of new.choices.items) =
-    same_open book next c.deref-in-Some.result.now new.counts.items new.here.words new.here.words
+    let here : IsOpen book spec.next new.counts.items new.here.words (places_of new.choices.items) =
+    same_open book spec.next c.deref-in-Some.result.now new.counts.items new.here.words
+    new.here.words
     (places_of c.in_ok-fresh-in-Some.fresh.items) (places_of new.choices.items)
     (sym c.deref-in-Some.ensures.value) refl
     (ap (λ v. places_of v.items) fresh) c.in_ok-fresh-in-Some.ensures.open in
-    walk-deeper book c.args.self.now.prefix.now (g.S.SeqObject.init object) next old new frame
+    walk-deeper book c.args.self.now.prefix.now spec old new frame
     (g.met.S.SeqObject.grows_by_one object) c.requires.walk deeper here
     (omega (arith, ap (λ v. length v.items) fresh, c.in_ok-fresh-in-Some.ensures.few))

@@ -6,6 +6,6 @@ use Rattle.frontier_check.proofs.search.Search.go_few.Given as goal
 abbrev pub invariant-loop : goal.invariant-loop
 invariant-loop g l = record {
   room : l.spare.room ≡ CAPACITY;
-  walk : IsWalk l.self.book.now l.self.prefix.now (g.S.SeqObject.init l.self.object.now)
-      (g.S.SeqObject.next l.self.object.now) l.walk (places_of l.walk.choices.items);
+  walk : IsWalk l.self.book.now l.self.prefix.now (g.S.SeqObject.spec l.self.object.now) l.walk
+      (places_of l.walk.choices.items);
 }

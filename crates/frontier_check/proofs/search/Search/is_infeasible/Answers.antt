@@ -17,8 +17,7 @@ returns-then-lacks g c _ =
     subst (λ (counts : List ℕ).
     IsBelow counts (call_bound_of known (made c.get.result)).predecessor_bound)
     c.counts.ensures (c.lacks.ensures.0 c.if-lacks.true) in
-    subst (λ (n : ℕ). IsInfeasible (g.S.SeqObject.init object)
-    (g.S.SeqObject.next object) book cut list (made n)) c.get.ensures
+    subst (λ (n : ℕ). IsInfeasible (g.S.SeqObject.spec object) book cut list (made n)) c.get.ensures
     (c.requires.pruning_rules cut list (made c.get.result) (inl below))
 
 pub returns-in-Some : goal.returns-in-Some
@@ -35,6 +34,5 @@ returns-in-Some g c low =
     omega (arith, ltb-true c.in-Some.rank c.limit.result low, c.limit.ensures) in
     let early : HasEarly known.ranks list (call_bound_of known (made c.get.result)).limit =
     there (call_bound_of known (made c.get.result)).limit below in
-    subst (λ (n : ℕ). IsInfeasible (g.S.SeqObject.init object)
-    (g.S.SeqObject.next object) book cut list (made n)) c.get.ensures
+    subst (λ (n : ℕ). IsInfeasible (g.S.SeqObject.spec object) book cut list (made n)) c.get.ensures
     (c.requires.pruning_rules cut list (made c.get.result) (inr early))

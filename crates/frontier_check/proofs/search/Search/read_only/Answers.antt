@@ -6,7 +6,7 @@ use Rattle.frontier_check.proofs.search.Search.read_only.Goals as goal
 
 pub returns-clause-some : goal.returns-clause-some
 returns-clause-some g c =
-    let next = g.S.SeqObject.next c.args.self.now.object.now in
+    let next = (g.S.SeqObject.spec c.args.self.now.object.now).next in
     let place : Place = record {
       caller = c.args.caller;
       number = c.from-number.result;

@@ -8,8 +8,8 @@ use Rattle.frontier_check.proofs.search.Search.retreat.Goals as goal
 pub returns-in_default : goal.returns-in_default
 returns-in_default g c =
     let object = c.args.self.now.object.now in
-    walk-none c.args.self.now.book.now c.args.self.now.prefix.now (g.S.SeqObject.init object)
-    (g.S.SeqObject.next object) c.args.walk.now c.requires.walk
+    walk-none c.args.self.now.book.now c.args.self.now.prefix.now
+    (g.S.SeqObject.spec object) c.args.walk.now c.requires.walk
     (nil_from_length c.args.walk.now.frames.items
     (let e = c.in_default.ensures.cases.0 in search rules))
 
@@ -17,8 +17,8 @@ pub set_count-requires : goal.set_count-requires
 set_count-requires g c =
     let object = c.args.self.now.object.now in
     let last =
-    last_level c.args.self.now.book.now c.args.self.now.prefix.now (g.S.SeqObject.init object)
-    (g.S.SeqObject.next object) c.args.walk.now c.pop.new.self.items c.in-Some.frame
+    last_level c.args.self.now.book.now c.args.self.now.prefix.now
+    (g.S.SeqObject.spec object) c.args.walk.now c.pop.new.self.items c.in-Some.frame
     (g.met.S.SeqObject.grows_by_one object) c.requires.walk c.in-Some.ensures.items in
     record { caller = last.caller; number = last.number }
 
@@ -26,8 +26,8 @@ pub load-requires : goal.load-requires
 load-requires g c =
     let object = c.args.self.now.object.now in
     let last =
-    last_level c.args.self.now.book.now c.args.self.now.prefix.now (g.S.SeqObject.init object)
-    (g.S.SeqObject.next object) c.args.walk.now c.pop.new.self.items c.in-Some.frame
+    last_level c.args.self.now.book.now c.args.self.now.prefix.now
+    (g.S.SeqObject.spec object) c.args.walk.now c.pop.new.self.items c.in-Some.frame
     (g.met.S.SeqObject.grows_by_one object) c.requires.walk c.in-Some.ensures.items in
     omega (arith, last.words, c.requires.walk.room, ap length c.deref.ensures.value)
 
@@ -41,8 +41,8 @@ returns g c =
       choices = c.in-Some.frame.choices;
       memo = c.args.walk.now.memo;
     } in
-    walk-back c.args.self.now.book.now c.args.self.now.prefix.now (g.S.SeqObject.init object)
-    (g.S.SeqObject.next object) c.args.walk.now new c.in-Some.frame c.requires.walk
+    walk-back c.args.self.now.book.now c.args.self.now.prefix.now
+    (g.S.SeqObject.spec object) c.args.walk.now new c.in-Some.frame c.requires.walk
     c.in-Some.ensures.items
     c.set_count.ensures (ap (λ (s : Contents). s.words) c.load.ensures ∙ c.deref.ensures.value)
     (ap (λ (s : Contents). s.room) c.load.ensures) refl refl

@@ -6,8 +6,8 @@ pub copy_from-requires : goal.copy_from-requires
 copy_from-requires g c =
     let object = c.args.self.now.object.now in
     let w = c.requires.walk in
-    let s = standing c.args.self.now.book.now c.args.self.now.prefix.now (g.S.SeqObject.init object)
-    (g.S.SeqObject.next object) c.args.walk.now.frames.items c.args.walk.now.counts.items
+    let s = standing c.args.self.now.book.now c.args.self.now.prefix.now
+    (g.S.SeqObject.spec object) c.args.walk.now.frames.items c.args.walk.now.counts.items
     c.args.walk.now.here.words c.args.place
     w.begins (g.met.S.SeqObject.grows_by_one object) w.leads w.here.sound.0.may_come in
     omega (arith, s.fits, c.requires.room)
@@ -16,8 +16,8 @@ pub step-reply-requires : goal.step-reply-requires
 step-reply-requires g c =
     let object = c.args.self.now.object.now in
     let w = c.requires.walk in
-    let s = standing c.args.self.now.book.now c.args.self.now.prefix.now (g.S.SeqObject.init object)
-    (g.S.SeqObject.next object) c.args.walk.now.frames.items c.args.walk.now.counts.items
+    let s = standing c.args.self.now.book.now c.args.self.now.prefix.now
+    (g.S.SeqObject.spec object) c.args.walk.now.frames.items c.args.walk.now.counts.items
     c.args.walk.now.here.words c.args.place
     w.begins (g.met.S.SeqObject.grows_by_one object) w.leads w.here.sound.0.may_come in
     omega (arith, s.fits, w.room)
@@ -26,8 +26,8 @@ pub set_count-requires : goal.set_count-requires
 set_count-requires g c =
     let object = c.args.self.now.object.now in
     let w = c.requires.walk in
-    let s = standing c.args.self.now.book.now c.args.self.now.prefix.now (g.S.SeqObject.init object)
-    (g.S.SeqObject.next object) c.args.walk.now.frames.items c.args.walk.now.counts.items
+    let s = standing c.args.self.now.book.now c.args.self.now.prefix.now
+    (g.S.SeqObject.spec object) c.args.walk.now.frames.items c.args.walk.now.counts.items
     c.args.walk.now.here.words c.args.place
     w.begins (g.met.S.SeqObject.grows_by_one object) w.leads w.here.sound.0.may_come in
     record { caller = s.caller; number = omega (arith, s.number) }

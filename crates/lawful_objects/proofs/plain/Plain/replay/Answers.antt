@@ -9,7 +9,7 @@ step-reply-requires g c =
     let k = c.loop-entry.invariant in
     let low : c.loop-entry.entry-index < length c.args.log.now = c.loop-entry-test.true in
     let most = length-replayed
-    (g.S.SeqObject.next object) c.args.state.now.words c.args.log.now c.loop-entry.entry-index
+    (g.S.SeqObject.spec object).next c.args.state.now.words c.args.log.now c.loop-entry.entry-index
     (record { caller = 0; op = 0 }) _ k.list low (g.met.S.SeqObject.grows_by_one object) in
     let room = c.requires in
     let same = k.room in
@@ -23,8 +23,8 @@ loop-entry-preserved g c =
     let e = c.step-reply.ensures in
     record {
       room = ap (λ (s : Contents). s.room) e.list ∙ k.room;
-      list = ap (λ (s : Contents). s.words) e.list ∙ sym (list_more (g.S.SeqObject.next object)
+      list = ap (λ (s : Contents). s.words) e.list ∙ sym (list_more (g.S.SeqObject.spec object).next
           c.args.state.now.words c.args.log.now c.loop-entry.entry-index _ _ k.list low);
-      reply = e.reply ∙ sym (reply_more (g.S.SeqObject.next object) c.args.state.now.words
+      reply = e.reply ∙ sym (reply_more (g.S.SeqObject.spec object).next c.args.state.now.words
           c.args.log.now c.loop-entry.entry-index _ _ k.list low);
     }

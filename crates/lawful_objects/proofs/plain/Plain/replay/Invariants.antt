@@ -6,8 +6,8 @@ abbrev pub invariant-loop-entry : goal.invariant-loop-entry
 invariant-loop-entry g l =
     record {
       room : l.state.room ≡ l.fn.state.room;
-      list : l.state.words ≡ list_after (g.S.SeqObject.next l.self.object) l.fn.state.words
+      list : l.state.words ≡ list_after (g.S.SeqObject.spec l.self.object).next l.fn.state.words
           (take l.entry-index l.log);
-      reply : l.reply ≡ last_reply (g.S.SeqObject.next l.self.object) l.fn.state.words
+      reply : l.reply ≡ last_reply (g.S.SeqObject.spec l.self.object).next l.fn.state.words
           (take l.entry-index l.log);
     }

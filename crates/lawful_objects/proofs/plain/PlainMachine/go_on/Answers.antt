@@ -10,8 +10,8 @@ replay-requires g c =
     let object = c.args.self.now.object in
     let log = c.args.log.now in
     let seen = c.requires.seen (omega arith) in
-    let room = capacity_beyond (g.S.SeqObject.next object)
-    (g.S.SeqObject.init object) log c.args.known _ seen c.args.scratch.now.state.room
+    let room = capacity_beyond
+    (g.S.SeqObject.spec object) log c.args.known _ seen c.args.scratch.now.state.room
     (g.met.S.SeqObject.begins_small object)
     (g.met.S.SeqObject.grows_by_one object) c.requires.more c.requires.room.state in
     record {
@@ -25,10 +25,9 @@ returns-clause-reply g c =
     let log = c.args.log.now in
     let seen = c.requires.seen (omega arith) in
     c.replay.ensures.reply
-    ∙ ap (last_reply (g.S.SeqObject.next object) c.args.scratch.now.state.words)
+    ∙ ap (last_reply (g.S.SeqObject.spec object).next c.args.scratch.now.state.words)
     (tail_is log c.args.known)
-    ∙ reply_beyond (g.S.SeqObject.next object)
-    (g.S.SeqObject.init object) log c.args.known _ seen c.requires.more
+    ∙ reply_beyond (g.S.SeqObject.spec object) log c.args.known _ seen c.requires.more
 
 pub returns-clause-seen : goal.returns-clause-seen
 returns-clause-seen g c =
@@ -36,6 +35,6 @@ returns-clause-seen g c =
     let log = c.args.log.now in
     let seen = c.requires.seen (omega arith) in
     ap (λ (s : Contents). s.words) c.replay.ensures.list
-    ∙ ap (list_after (g.S.SeqObject.next object) c.args.scratch.now.state.words)
+    ∙ ap (list_after (g.S.SeqObject.spec object).next c.args.scratch.now.state.words)
     (tail_is log c.args.known)
-    ∙ list_beyond (g.S.SeqObject.next object) (g.S.SeqObject.init object) log c.args.known _ seen
+    ∙ list_beyond (g.S.SeqObject.spec object) log c.args.known _ seen

@@ -57,7 +57,7 @@ returns-clause-gathered g c =
     c.in_ok-found.ensures.cut c.in_ok-found.ensures.gathered
 
 pub returns-clause-stands : goal.returns-clause-stands
-returns-clause-stands g c init next stands =
+returns-clause-stands g c spec stands =
     let d = c.grow_at.new.caller in
     let kept = c.args.self.now.gathered in
     let rests = rests_scanned _ c.scan-cut.result (local_with c.args.self.now.caller)
@@ -66,7 +66,7 @@ returns-clause-stands g c init next stands =
     let held = subst (λ (o : Option Gathered).
     IfSome c.standing_in-before.result (λ _. IsGatheredWithin c.callers.result o c.scan-cut.result))
     c.take-kept.ensures.value c.standing_in-before.ensures.held in
-    stands_on init next (shape_of g.P.Program.meaning c.args.rows.now) (who_of d) c.callers.result
+    stands_on spec (shape_of g.P.Program.meaning c.args.rows.now) (who_of d) c.callers.result
     (local_with d) kept c.args.standing c.standing_in-before.result c.scan-cut.result
     c.in_ok-found.found.book c.callers.ensures
     c.grow_at.ensures.caller.0.seat.local (kept_once _ _ _ kept once c.requires.rows.gathered)

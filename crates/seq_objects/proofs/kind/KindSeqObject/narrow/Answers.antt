@@ -1,42 +1,42 @@
 use Rattle.std.proofs.Common.{sym, subst}
 use Rattle.book_base.specs.Pruning.{IsReached, MarksSuffice}
-use Rattle.seq_objects.specs.Objects.{kind_init, kind_next}
+use Rattle.seq_objects.specs.Objects.{kind_next, kind_spec}
 use Rattle.seq_objects.proofs.kind.KindSeqObject.narrow.Goals as goal
 
 pub narrow-requires-clause-reached : goal.narrow-requires-clause-reached
 unfolding kind_next
-narrow-requires-clause-reached c = subst (λ kind. IsReached (kind_init kind) (kind_next kind)
+narrow-requires-clause-reached c = subst (λ kind. IsReached (kind_spec kind)
     c.args.book.now c.args.cut.now c.args.words.now) c.in-Queue.is c.requires.reached
 
 pub narrow-requires-in-Stack-clause-reached : goal.narrow-requires-in-Stack-clause-reached
 unfolding kind_next
 narrow-requires-in-Stack-clause-reached c =
-    subst (λ kind. IsReached (kind_init kind) (kind_next kind) c.args.book.now c.args.cut.now
+    subst (λ kind. IsReached (kind_spec kind) c.args.book.now c.args.cut.now
     c.args.words.now) c.in-Stack.is c.requires.reached
 
 pub narrow-requires-in-Register-clause-reached : goal.narrow-requires-in-Register-clause-reached
 unfolding kind_next
 narrow-requires-in-Register-clause-reached c =
-    subst (λ kind. IsReached (kind_init kind) (kind_next kind) c.args.book.now c.args.cut.now
+    subst (λ kind. IsReached (kind_spec kind) c.args.book.now c.args.cut.now
     c.args.words.now) c.in-Register.is c.requires.reached
 
 pub narrow-requires-in-Counter-clause-reached : goal.narrow-requires-in-Counter-clause-reached
 unfolding kind_next
 narrow-requires-in-Counter-clause-reached c =
-    subst (λ kind. IsReached (kind_init kind) (kind_next kind) c.args.book.now c.args.cut.now
+    subst (λ kind. IsReached (kind_spec kind) c.args.book.now c.args.cut.now
     c.args.words.now) c.in-Counter.is c.requires.reached
 
 pub narrow-requires-in-Pqueue-clause-reached : goal.narrow-requires-in-Pqueue-clause-reached
 unfolding kind_next
 narrow-requires-in-Pqueue-clause-reached c =
-    subst (λ kind. IsReached (kind_init kind) (kind_next kind) c.args.book.now c.args.cut.now
+    subst (λ kind. IsReached (kind_spec kind) c.args.book.now c.args.cut.now
     c.args.words.now) c.in-Pqueue.is c.requires.reached
 
 pub narrow-requires-in-CasRegister-clause-reached :
     goal.narrow-requires-in-CasRegister-clause-reached
 unfolding kind_next
 narrow-requires-in-CasRegister-clause-reached c =
-    subst (λ kind. IsReached (kind_init kind) (kind_next kind) c.args.book.now c.args.cut.now
+    subst (λ kind. IsReached (kind_spec kind) c.args.book.now c.args.cut.now
     c.args.words.now) c.in-CasRegister.is c.requires.reached
 
 pub returns-in-Queue-clause-suffice : goal.returns-in-Queue-clause-suffice
