@@ -27,7 +27,7 @@ returns-clause-report g c =
     let opened = c.in_ok-rows.ensures.rows in
     if_ok_as c.run_core-report.result _ _
     (report_opened_with c.in_ok-rows.rows _ _ (opened.0 ∙ c.callers.ensures.count) opened.1
-    g.O.P.Program.meaning _ (opened.2 ∙ c.program.ensures) _ _ _ _ _)
+    g.O.P.Program.meaning _ (opened.2 ∙ c.program.ensures) _ _ _ _)
     c.run_core-report.ensures.report
 
 pub returns-clause-kind : goal.returns-clause-kind

@@ -73,7 +73,7 @@ end_all-requires-clause-passes g c =
 pub returns-in_err-lines-clause-monitors : goal.returns-in_err-lines-clause-monitors
 returns-in_err-lines-clause-monitors g c =
     let watched = c.watch_in-one.ensures in
-    monitors_back _ _ _ _ c.args.script.now _ _ c.args.bench.now c.start_all.new.bench
+    monitors_back _ _ _ c.args.script.now _ _ c.args.bench.now c.start_all.new.bench
     c.watch_in-one.new.bench c.end_all.new.bench c.requires.begins c.start_all.ensures.others
     c.end_all.ensures.others _ _ c.callers-callers.result c.callers-callers.ensures.count
     watched.one watched.other
@@ -81,7 +81,7 @@ returns-in_err-lines-clause-monitors g c =
 pub returns-then-one-clause-monitors : goal.returns-then-one-clause-monitors
 returns-then-one-clause-monitors g c =
     let watched = c.watch_in-one.ensures in
-    monitors_back _ _ _ _ c.args.script.now _ _ c.args.bench.now c.start_all.new.bench
+    monitors_back _ _ _ c.args.script.now _ _ c.args.bench.now c.start_all.new.bench
     c.watch_in-one.new.bench c.end_all.new.bench c.requires.begins c.start_all.ensures.others
     c.end_all.ensures.others _ _ c.callers-callers.result c.callers-callers.ensures.count
     watched.one watched.other
@@ -89,7 +89,7 @@ returns-then-one-clause-monitors g c =
 pub returns-clause-monitors : goal.returns-clause-monitors
 returns-clause-monitors g c =
     let watched = c.watch_in-one.ensures in
-    monitors_back _ _ _ _ c.args.script.now _ _ c.args.bench.now c.start_all.new.bench
+    monitors_back _ _ _ c.args.script.now _ _ c.args.bench.now c.start_all.new.bench
     c.watch_in-one.new.bench c.end_all.new.bench c.requires.begins c.start_all.ensures.others
     c.end_all.ensures.others _ _ c.callers-callers.result c.callers-callers.ensures.count
     watched.one watched.other

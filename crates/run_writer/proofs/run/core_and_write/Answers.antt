@@ -22,4 +22,4 @@ returns-in-Ok-clause-fine g c = c.write_report.ensures.fine c.in-Ok.ensures.no_e
 
 pub returns-in-Ok-clause-free : goal.returns-in-Ok-clause-free
 returns-in-Ok-clause-free g c some report is =
-    one_standing _ _ _ _ c.run_core.new.bench _ _ _ _ c.in-Ok.ensures.report is c.in-Ok.ensures.free
+    one_standing _ _ _ _ c.run_core.new.bench _ _ _ c.in-Ok.ensures.report is c.in-Ok.ensures.free
