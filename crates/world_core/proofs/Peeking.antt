@@ -37,7 +37,7 @@ pub other_caller : HasPeeked (with_peeks (one ∷ [])) M (call_of 2 2) 3 4 → �
 other_caller = absent (one ∷ []) (peek_of M 2 2 3 4)
     (λ e. let callers : 1 ≡ 2 = ap (λ (p : Peeked). p.caller) e in omega (arith, callers), tt)
 
--- a peek into row 2 is no peek into row 1
+-- a peek into the row numbered 2 is no peek into the row numbered 1
 pub other_row : HasPeeked (with_peeks (one ∷ [])) M (call_of 1 1) 3 4 → ⊥
 other_row = absent (one ∷ []) (peek_of M 1 1 3 4)
     (λ e. let rows : 2 ≡ 1 = ap (λ (p : Peeked). p.row) e in omega (arith, rows), tt)

@@ -187,7 +187,7 @@ allowed_as_looked = by 1 (Peek N 0 0 0 5) ∷ by 1 (Peek N 0 0 1 0) ∷ by 1 (Pe
 -- Peeks of caller 1 that aren't enabled after `looked`.
 abbrev pub refused_as_looked : List Step
 refused_as_looked =
-    -- the count that caller 1 found is 1, so it knows of no row 1
+    -- the count that caller 1 found is 1, so it knows of no row numbered 1
     by 1 (Peek N 0 1 0 0)
     -- caller 1 has looked at no count of its own
     ∷ by 1 (Peek N 1 0 0 0)
@@ -220,7 +220,7 @@ entry_peeked = reply_peeked ++ by 1 (Peek M 0 0 1 1) ∷ []
 -- Peeks of caller 1 that aren't enabled after `entry_peeked`.
 abbrev pub refused_as_entry_peeked : List Step
 refused_as_entry_peeked =
-    -- the peeked entry for caller 0 is 1, so caller 1 knows of no row 1
+    -- the peeked entry for caller 0 is 1, so caller 1 knows of no row numbered 1
     by 1 (Peek N 0 1 0 0)
     -- the peeked entry is for caller 0, not for caller 1
     ∷ by 1 (Peek N 1 0 0 0)

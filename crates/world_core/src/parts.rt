@@ -88,9 +88,9 @@ pub fn tests_tell_apart()
     ensures looks { map (is_look_wanted 1)
         (Wants_look 1 ∷ Wants_look 0 ∷ Wants_peek 1 0 0 ∷ Done [] ∷ [])
         ≡ true ∷ false ∷ false ∷ false ∷ [] }
-    // The peek at place 2 in N of row 3 of caller 1 is what a scan needs that needs the entry for
-    // caller 0 of the cut in that row, and not what a scan needs that needs a peek into a row of
-    // another caller, into another row or at another entry, or a look.
+    // The peek at place 2 in N of the row numbered 3 of caller 1 is what a scan needs that needs
+    // the entry for caller 0 of the cut in that row, and not what a scan needs that needs a peek
+    // into a row of another caller, into another row or at another entry, or a look.
     ensures peeks { map (is_peek_wanted 2 N 1 3 2) (Wants_peek 1 3 0 ∷ Wants_peek 0 3 0 ∷ Wants_peek
         1 2 0 ∷ Wants_peek 1 3 1 ∷ Wants_look 1 ∷ []) ≡ true ∷ false ∷ false ∷ false ∷ false ∷ [] }
     // The peek at place 4 in M of a row of two callers is what a scan needs that needs the entry
@@ -211,7 +211,7 @@ pub fn words_are_peeked()
     ensures other_region { ¬ HasPeeked (with_peeks (peek_of M 1 2 3 4 ∷ [])) N (call_of 1 2) 3 4 }
     // A peek into a row of caller 1 is no peek into a row of caller 2.
     ensures other_caller { ¬ HasPeeked (with_peeks (peek_of M 1 2 3 4 ∷ [])) M (call_of 2 2) 3 4 }
-    // A peek into row 2 is no peek into row 1.
+    // A peek into the row numbered 2 is no peek into the row numbered 1.
     ensures other_row { ¬ HasPeeked (with_peeks (peek_of M 1 2 3 4 ∷ [])) M (call_of 1 1) 3 4 }
     // A peek at place 3 is no peek at place 4.
     ensures other_place { ¬ HasPeeked (with_peeks (peek_of M 1 2 3 4 ∷ [])) M (call_of 1 2) 4 4 }
