@@ -35,7 +35,8 @@ next_number cap i h = number_of cap i (length (calls_by i h.log))
 -- A hand of caller i agrees with these words and this log: the log begins with what the caller
 -- knows of it, and has no other entries of the caller; and the words have what the caller has
 -- staged.
-pub record Fits (n cap : ℕ) (words : List ℕ) (log : List Entry) (i : ℕ) (h : Hand) : Type 0 where
+pub record HandFits (n cap : ℕ) (words : List ℕ) (log : List Entry) (i : ℕ)
+    (h : Hand) : Type 0 where
   pub caller : i < n
   pub prefix : BeginsWith log h.log
   pub own : calls_by i log ≡ calls_by i h.log
