@@ -12,6 +12,7 @@ ghost use Rattle.stack_levels.specs.Cases.{
   one_on_one,
   pile,
   pile_next,
+  pile_spec,
   puts_and_takes,
   taken_too_often,
   up_and_down,
