@@ -21,7 +21,7 @@ use Rattle.queue_pairs.specs.Moments.{moment_of}
 use Rattle.queue_pairs.specs.Tables.{known_deal, rows_of, IsTimed, IsRowTo, AreRowsTo, IsTable}
 use Rattle.container_counts.specs.declared.counts.Counted.TheVariants as counted
 use Rattle.container_counts.specs.Counts.{listed, puts_one, shows_one, may_take_one, is_counted, PutsAhead, TakesAhead, IsRefuted}
-use Rattle.container_counts.specs.Cases.{bag, bag_shown, without_first, bag_after, bag_next, taken_unput, put_and_taken}
+use Rattle.container_counts.specs.Cases.{bag, bag_shown, without_first, bag_after, bag_next, bag_spec, taken_unput, put_and_taken}
 use Rattle.container_counts.proofs.Counting.{bit}
 use Rattle.container_counts.proofs.Refuting.{takes-refute, finds_leave_nothing}
 
@@ -177,11 +177,11 @@ bag-is_container = record {
 }
 
 pub unput-refuted : (table : Table) → IsTable bag taken_unput table
-    → IsRefuted table × (HasLegalOrder [] bag_next taken_unput → ⊥)
+    → IsRefuted table × (HasLegalOrder bag_spec taken_unput → ⊥)
 unput-refuted table is =
     let refuted : IsRefuted table
     = takes-refute table (1 ∷ []) 1 (omega arith) (unput-ahead table is) in
-    (refuted, λ has. refuted bag taken_unput [] bag_next is bag-is_container refl has)
+    (refuted, λ has. refuted bag taken_unput bag_spec is bag-is_container refl has)
 
 -- ---- a take that finds nothing where something is left
 
@@ -230,13 +230,13 @@ left-unheld zero (suc (suc k)) s e held low = absurd (none-some s e)
 left-unheld (suc i) k s e held low = absurd (none-some s e)
 
 pub left-none : (table : Table) → IsTable bag (put_and_taken 0) table
-    → HasLegalOrder [] bag_next (put_and_taken 0) → ⊥
+    → HasLegalOrder bag_spec (put_and_taken 0) → ⊥
 left-none table is =
     finds_leave_nothing bag (put_and_taken 0) table (call 1) (answer 0 (2 ∷ [])) (1 ∷ []) 1 2
     refl refl
     (λ held. left-unheld held.0.caller held.0.number held.1 held.2 held.3 held.4)
     (omega arith) (omega arith) (left-ahead table is)
-    [] bag_next is bag-is_container refl
+    bag_spec is bag-is_container refl
 
 -- ---- a book with a legal order
 
@@ -275,10 +275,10 @@ none-yet : (i : ℕ) → let none : List ℕ = 0 ∷ [] in get_or none i 0 ≡ 0
 none-yet zero = refl
 none-yet (suc i) = refl
 
-pub has-legal_order : HasLegalOrder [] bag_next (put_and_taken 2)
+pub has-legal_order : HasLegalOrder bag_spec (put_and_taken 2)
 has-legal_order = (
   stand 0 0 0 ∷ stand 0 1 2 ∷ [],
-  legal_order_from_continues (put_and_taken 2) [] bag_next (0 ∷ [])
+  legal_order_from_continues (put_and_taken 2) bag_spec (0 ∷ [])
       (stand 0 0 0 ∷ stand 0 1 2 ∷ []) (omega arith) none-yet (
         stands 0 0 [] (omega arith)
             (λ r e. ap (λ (s : Record). s.reply) (sym (same_Some _ r e))) refl,
@@ -293,4 +293,4 @@ has-legal_order = (
 
 pub legal-kept : (table : Table) → IsTable bag (put_and_taken 2) table → IsRefuted table → ⊥
 legal-kept table is refuted =
-    refuted bag (put_and_taken 2) [] bag_next is bag-is_container refl has-legal_order
+    refuted bag (put_and_taken 2) bag_spec is bag-is_container refl has-legal_order

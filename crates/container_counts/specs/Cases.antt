@@ -1,5 +1,6 @@
 -- Worked books of a bag, of one caller, which are written out.
 use Rattle.std.specs.Prelude.{ℕ, zero, suc, List, [], ◌∷◌, Option, Some, None}
+use Rattle.book_base.specs.SeqSpec.{SeqSpec}
 use Rattle.book_base.specs.Book.{Page}
 use Rattle.history_rules.specs.Container.{Effect, Puts, Takes, Neither, Reading}
 use Rattle.book_laws.specs.Cases.{answer, caller_page}
@@ -32,6 +33,10 @@ bag_after list Neither = (list, 0)
 
 abbrev pub bag_next : List ℕ → ℕ → List ℕ × ℕ
 bag_next list op = bag_after list (bag_deed op)
+
+-- The bag, which begins with no item.
+abbrev pub bag_spec : SeqSpec
+bag_spec = record { init = []; next = bag_next }
 
 -- One caller takes, and the reply shows a 1, which nobody put in.
 abbrev pub taken_unput : List Page

@@ -6,7 +6,7 @@ ghost use Rattle.history_rules.specs.Container.{IsContainer};
 ghost use Rattle.queue_pairs.specs.declared.table.Table.{Table};
 ghost use Rattle.queue_pairs.specs.Tables.{IsTable};
 ghost use Rattle.container_counts.specs.Counts.{IsRefuted, PutsAhead, TakesAhead};
-ghost use Rattle.container_counts.specs.Cases.{bag, bag_next, put_and_taken, taken_unput};
+ghost use Rattle.container_counts.specs.Cases.{bag, bag_next, bag_spec, put_and_taken, taken_unput};
 
 /// A value is taken out that nobody put in.
 pub fn what_is_taken_was_put_in()
@@ -18,7 +18,7 @@ pub fn what_is_taken_was_put_in()
         → ¬ TakesAhead table (2 ∷ []) 1 1 }
     // So the book's table is refuted, and a refuted table's book has no legal order of the bag.
     ensures refuted { (table : Table) → IsTable bag taken_unput table
-        → IsRefuted table × ¬ HasLegalOrder [] bag_next taken_unput }
+        → IsRefuted table × ¬ HasLegalOrder bag_spec taken_unput }
 {}
 
 /// A take finds nothing after a put, although nothing was taken out.
@@ -29,15 +29,15 @@ pub fn what_is_left_is_found()
         → PutsAhead table (1 ∷ []) 1 2 }
     // So the bag has no legal order of the book.
     ensures none { (table : Table) → IsTable bag (put_and_taken 0) table
-        → ¬ HasLegalOrder [] bag_next (put_and_taken 0) }
+        → ¬ HasLegalOrder bag_spec (put_and_taken 0) }
 {}
 
 /// A book with a legal order isn't refuted.
 pub fn legal_books_are_not_refuted()
     // The bag is a container.
     ensures bag { IsContainer bag bag_next }
-    // It has a legal order of the book in which the 1 is put in and taken out.
-    ensures legal { HasLegalOrder [] bag_next (put_and_taken 2) }
+    // The bag has a legal order of the book in which the 1 is put in and taken out.
+    ensures legal { HasLegalOrder bag_spec (put_and_taken 2) }
     // The table of this book isn't refuted.
     ensures kept { (table : Table) → IsTable bag (put_and_taken 2) table → ¬ IsRefuted table }
 {}
