@@ -54,11 +54,16 @@ fn read_in_level(
             calls.push(*call)?;
             tasks.push(Task::InLevel(*from))?;
         }
-        Some(FirstReached::Returns(origin, node, take)) => {
-            calls.push(*take)?;
-            tasks.push(Task::InLevel(origin.node))?;
-            tasks.push(Task::One(origin.put))?;
-            tasks.push(Task::InLevel(*node))?;
+        Some(FirstReached::Returns(level, put, take)) => {
+            if let Some(level) = table.levels.get(*level)
+                && let Some(origin) = level.origins.get(*put)
+                && let Some(ending) = level.endings.get(*take)
+            {
+                calls.push(ending.take)?;
+                tasks.push(Task::InLevel(origin.node))?;
+                tasks.push(Task::One(origin.put))?;
+                tasks.push(Task::InLevel(ending.node))?;
+            }
         }
         Some(FirstReached::Begins) | None => {}
     }

@@ -328,24 +328,21 @@ fn lay_on(
     if upper.parents.contains(&below) {
         return Ok(());
     }
+    let put = upper.origins.len();
     upper.parents.push(below)?;
     upper.origins.push(origin)?;
     for k in 0..upper.endings.len() {
-        if let Some(ending) = ending_of(progress, level, k) {
-            let node = NodeKey {
-                level: below,
-                cut: ending.cut,
-            };
-            let by = FirstReached::Returns(origin, ending.node, ending.take);
-            reach(progress, node, by)?;
+        if let Some(cut) = ended_at(progress, level, k) {
+            let node = NodeKey { level: below, cut };
+            reach(progress, node, FirstReached::Returns(level, put, k))?;
         }
     }
     Ok(())
 }
 
-// The take with this number among those that ended a level.
-fn ending_of(progress: &SearchState, level: usize, k: usize) -> Option<LevelEnd> {
-    progress.table.levels.get(level)?.endings.get(k).copied()
+// The number of the cut that the take with this number of those that ended a level leads to.
+fn ended_at(progress: &SearchState, level: usize, k: usize) -> Option<usize> {
+    Some(progress.table.levels.get(level)?.endings.get(k)?.cut)
 }
 
 // Adds a take to those that ended a level: it leads to each of the levels that may lie right below.
@@ -360,27 +357,23 @@ fn end(progress: &mut SearchState, level: usize, ending: LevelEnd) -> Result<(),
     let Some(upper) = progress.table.levels.get_mut(level) else {
         return Ok(());
     };
+    let take = upper.endings.len();
     upper.endings.push(ending)?;
     for k in 0..upper.parents.len() {
-        if let Some((below, origin)) = parent_of(progress, level, k) {
+        if let Some(below) = parent_of(progress, level, k) {
             let node = NodeKey {
                 level: below,
                 cut: ending.cut,
             };
-            let by = FirstReached::Returns(origin, ending.node, ending.take);
-            reach(progress, node, by)?;
+            reach(progress, node, FirstReached::Returns(level, k, take))?;
         }
     }
     Ok(())
 }
 
-// The level with this number among the parents of a level, and a put that leads from it to the
-// level.
-fn parent_of(progress: &SearchState, level: usize, k: usize) -> Option<(usize, Origin)> {
-    let upper = progress.table.levels.get(level)?;
-    let below = upper.parents.get(k).copied()?;
-    let origin = upper.origins.get(k).copied()?;
-    Some((below, origin))
+// The level with this number among the parents of a level.
+fn parent_of(progress: &SearchState, level: usize, k: usize) -> Option<usize> {
+    progress.table.levels.get(level)?.parents.get(k).copied()
 }
 
 // Counts that something leads to a node; a new node is still to be looked at.

@@ -63,9 +63,10 @@ pub enum FirstReached {
     Begins,
     /// By a call that doesn't change the list, from another node of the level, by its number.
     Stays(usize, Call),
-    /// From a node of the level by a put, and from a node of the level that this put began, by its
-    /// number, by a take that ended that level.
-    Returns(Origin, usize, Call),
+    /// From a node of the level by a put, and from a node of the level that this put began by a
+    /// take: the number of the level that the put began, the number of the put among the origins
+    /// of that level, and the number of the take among its endings.
+    Returns(usize, usize, usize),
 }
 
 /// The levels of a search, the cuts that it reached, by their counts, its nodes, and with each
