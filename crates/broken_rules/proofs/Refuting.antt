@@ -225,7 +225,7 @@ module _ (book : List Page) (small : IsSmall book) (first second : Call) where
       let d : Deal = did kinds.Register book first in
       let parts = and_parts (is_take d) (not (value_by d == 0)) here.fit in
       subst (λ (k : Kind). ¬ HasLegalOrder (kind_spec k) book) (sym is)
-      (read_unwritten register_reading held_in (0 ∷ []) (kind_next kinds.Register) book register_is
+      (read_unwritten register_reading held_in (kind_spec kinds.Register) book register_is
       (value_by d) first
       (eqb-false (value_by d) 0 (not-true (value_by d == 0) parts.1)) (take_is d parts.0) here.puts)
   refuted named.ReadOverwritten kind breaks =
@@ -236,7 +236,7 @@ module _ (book : List Page) (small : IsSmall book) (first second : Call) where
       let e : Deal = did kinds.Register book second in
       let two = two_parts d e here.fit in
       subst (λ (k : Kind). ¬ HasLegalOrder (kind_spec k) book) (sym is)
-      (read_overwritten register_reading held_in (0 ∷ []) (kind_next kinds.Register) book
+      (read_overwritten register_reading held_in (kind_spec kinds.Register) book
       register_is (value_by d) (value_by e) first second two.0 two.1 here.related here.puts)
   refuted named.FoundUnput kind breaks = elim (set_or_map kind breaks.kept) [
     | inl is ↦
