@@ -56,7 +56,7 @@ module _ (spec : SeqSpec) where
 -- what a round of a handle's monitor found is right
 pub right_of_round : (h : MonitorHandle) (m : Monitor Outside) (r : Rows Outside) (made : Round)
     → r ≡ rows_watched h → IsMonitorOf every_reply r m
-    → HasFound spec r.callers (local_of h.monitor) (local_of m) (own_of m) made
+    → HasFound (kind_spec h.kind) r.callers (local_of h.monitor) (local_of m) (own_of m) made
     → IsRightOfRound h m made
 right_of_round h m r made is of found =
     let spec = kind_spec h.kind in
