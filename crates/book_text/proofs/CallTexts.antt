@@ -1,5 +1,5 @@
 -- The line of a call beside the book that the lines before it give.
-use Rattle.std.proofs.Common.{◌≡◌, ◌≢◌, ℕ, zero, suc, ◌+◌, ◌<◌, ◌≤◌, ◌^◌, ◌⊎◌, List, [], ◌∷◌, ◌++◌, length, get_or, decimal, Option, Some, None, refl, sym, ap, subst, ◌∙◌, arith, inl, inr, drop, drop-cons, add-one}
+use Rattle.std.proofs.Common.{◌≡◌, ◌≢◌, ℕ, zero, suc, ◌+◌, ◌<◌, ◌≤◌, ◌^◌, ◌⊎◌, List, [], ◌∷◌, ◌++◌, length, replicate, get_or, decimal, Option, Some, None, refl, sym, ap, subst, ◌∙◌, arith, inl, inr, drop, drop-cons, add-one}
 use Rattle.std.specs.Prelude.{IfSome, IfNone, IsSomeAnd, codes}
 use Rattle.std.proofs.lemmas.Option.{some_pair_parts}
 use Rattle.book_base.specs.declared.call.Call.{Call}
@@ -18,7 +18,7 @@ use Rattle.std.proofs.lemmas.List.{length-set, length-replicate, length-append}
 use Rattle.text_fields.specs.declared.version.Version.{Version}
 use Rattle.text_fields.specs.declared.version.Version.TheVariants.{First, Second}
 use Rattle.text_fields.specs.Lines.{Unread, cut_at}
-use Rattle.text_fields.specs.Counts.{AreNumbers, cut_words, pair_word, pair_words}
+use Rattle.text_fields.specs.Counts.{AreNumbers, AreAtMost, cut_words, pair_word, pair_words}
 use Rattle.text_fields.specs.Faults as faults
 use Rattle.text_fields.specs.Faults.{turn_of, IsFirstTest, Rules, StopsFor}
 use Rattle.text_fields.specs.Operations.{Operations}
@@ -308,3 +308,13 @@ pub next_caller : (calls : List ℕ) (i : ℕ) → i < length calls → all_call
     ≡ calls_from i 0 (get_or calls i 0) ++ all_calls (i + 1) (drop (i + 1) calls)
 next_caller calls i lt = let one : drop i calls ≡ get_or calls i 0 ∷ drop (i + 1) calls =
     rw (add-one, drop-cons calls i 0) refl in ap (all_calls i) one
+
+-- where each caller has no call, no call is due
+pub no_calls : (i n : ℕ) → all_calls i (replicate n 0) ≡ []
+no_calls i zero = refl
+no_calls i (suc n) = no_calls (i + 1) n
+
+-- counts that are all zero are at most any number
+pub no_calls_few : (most n : ℕ) → AreAtMost most (replicate n 0)
+no_calls_few most zero = tt
+no_calls_few most (suc n) = (omega arith, no_calls_few most n)

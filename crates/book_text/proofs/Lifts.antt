@@ -11,11 +11,11 @@ use Rattle.text_fields.specs.declared.version.Version.TheVariants.{First, Second
 use Rattle.text_fields.specs.Version.{most_calls}
 use Rattle.text_fields.specs.Counts.{AreAtMost}
 use Rattle.text_fields.specs.Faults.{ALine, IsWrong}
-use Rattle.text_fields.specs.Head.{HeadDue, TitleDue, ObjectDue, CallersDue, CountsDue, HeadRead, HeadPasses, head_wanted, head_rules}
+use Rattle.text_fields.specs.Head.{head_rules}
 use Rattle.text_fields.specs.Operations.{kind_operations}
-use Rattle.text_fields.proofs.Within.{AreWithin, wrong_alike}
+use Rattle.text_fields.proofs.Within.{AreWithin, wrong_alike, head_is_within}
 use Rattle.book_text.specs.CallLines.{BookSoFar, CallPasses, call_wanted, call_rules}
-use Rattle.book_text.specs.BookRules.{InCalls, after_head, in_calls, BookPasses, book_wanted, book_rules}
+use Rattle.book_text.specs.BookRules.{InHead, InCalls, after_head, in_calls, BookPasses, book_wanted, book_rules}
 
 pub few_calls : (version : Version) (calls : List ℕ) → AreAtMost (most_calls version) calls
     → (i : ℕ) → get_or calls i 0 ≤ MAX_CALLS
@@ -27,33 +27,11 @@ few_calls Second (c ∷ calls) h zero = omega (arith, h.0)
 few_calls Second (c ∷ calls) h (suc i) = few_calls Second calls h.1 i
 
 module _ (version : Version) where
-  head_right : (due after : HeadDue) (words : List (List ℕ))
-      → HeadPasses version (codes "book") due words after
-      → BookPasses version (after_head due) words (after_head after)
-  head_right TitleDue after words h = (after, h, refl)
-  head_right ObjectDue after words h = (after, h, refl)
-  head_right (CallersDue kind) after words h = (after, h, refl)
-  head_right (CountsDue kind n) after words h = (after, h, refl)
-  head_right (HeadRead kind calls) after words h = absurd h
-
-  head_wrong : (due : HeadDue) (bytes : List ℕ) (what : What)
-      → IsWrong (head_rules version (codes "book")) due (head_wanted due) bytes what
-      → IsWrong (book_rules version) (after_head due) (book_wanted (after_head due)) bytes what
-  head_wrong TitleDue = wrong_alike (head_rules version (codes "book"))
-      (book_rules version) TitleDue (after_head TitleDue) (λ words what. (λ h. h, λ h. h))
-  head_wrong ObjectDue = wrong_alike (head_rules version (codes "book"))
-      (book_rules version) ObjectDue (after_head ObjectDue) (λ words what. (λ h. h, λ h. h))
-  head_wrong (CallersDue kind) = wrong_alike (head_rules version (codes "book"))
-      (book_rules version) (CallersDue kind) (after_head (CallersDue kind))
-      (λ words what. (λ h. h, λ h. h))
-  head_wrong (CountsDue kind n) = wrong_alike (head_rules version (codes "book"))
-      (book_rules version) (CountsDue kind n) (after_head (CountsDue kind n))
-      (λ words what. (λ h. h, λ h. h))
-  head_wrong (HeadRead kind calls) = λ bytes what h. absurd h
-
   pub head_within :
       AreWithin (head_rules version (codes "book")) (book_rules version) after_head
-  head_within = record { right = head_right; wrong = head_wrong }
+  head_within = head_is_within version (codes "book") (book_rules version) InHead after_head
+      refl refl (λ kind. refl) (λ kind n. refl) (λ due. refl)
+      (λ due after words h. (after, h, refl)) (λ due words what. (λ h. h, λ h. h))
 
   module _ (kind : Kind) where
     calls_right : (due after : BookSoFar) (words : List (List ℕ))

@@ -33,18 +33,12 @@ after_pairs (x ∷ xs) ys all word words e f h =
 -- ---- operations
 
 -- the next word is taken, where there is one
-abbrev pub Next : Option (List ℕ) → List (List ℕ) → List (List ℕ) → Type 0
-Next next words left = MatchOption next ((words ≡ []) × (left ≡ [])) (λ word. words ≡ word ∷ left)
-
-pub next_word : (next : Option (Bor (List ℕ))) (words left : List (List ℕ))
-    → MatchOption next ((words ≡ []) × (left ≡ [])) (λ word. words ≡ word.now ∷ left)
-    → Next (option_copied next) words left
-next_word None words left h = h
-next_word (Some word) words left h = h
+abbrev Next : Option (Bor (List ℕ)) → List (List ℕ) → List (List ℕ) → Type 0
+Next next words left =
+    MatchOption next ((words ≡ []) × (left ≡ [])) (λ word. words ≡ word.now ∷ left)
 
 -- the words that are left once the next word is taken
-pub next_drops : (next : Option (Bor (List ℕ))) (words left : List (List ℕ))
-    → MatchOption next ((words ≡ []) × (left ≡ [])) (λ word. words ≡ word.now ∷ left)
+pub next_drops : (next : Option (Bor (List ℕ))) (words left : List (List ℕ)) → Next next words left
     → left ≡ drop 1 words
 next_drops None words left h = h.1 ∙ sym (ap (drop 1) h.0)
 next_drops (Some word) words left h = sym (ap (drop 1) h)
@@ -61,9 +55,10 @@ pub record AreTaken (all prefix left : List (List ℕ)) : Type 0 where
   pub whole : all ≡ prefix ++ left
   pub enough : (left ≡ []) ⊎ (length prefix ≡ 3)
 
-pub three_taken : (first : List ℕ) (second third : Option (List ℕ))
+pub three_taken : (first : List ℕ) (second third : Option (Bor (List ℕ)))
     (all one two three : List (List ℕ)) → all ≡ first ∷ one → Next second one two
-    → Next third two three → AreTaken all (first ∷ further second third) three
+    → Next third two three
+    → AreTaken all (first ∷ further (option_copied second) (option_copied third)) three
 three_taken first None None all one two three e h k =
     record { whole = rw (e, h.0, k.1) refl; enough = inl k.1 }
 three_taken first None (Some t) all one two three e h k = absurd (cc (h.1, k))

@@ -7,42 +7,23 @@ use Rattle.book_base.specs.Book.{Page}
 use Rattle.seq_objects.specs.declared.kind.Kind.{Kind}
 use Rattle.text_fields.specs.declared.version.Version.TheVariants.{Second}
 use Rattle.text_fields.specs.Faults.{ALine, IsWrong}
-use Rattle.text_fields.specs.Head.{HeadDue, TitleDue, ObjectDue, CallersDue, CountsDue, HeadRead, HeadPasses, head_wanted, head_rules}
+use Rattle.text_fields.specs.Head.{HeadDue, head_rules}
 use Rattle.text_fields.specs.Operations.{kind_operations}
-use Rattle.text_fields.proofs.Within.{AreWithin, wrong_alike}
+use Rattle.text_fields.proofs.Within.{AreWithin, wrong_alike, head_is_within}
 use Rattle.book_text.specs.CallLines.{BookSoFar, CallPasses, call_wanted, call_rules}
-use Rattle.book_text.specs.BookRules.{InCalls, after_head, in_calls}
+use Rattle.book_text.specs.BookRules.{InHead, InCalls, after_head, in_calls}
 use Rattle.certificate_text.specs.CertificateRules.{CertificateDue, InBook, after_book, CertificatePasses, certificate_wanted, certificate_rules}
 
 -- a state of reading the head, as one of reading the certificate
 abbrev pub in_head : HeadDue → CertificateDue
 in_head due = after_book (after_head due)
 
-head_right : (due after : HeadDue) (words : List (List ℕ))
-    → HeadPasses Second (codes "book") due words after
-    → CertificatePasses (in_head due) words (in_head after)
-head_right TitleDue after words h = (after_head after, (after, h, refl), refl)
-head_right ObjectDue after words h = (after_head after, (after, h, refl), refl)
-head_right (CallersDue kind) after words h = (after_head after, (after, h, refl), refl)
-head_right (CountsDue kind n) after words h = (after_head after, (after, h, refl), refl)
-head_right (HeadRead kind calls) after words h = absurd h
-
-head_wrong : (due : HeadDue) (bytes : List ℕ) (what : What)
-    → IsWrong (head_rules Second (codes "book")) due (head_wanted due) bytes what
-    → IsWrong certificate_rules (in_head due) (certificate_wanted (in_head due)) bytes what
-head_wrong TitleDue = wrong_alike (head_rules Second (codes "book"))
-    certificate_rules TitleDue (in_head TitleDue) (λ words what. (λ h. h, λ h. h))
-head_wrong ObjectDue = wrong_alike (head_rules Second (codes "book"))
-    certificate_rules ObjectDue (in_head ObjectDue) (λ words what. (λ h. h, λ h. h))
-head_wrong (CallersDue kind) = wrong_alike (head_rules Second (codes "book"))
-    certificate_rules (CallersDue kind) (in_head (CallersDue kind)) (λ words what. (λ h. h, λ h. h))
-head_wrong (CountsDue kind n) = wrong_alike (head_rules Second (codes "book"))
-    certificate_rules (CountsDue kind n) (in_head (CountsDue kind n))
-    (λ words what. (λ h. h, λ h. h))
-head_wrong (HeadRead kind calls) = λ bytes what h. absurd h
-
 pub head_within : AreWithin (head_rules Second (codes "book")) certificate_rules in_head
-head_within = record { right = head_right; wrong = head_wrong }
+head_within = head_is_within Second (codes "book") certificate_rules
+    (λ due. InBook (InHead due)) in_head
+    refl refl (λ kind. refl) (λ kind n. refl) (λ due. refl)
+    (λ due after words h. (after_head after, (after, h, refl), refl))
+    (λ due words what. (λ h. h, λ h. h))
 
 module _ (kind : Kind) where
   -- how far the lines of calls are read, as a state of reading the certificate

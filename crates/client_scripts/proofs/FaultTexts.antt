@@ -20,6 +20,7 @@ use Rattle.text_fields.specs.Faults.{ALine}
 use Rattle.book_text.specs.CallLines.{calls_from, all_calls}
 use Rattle.book_text.specs.Grammar.{end_words}
 use Rattle.book_text.specs.AnyTextBeginnings.{LeavesAt}
+use Rattle.book_text.proofs.CallTexts.{no_calls, no_calls_few}
 use Rattle.book_text.proofs.Leavings.{Completes, one_more, leaves_texts}
 use Rattle.book_text.proofs.ReadTexts.{has_zero}
 use Rattle.client_scripts.specs.Plans.{Plan}
@@ -109,14 +110,6 @@ module _ (version : Version) where
         },
         refl,
       ) (body_comes kind (with_operation begun 0) calls h.1)
-
-  no_calls : (i n : ℕ) → all_calls i (replicate n 0) ≡ []
-  no_calls i zero = refl
-  no_calls i (suc n) = no_calls (i + 1) n
-
-  no_calls_few : (most n : ℕ) → AreAtMost most (replicate n 0)
-  no_calls_few most zero = tt
-  no_calls_few most (suc n) = (omega arith, no_calls_few most n)
 
   counts_come : (kind : Kind) (n : ℕ) → Done (InHead (CountsDue kind n))
   counts_come kind n =

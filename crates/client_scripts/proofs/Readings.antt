@@ -2,54 +2,31 @@
 use Rattle.std.proofs.Common.{◌≡◌, ℕ, ◌⊎◌, List, [], ◌++◌, Result, refl}
 use Rattle.std.specs.Prelude.{codes, IfOk, IfErr, MatchResult}
 use Rattle.book_base.specs.declared.fault.TextFault.{TextFault}
-use Rattle.book_base.specs.declared.fault.What.{What}
 use Rattle.book_base.specs.declared.fault.What.TheVariants.{End}
 use Rattle.book_base.specs.declared.fault.ReadFault.{ReadFault}
 use Rattle.book_base.specs.declared.fault.ReadFault.TheVariants.{Text, NoMemory}
 use Rattle.text_fields.specs.declared.version.Version.{Version}
 use Rattle.text_fields.specs.Lines.{Unread}
-use Rattle.text_fields.specs.Faults.{IsWrong, StopsFor, IsFirstFault, GoesTo}
-use Rattle.text_fields.specs.Head.{HeadDue, TitleDue, ObjectDue, CallersDue, CountsDue, HeadRead, HeadPasses, head_wanted, head_rules}
+use Rattle.text_fields.specs.Faults.{StopsFor, IsFirstFault, GoesTo}
+use Rattle.text_fields.specs.Head.{TitleDue, head_rules}
 use Rattle.text_fields.proofs.Sharp.{only_test}
-use Rattle.text_fields.proofs.Within.{AreWithin, wrong_alike}
+use Rattle.text_fields.proofs.Within.{AreWithin, head_is_within}
 use Rattle.text_fields.proofs.Readings as readings
 use Rattle.book_text.specs.BookRules.{whole_text}
 use Rattle.book_text.specs.Ending.{IsEnded, IsNoEnd}
 use Rattle.book_text.proofs.Endings.{goes_end, stops_end}
 use Rattle.client_scripts.specs.Plans.{Plan}
-use Rattle.client_scripts.specs.ScriptRules.{InHead, Turned, AtEnd, after_head, ScriptPasses, ScriptFails, script_wanted, script_rules, IsScriptText, IsNoScriptText, IsFirstScriptFault}
+use Rattle.client_scripts.specs.ScriptRules.{InHead, Turned, AtEnd, after_head, ScriptFails, script_rules, IsScriptText, IsNoScriptText, IsFirstScriptFault}
 use Rattle.client_scripts.proofs.SharpScripts.{script_sharp}
 
 -- ---- the head within the text of a script
 
 module _ (version : Version) where
-  head_right : (due after : HeadDue) (words : List (List ℕ))
-      → HeadPasses version (codes "script") due words after
-      → ScriptPasses version (after_head due) words (after_head after)
-  head_right TitleDue after words h = (after, h, refl)
-  head_right ObjectDue after words h = (after, h, refl)
-  head_right (CallersDue kind) after words h = (after, h, refl)
-  head_right (CountsDue kind n) after words h = (after, h, refl)
-  head_right (HeadRead kind calls) after words h = absurd h
-
-  head_wrong : (due : HeadDue) (bytes : List ℕ) (what : What)
-      → IsWrong (head_rules version (codes "script")) due (head_wanted due) bytes what
-      → IsWrong (script_rules version) (after_head due) (script_wanted (after_head due)) bytes what
-  head_wrong TitleDue = wrong_alike (head_rules version (codes "script"))
-      (script_rules version) TitleDue (after_head TitleDue) (λ words what. (λ h. h, λ h. h))
-  head_wrong ObjectDue = wrong_alike (head_rules version (codes "script"))
-      (script_rules version) ObjectDue (after_head ObjectDue) (λ words what. (λ h. h, λ h. h))
-  head_wrong (CallersDue kind) = wrong_alike (head_rules version (codes "script"))
-      (script_rules version) (CallersDue kind) (after_head (CallersDue kind))
-      (λ words what. (λ h. h, λ h. h))
-  head_wrong (CountsDue kind n) = wrong_alike (head_rules version (codes "script"))
-      (script_rules version) (CountsDue kind n) (after_head (CountsDue kind n))
-      (λ words what. (λ h. h, λ h. h))
-  head_wrong (HeadRead kind calls) = λ bytes what h. absurd h
-
   pub head_within :
       AreWithin (head_rules version (codes "script")) (script_rules version) after_head
-  head_within = record { right = head_right; wrong = head_wrong }
+  head_within = head_is_within version (codes "script") (script_rules version) InHead after_head
+      refl refl (λ kind. refl) (λ kind n. refl) (λ due. refl)
+      (λ due after words h. (after, h, refl)) (λ due words what. (λ h. h, λ h. h))
 
 -- ---- the end
 

@@ -17,7 +17,7 @@ use Rattle.row_table.specs.Notes.{given_now}
 use Rattle.row_table.proofs.Noting.{last_given-push}
 use Rattle.collect_scan.specs.Scanned.{scan_with, local_in_scan, local_stood, most_words, HasScanned, HasTicked}
 use Rattle.collect_scan.specs.Turns.{HasTurned}
-use Rattle.collect_scan.proofs.Seen.{round_lends}
+use Rattle.world_laws.proofs.Lending.{round_lends}
 
 -- A scan that isn't done, and whose words are steady, has taken fewer words than `most_words`.
 module _ (n me : ℕ) (taken : List ℕ) (low : me < n) (steady : IsSteady n me taken) where

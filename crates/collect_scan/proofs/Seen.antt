@@ -1,22 +1,23 @@
 -- A scan that peeks into a row has looked at a count of that row's caller which is above the row's
 -- number, so its caller knows the row.
-use Rattle.std.proofs.Common.{◌≡◌, ◌⊎◌, ℕ, zero, suc, ◌+◌, ◌-◌, ◌*◌, ◌<◌, ◌≤◌, Bool, true, false, ◌&&◌, ◌==◌, nat_lt, if◌then◌else◌, List, [], ◌∷◌, ◌++◌, length, take, Option, Some, None, slice_index, refl, sym, ap, ◌∙◌, subst, arith, inl, inr, IsTrue, length-append, length-drop, eq-eqb}
+use Rattle.std.proofs.Common.{◌≡◌, ◌⊎◌, ℕ, zero, suc, ◌+◌, ◌*◌, ◌<◌, ◌≤◌, Bool, true, ◌&&◌, ◌==◌, nat_lt, List, [], ◌∷◌, ◌++◌, length, take, slice_index, refl, sym, ap, ◌∙◌, subst, arith, inl, inr, IsTrue, length-append, length-drop, eq-eqb}
 use Rattle.std.specs.List.{list_any}
 use Rattle.std.proofs.Math.Nat.{zero-div}
 use Rattle.std.proofs.Math.Seq.{take-suc}
 use Rattle.std.proofs.lemmas.List.{get_or_append_left, get_or_push, take_all}
-use Rattle.std.proofs.lemmas.Bool.{and_from, or_left, or_right, lt-ltb, ltb-true, cases_Bool, cases_lt}
+use Rattle.std.proofs.lemmas.Bool.{and_from, or_left, or_right, lt-ltb, cases_lt}
 use Rattle.world_core.specs.declared.region.Region.{Region}
 use Rattle.world_core.specs.declared.course.Course.{Course}
 use Rattle.world_core.specs.declared.course.Course.TheVariants.{Collects, Borrows, Ends}
 use Rattle.world_core.specs.declared.want.Want.{Want}
 use Rattle.world_core.specs.declared.want.Want.TheVariants.{Look, Peek, Done}
-use Rattle.world_core.specs.Scan.{rounds, open_round, last_of, course, course_after, course_on, course_by, lent_by, mover, mover_from, is_same_cut, wanted, wanted_by}
+use Rattle.world_core.specs.Scan.{rounds, open_round, last_of, course, course_after, wanted, wanted_by}
 use Rattle.world_core.specs.Standing.{first_of}
 use Rattle.std.specs.Option.{unwrap_or}
 use Rattle.world_core.specs.Local.{Looked, Local}
 use Rattle.world_core.specs.Event.{Opening, is_same_region, knows_row}
 use Rattle.world_core.proofs.Scans.{open_lacks, rounds_more, rounds_whole, open_more, open_whole, course_kept, course_filled}
+use Rattle.world_laws.proofs.Lending.{round_lends}
 use Rattle.collect_scan.specs.Scanned.{ScannedWords, found_with, found_by, local_in_scan}
 use Rattle.collect_scan.proofs.Going.{found_more, same_region_self}
 
@@ -47,80 +48,6 @@ record HasSeen (n : ℕ) (region : Region) (taken : List ℕ) : Type 0 where
       (found_by n region taken).looks (look_at region t (slice_index (open_round n taken) t))
   row : (j k : ℕ) → course n taken ≡ Borrows j k
       → HasLooked (found_by n region taken).looks region j k
-
--- What holds where a collect that found the counts `latest` makes the scan borrow row k of caller
--- j: j is one of the callers, and its count is above k.
-pub record IsLent (latest : List ℕ) (j k : ℕ) : Type 0 where
-  pub caller : j < length latest
-  pub above : k < slice_index latest j
-
-record Moves_from (i : ℕ) (latest : List ℕ) (j : ℕ) : Type 0 where
-  at : ℕ
-  is : j ≡ i + at
-  below : at < length latest
-  more : 0 < slice_index latest at
-
-moves_from : (i : ℕ) (first latest : List ℕ) (j : ℕ) → mover_from i first latest ≡ Some j
-    → Moves_from i latest j
-moves_from i [] latest j h = absurd cc
-moves_from i (a ∷ first) [] j h = absurd cc
-moves_from i (a ∷ first) (b ∷ latest) j h = elim (cases_Bool (nat_lt (a + 1) b)) [
-  | inl moved ↦
-      let here : Some i ≡ Some j =
-      sym (ap (λ (c : Bool). if c then Some i else mover_from (suc i) first latest) moved) ∙ h in
-      let same : i ≡ j = cc in
-      let up : a + 1 < b = ltb-true (a + 1) b moved in
-      record { at = 0; is = omega (arith, same); below = omega arith; more = omega (arith, up) }
-  | inr stays ↦
-      let rest = moves_from (suc i) first latest j
-      (sym (ap (λ (c : Bool). if c then Some i else mover_from (suc i) first latest) stays) ∙ h) in
-      record {
-        at = suc rest.at;
-        is = omega (arith, rest.is);
-        below = omega (arith, rest.below);
-        more = rest.more;
-      }
-]
-
-lent_is : (first latest : List ℕ) (m : Option ℕ) (j k : ℕ) → mover first latest ≡ m
-    → lent_by latest m ≡ Borrows j k → IsLent latest j k
-lent_is first latest None j k is h = absurd cc
-lent_is first latest (Some i) j k is h =
-    let m = moves_from 0 first latest i is in
-    let caller : i ≡ j = cc in
-    let row : slice_index latest i - 1 ≡ k = cc in
-    let at : i ≡ m.at = omega (arith, m.is) in
-    let more : 0 < slice_index latest i =
-    subst (λ (t : ℕ). 0 < slice_index latest t) (sym at) m.more in
-    subst (λ (t : ℕ). IsLent latest t k) caller
-    (record { caller = omega (arith, at, m.below); above = omega (arith, more, row) })
-
-lent_unless : (b : Bool) (first latest : List ℕ) (j k : ℕ)
-    → (if b then Ends latest else lent_by latest (mover first latest)) ≡ Borrows j k
-    → IsLent latest j k
-lent_unless true first latest j k h = absurd cc
-lent_unless false first latest j k h = lent_is first latest (mover first latest) j k refl h
-
-collect_lends : (first : List ℕ) (last : Option (List ℕ)) (latest : List ℕ) (j k : ℕ)
-    → course_by first last latest ≡ Borrows j k → IsLent latest j k
-collect_lends first None latest j k h = absurd cc
-collect_lends first (Some before) latest j k h =
-    lent_unless (is_same_cut before latest) first latest j k h
-
--- What holds of a round after which the scan borrows row k of caller j: it was a collect, in which
--- the count of j is above k.
-pub record Lends (latest : List ℕ) (c : Course) (j k : ℕ) : Type 0 where
-  pub was : c ≡ Collects
-  pub lent : IsLent latest j k
-
--- Where the scan borrows a row after a round, that round was a collect, in which the count of the
--- row's caller is above the row's number.
-pub round_lends : (first : List ℕ) (last : Option (List ℕ)) (latest : List ℕ) (c : Course) (j k : ℕ)
-    → course_on first last latest c ≡ Borrows j k → Lends latest c j k
-round_lends first last latest Collects j k h =
-    record { was = refl; lent = collect_lends first last latest j k h }
-round_lends first last latest (Borrows i row) j k h = absurd cc
-round_lends first last latest (Ends cut) j k h = absurd cc
 
 module _ (n : ℕ) (region : Region) (some : 0 < n) where
   module _ (taken : List ℕ) (x : ℕ) (h : HasSeen n region taken) where

@@ -1,5 +1,5 @@
 -- Counting the uses of values, call by call.
-use Rattle.std.proofs.Common.{◌≡◌, ℕ, zero, suc, ◌+◌, ◌<◌, ◌≤◌, ◌⊎◌, ◌==◌, ◌∙◌, min, List, [], ◌∷◌, length, get_or, set, slice_get, IsSomeAnd, get_or-set_same, get_or-set_other, Option, Some, refl, sym, ap, subst, inl, inr, if◌then◌else◌, arith}
+use Rattle.std.proofs.Common.{◌≡◌, ℕ, zero, suc, ◌+◌, ◌*◌, ◌<◌, ◌≤◌, ◌⊎◌, ◌==◌, ◌∙◌, min, List, [], ◌∷◌, length, get_or, set, slice_get, IsSomeAnd, get_or-set_same, get_or-set_other, Option, Some, refl, sym, ap, subst, inl, inr, if◌then◌else◌, arith}
 use Rattle.std.proofs.lemmas.Bool.{cases_lt, cases_eq, cases_Bool, cond-true, cond-false, eqb-true, eq-eqb}
 use Rattle.std.proofs.lemmas.Option.{same_Some, slice_get_within}
 use Rattle.std.proofs.lemmas.List.{get_or_past, length-set}
@@ -149,6 +149,56 @@ counted_take deal i n v used took is = record {
 
 -- ---- all values
 
+-- the uses after one more call, which is no unanswered take and changes the use of w alone
+counted_by_one : (reading : Reading) (book : List Page) (i n w : ℕ) (old new : Uses) (more : Use)
+    → ((v : ℕ) → (v ≡ w → ⊥) → deal_of reading book (call_of i n) ≡ deals.Put v → ⊥)
+    → ((v : ℕ) → (v ≡ w → ⊥) → deal_of reading book (call_of i n) ≡ deals.Took v → ⊥)
+    → (deal_of reading book (call_of i n) ≡ deals.OpenTake → ⊥)
+    → IsCounted (deal_of reading book) (IsReadTo i (n + 1)) w more
+    → more.puts ≤ i * MAX_CALLS + (n + 1) → more.takes ≤ i * MAX_CALLS + (n + 1)
+    → AreUsesOf reading book i n old
+    → ((v : ℕ) → use_of new.by_value.entries v
+    ≡ (if v == w then more else use_of old.by_value.entries v))
+    → new.open_from ≡ old.open_from → AreUsesOf reading book i (n + 1) new
+counted_by_one reading book i n w old new more no_put no_take not_open counted puts takes is uses
+    same =
+    let deal = deal_of reading book in
+    let old_use : ℕ → Use = use_of old.by_value.entries in
+    let new_use : (v : ℕ) → ((v ≡ w) × (use_of new.by_value.entries v ≡ more))
+    ⊎ ((v ≡ w → ⊥) × (use_of new.by_value.entries v ≡ old_use v)) = λ v.
+    elim (cases_Bool (v == w)) [
+      | inl so ↦ inl (eqb-true v w so, uses v ∙ cond-true (v == w) more (old_use v) so)
+      | inr other ↦ inr (
+        λ e. absurd (let t = eq-eqb v w e in cc),
+        uses v ∙ cond-false (v == w) more (old_use v) other,
+      )
+    ] in
+    record {
+      each = λ v. elim (new_use v) [
+        | inl h ↦
+            subst (IsCounted deal (IsReadTo i (n + 1)) v) (sym h.1)
+            (subst (λ (x : ℕ). IsCounted deal (IsReadTo i (n + 1)) x more) (sym h.0) counted)
+        | inr h ↦
+            subst (IsCounted deal (IsReadTo i (n + 1)) v) (sym h.1)
+            (counted_skip deal i n v (old_use v) (no_put v h.0) (no_take v h.0) (is.each v))
+      ];
+      few = λ v. elim (new_use v) [
+        | inl h ↦ (
+          omega (arith, puts, ap (λ (u : Use). u.puts) h.1),
+          omega (arith, takes, ap (λ (u : Use). u.takes) h.1),
+        )
+        | inr h ↦ let f = is.few v in (
+          omega (arith, f.0, ap (λ (u : Use). u.puts) h.1),
+          omega (arith, f.1, ap (λ (u : Use). u.takes) h.1),
+        )
+      ];
+      answered = λ c h e. elim (read_cases i n c h) [
+        | inl before ↦
+            omega (arith, is.answered c before e, ap (λ (xs : List ℕ). get_or xs c.caller 0) same)
+        | inr this ↦ absurd (not_open (sym (ap deal this) ∙ e))
+      ];
+    }
+
 -- the uses after one more put of w
 pub counted_by_put : (reading : Reading) (book : List Page) (i n w : ℕ) (old new : Uses)
     → deal_of reading book (call_of i n) ≡ deals.Put w → AreUsesOf reading book i n old
@@ -157,49 +207,16 @@ pub counted_by_put : (reading : Reading) (book : List Page) (i n w : ℕ) (old n
     { puts = (use_of old.by_value.entries w).puts + 1; put = call_of i n }
     else use_of old.by_value.entries v))
     → new.open_from ≡ old.open_from → AreUsesOf reading book i (n + 1) new
-counted_by_put reading book i n w old new put is uses same =
-    let deal = deal_of reading book in
-    let old_use : ℕ → Use = use_of old.by_value.entries in
-    let more : Use = record (old_use w) { puts = (old_use w).puts + 1; put = call_of i n } in
-    let new_use : (v : ℕ) → ((v ≡ w) × (use_of new.by_value.entries v ≡ more))
-    ⊎ ((v ≡ w → ⊥) × (use_of new.by_value.entries v ≡ old_use v)) = λ v.
-    elim (cases_Bool (v == w)) [
-      | inl so ↦ inl (eqb-true v w so, uses v ∙ cond-true (v == w) more (old_use v) so)
-      | inr other ↦ inr (
-        λ e. absurd (let t = eq-eqb v w e in cc),
-        uses v ∙ cond-false (v == w) more (old_use v) other,
-      )
-    ] in
-    record {
-      each = λ v. elim (new_use v) [
-        | inl h ↦
-            let here : IsCounted deal (IsReadTo i (n + 1)) w more =
-            counted_put deal i n w (old_use w) put (is.each w) in
-            subst (IsCounted deal (IsReadTo i (n + 1)) v) (sym h.1)
-            (subst (λ (x : ℕ). IsCounted deal (IsReadTo i (n + 1)) x more) (sym h.0) here)
-        | inr h ↦
-            subst (IsCounted deal (IsReadTo i (n + 1)) v) (sym h.1)
-            (counted_skip deal i n v (old_use v)
-            (λ e. h.0 (let both : deals.Put v ≡ deals.Put w = sym e ∙ put in cc))
-            (λ e. let both : deals.Took v ≡ deals.Put w = sym e ∙ put in cc) (is.each v))
-      ];
-      few = λ v. elim (new_use v) [
-        | inl h ↦ let f = is.few w in (
-          omega (arith, f.0, ap (λ (u : Use). u.puts) h.1),
-          omega (arith, f.1, ap (λ (u : Use). u.takes) h.1),
-        )
-        | inr h ↦ let f = is.few v in (
-          omega (arith, f.0, ap (λ (u : Use). u.puts) h.1),
-          omega (arith, f.1, ap (λ (u : Use). u.takes) h.1),
-        )
-      ];
-      answered = λ c h e. elim (read_cases i n c h) [
-        | inl before ↦
-            omega (arith, is.answered c before e, ap (λ (xs : List ℕ). get_or xs c.caller 0) same)
-        | inr this ↦ absurd
-            (let both : deals.Put w ≡ deals.OpenTake = sym put ∙ (sym (ap deal this) ∙ e) in cc)
-      ];
-    }
+counted_by_put reading book i n w old new put is =
+    let used : Use = use_of old.by_value.entries w in
+    let few = is.few w in
+    counted_by_one reading book i n w old new
+    (record used { puts = used.puts + 1; put = call_of i n })
+    (λ v other e. other (let both : deals.Put v ≡ deals.Put w = sym e ∙ put in cc))
+    (λ v other e. let both : deals.Took v ≡ deals.Put w = sym e ∙ put in cc)
+    (λ e. let both : deals.Put w ≡ deals.OpenTake = sym put ∙ e in cc)
+    (counted_put (deal_of reading book) i n w used put (is.each w))
+    (omega (arith, few.0)) (omega (arith, few.1)) is
 
 -- the uses after one more take of w
 pub counted_by_take : (reading : Reading) (book : List Page) (i n w : ℕ) (old new : Uses)
@@ -208,49 +225,15 @@ pub counted_by_take : (reading : Reading) (book : List Page) (i n w : ℕ) (old 
     then record (use_of old.by_value.entries w)
     { takes = (use_of old.by_value.entries w).takes + 1 } else use_of old.by_value.entries v))
     → new.open_from ≡ old.open_from → AreUsesOf reading book i (n + 1) new
-counted_by_take reading book i n w old new took is uses same =
-    let deal = deal_of reading book in
-    let old_use : ℕ → Use = use_of old.by_value.entries in
-    let more : Use = record (old_use w) { takes = (old_use w).takes + 1 } in
-    let new_use : (v : ℕ) → ((v ≡ w) × (use_of new.by_value.entries v ≡ more))
-    ⊎ ((v ≡ w → ⊥) × (use_of new.by_value.entries v ≡ old_use v)) = λ v.
-    elim (cases_Bool (v == w)) [
-      | inl so ↦ inl (eqb-true v w so, uses v ∙ cond-true (v == w) more (old_use v) so)
-      | inr other ↦ inr (
-        λ e. absurd (let t = eq-eqb v w e in cc),
-        uses v ∙ cond-false (v == w) more (old_use v) other,
-      )
-    ] in
-    record {
-      each = λ v. elim (new_use v) [
-        | inl h ↦
-            let here : IsCounted deal (IsReadTo i (n + 1)) w more =
-            counted_take deal i n w (old_use w) took (is.each w) in
-            subst (IsCounted deal (IsReadTo i (n + 1)) v) (sym h.1)
-            (subst (λ (x : ℕ). IsCounted deal (IsReadTo i (n + 1)) x more) (sym h.0) here)
-        | inr h ↦
-            subst (IsCounted deal (IsReadTo i (n + 1)) v) (sym h.1)
-            (counted_skip deal i n v (old_use v)
-            (λ e. let both : deals.Put v ≡ deals.Took w = sym e ∙ took in cc)
-            (λ e. h.0 (let both : deals.Took v ≡ deals.Took w = sym e ∙ took in cc)) (is.each v))
-      ];
-      few = λ v. elim (new_use v) [
-        | inl h ↦ let f = is.few w in (
-          omega (arith, f.0, ap (λ (u : Use). u.puts) h.1),
-          omega (arith, f.1, ap (λ (u : Use). u.takes) h.1),
-        )
-        | inr h ↦ let f = is.few v in (
-          omega (arith, f.0, ap (λ (u : Use). u.puts) h.1),
-          omega (arith, f.1, ap (λ (u : Use). u.takes) h.1),
-        )
-      ];
-      answered = λ c h e. elim (read_cases i n c h) [
-        | inl before ↦
-            omega (arith, is.answered c before e, ap (λ (xs : List ℕ). get_or xs c.caller 0) same)
-        | inr this ↦ absurd
-            (let both : deals.Took w ≡ deals.OpenTake = sym took ∙ (sym (ap deal this) ∙ e) in cc)
-      ];
-    }
+counted_by_take reading book i n w old new took is =
+    let used : Use = use_of old.by_value.entries w in
+    let few = is.few w in
+    counted_by_one reading book i n w old new (record used { takes = used.takes + 1 })
+    (λ v other e. let both : deals.Put v ≡ deals.Took w = sym e ∙ took in cc)
+    (λ v other e. other (let both : deals.Took v ≡ deals.Took w = sym e ∙ took in cc))
+    (λ e. let both : deals.Took w ≡ deals.OpenTake = sym took ∙ e in cc)
+    (counted_take (deal_of reading book) i n w used took (is.each w))
+    (omega (arith, few.0)) (omega (arith, few.1)) is
 
 -- the uses don't change with a call that neither puts in nor takes out, but an unanswered take
 -- lowers its caller's number

@@ -512,6 +512,12 @@ module _ {S : Type 0} (spec : S → SeqSpec) where
     pub places_few : r.objects ≡ 3 * places_on r → places_on r ≤ 21845
     places_few words = omega (arith, words, r.few.4)
 
+    -- the number of an announced call is small enough for what its steps reckon with it
+    pub number_few : (a : Announced P) (number : ℕ) → IsCaller a → number ≡ number_on r a
+        → r.objects ≡ 3 * places_on r → number < 21845
+    number_few a number caller is words =
+        omega (arith, is, (number_is_low a caller).1, places_few words)
+
     -- A call has stored the words of its operation, the low one and then the high one.
     module _ (a b d : Announced P) (number lo hi x y : ℕ) (caller : IsCaller a)
         (is : number ≡ number_on r a) (first : now a ≡ []) (lo_is : lo ≡ low_of (op_announced a))

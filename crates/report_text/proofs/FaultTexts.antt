@@ -26,6 +26,7 @@ use Rattle.text_fields.specs.Head.{TitleDue, ObjectDue, CallersDue, CountsDue, H
 use Rattle.book_text.specs.CallLines.{calls_from, all_calls, view_test}
 use Rattle.book_text.specs.Grammar.{end_words}
 use Rattle.book_text.specs.AnyTextBeginnings.{LeavesAt}
+use Rattle.book_text.proofs.CallTexts.{no_calls, no_calls_few}
 use Rattle.book_text.proofs.Leavings.{Completes, one_more, leaves_texts}
 use Rattle.book_text.proofs.WrittenTexts.{numbers_from_places}
 use Rattle.report_lines.specs.declared.line.LineEnd.{LineEnd}
@@ -284,14 +285,6 @@ lines_come kind counts told (call ∷ calls) h =
     (line, says, fits, refl)
     (lines_come kind counts (told ++ line ∷ []) calls
     (under-way-next kind counts told call calls (line_words kind call line) line says fits h))
-
-no_calls : (i n : ℕ) → all_calls i (replicate n 0) ≡ []
-no_calls i zero = refl
-no_calls i (suc n) = no_calls (i + 1) n
-
-no_calls_few : (most n : ℕ) → AreAtMost most (replicate n 0)
-no_calls_few most zero = tt
-no_calls_few most (suc n) = (omega arith, no_calls_few most n)
 
 counts_come : (kind : Kind) (n : ℕ) → n ≤ TEXT_CALLERS → Done (InHead (CountsDue kind n))
 counts_come kind n few =

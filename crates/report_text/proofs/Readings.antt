@@ -2,17 +2,16 @@
 use Rattle.std.proofs.Common.{◌≡◌, ℕ, ◌⊎◌, List, [], ◌++◌, Result, refl}
 use Rattle.std.specs.Prelude.{codes, IfOk, IfErr, MatchResult}
 use Rattle.book_base.specs.declared.fault.TextFault.{TextFault}
-use Rattle.book_base.specs.declared.fault.What.{What}
 use Rattle.book_base.specs.declared.fault.What.TheVariants.{End}
 use Rattle.book_base.specs.declared.fault.ReadFault.{ReadFault}
 use Rattle.book_base.specs.declared.fault.ReadFault.TheVariants.{Text, NoMemory}
 use Rattle.seq_objects.specs.declared.kind.Kind.{Kind}
 use Rattle.text_fields.specs.declared.version.Version.TheVariants.{Second}
 use Rattle.text_fields.specs.Lines.{Unread}
-use Rattle.text_fields.specs.Faults.{IsWrong, StopsFor, IsFirstFault, GoesTo}
-use Rattle.text_fields.specs.Head.{HeadDue, TitleDue, ObjectDue, CallersDue, CountsDue, HeadRead, HeadPasses, head_wanted, head_rules}
+use Rattle.text_fields.specs.Faults.{StopsFor, IsFirstFault, GoesTo}
+use Rattle.text_fields.specs.Head.{TitleDue, head_rules}
 use Rattle.text_fields.proofs.Sharp.{only_test}
-use Rattle.text_fields.proofs.Within.{AreWithin, wrong_alike}
+use Rattle.text_fields.proofs.Within.{AreWithin, head_is_within}
 use Rattle.text_fields.proofs.Readings as readings
 use Rattle.book_text.specs.BookRules.{whole_text}
 use Rattle.book_text.specs.Ending.{IsEnded, IsNoEnd}
@@ -20,35 +19,15 @@ use Rattle.book_text.proofs.Endings.{goes_end, stops_end}
 use Rattle.report_lines.specs.declared.line.Line.{Line}
 use Rattle.client_scripts.specs.ScriptRules.{grouped}
 use Rattle.reports.specs.Findings.{Findings}
-use Rattle.report_text.specs.ReportRules.{InHead, InLines, AtEnd, after_head, ReportPasses, ReportFails, report_wanted, report_rules, IsReportText, IsNoReportText, IsFirstReportFault}
+use Rattle.report_text.specs.ReportRules.{InHead, InLines, AtEnd, after_head, ReportFails, report_rules, IsReportText, IsNoReportText, IsFirstReportFault}
 use Rattle.report_text.proofs.SharpReports.{report_sharp}
 
 -- ---- the head
 
-head_right : (due after : HeadDue) (words : List (List ℕ))
-    → HeadPasses Second (codes "report") due words after
-    → ReportPasses (after_head due) words (after_head after)
-head_right TitleDue after words h = (after, h, refl)
-head_right ObjectDue after words h = (after, h, refl)
-head_right (CallersDue kind) after words h = (after, h, refl)
-head_right (CountsDue kind n) after words h = (after, h, refl)
-head_right (HeadRead kind calls) after words h = absurd h
-
-head_wrong : (due : HeadDue) (bytes : List ℕ) (what : What)
-    → IsWrong (head_rules Second (codes "report")) due (head_wanted due) bytes what
-    → IsWrong report_rules (after_head due) (report_wanted (after_head due)) bytes what
-head_wrong TitleDue = wrong_alike (head_rules Second (codes "report"))
-    report_rules TitleDue (after_head TitleDue) (λ words what. (λ h. h, λ h. h))
-head_wrong ObjectDue = wrong_alike (head_rules Second (codes "report"))
-    report_rules ObjectDue (after_head ObjectDue) (λ words what. (λ h. h, λ h. h))
-head_wrong (CallersDue kind) = wrong_alike (head_rules Second (codes "report"))
-    report_rules (CallersDue kind) (after_head (CallersDue kind)) (λ words what. (λ h. h, λ h. h))
-head_wrong (CountsDue kind n) = wrong_alike (head_rules Second (codes "report"))
-    report_rules (CountsDue kind n) (after_head (CountsDue kind n)) (λ words what. (λ h. h, λ h. h))
-head_wrong (HeadRead kind calls) = λ bytes what h. absurd h
-
 pub head_within : AreWithin (head_rules Second (codes "report")) report_rules after_head
-head_within = record { right = head_right; wrong = head_wrong }
+head_within = head_is_within Second (codes "report") report_rules InHead after_head
+    refl refl (λ kind. refl) (λ kind n. refl) (λ due. refl)
+    (λ due after words h. (after, h, refl)) (λ due words what. (λ h. h, λ h. h))
 
 -- ---- the end
 

@@ -12,12 +12,12 @@ use Rattle.world_core.specs.Shape.{Shape, words_of}
 use Rattle.world_core.specs.Local.{Phase, Announcing, Asking, Viewing, Publishing, Judging, Staged, Scan, Given, Looked, Peeked, Object_step, Local, own_count, word_of, with_step}
 use Rattle.world_core.specs.Scan.{wanted}
 use Rattle.world_core.specs.Event.{Event, Stage, Announce, Object, Look, Peek, Publish, Opening, Begins_none, Begins_scan, Begins_view, is_enabled, may_begin, words_after, local_after, opened, begun, fed, went_on, given_by, with_word, with_look, with_peek, served, purpose_of, Purpose, For_row, For_view, For_seen, For_nothing, is_staged, is_unstaged, staged_at, is_due, is_view_under_way, is_asking, is_same_region, is_look_wanted, is_peek_wanted}
-use Rattle.world_core.specs.Agreement.{Agrees, IsInRow, FitsPhase, IsStagedIn, IsKeptIn, unpublished_calls, unpublished_replies, unpublished_views, unseen_records}
+use Rattle.world_core.specs.Agreement.{Agrees, IsInRow, FitsPhase, IsStagedIn, IsKeptIn}
 use Rattle.world_core.proofs.Indices.{count_or_object, row_or_object}
 use Rattle.world_laws.proofs.RowWords.{same_row}
 use Rattle.world_laws.proofs.Words.{own_few}
 use Rattle.world_laws.proofs.Staging.{stage_agrees}
-use Rattle.world_laws.proofs.Raising.{announce_agrees, publish_agrees}
+use Rattle.world_laws.proofs.Raising.{in_phase, announce_agrees, publish_agrees}
 
 -- where nothing is staged, no word is staged at a place
 none_staged : (staged : List Staged) (p : ℕ) → staged ≡ [] → is_staged staged p ≡ true → ⊥
@@ -137,32 +137,26 @@ module _ (s : Shape) (words : List ℕ) (i : ℕ) (l : Local) (cuts : List Given
       (Some (record { region = N; is_view = true; since = since; taken = taken })) cuts)
   replied_agrees reply since taken phase =
       let empty : l.staged ≡ [] = subst (λ (f : Phase). IsStagedIn f l.staged) phase h.staged_in in
-      let calls : l.announced ≡ l.published + 1 =
-      h.phase.announced ∙ ap (λ (f : Phase). l.published + unpublished_calls f) phase in
-      let replies : length l.replies ≡ l.published + 0 =
-      h.phase.replies ∙ ap (λ (f : Phase). l.published + unpublished_replies f) phase in
-      let views : length l.views ≡ l.published + 0 =
-      h.phase.views ∙ ap (λ (f : Phase). l.published + unpublished_views f) phase in
-      let seen : length l.seen + 0 ≡ l.published =
-      ap (λ (f : Phase). length l.seen + unseen_records f) (sym phase) ∙ h.phase.seen in
+      let was = in_phase l Asking h.phase phase in
       record {
         counts = turned_count s words i l h (l.replies ++ reply ∷ []) l.views l.seen Viewing
             (Some (record { region = N; is_view = true; since = since; taken = taken })) cuts;
         few = h.few;
         rows = turned_row s words i l h (l.replies ++ reply ∷ []) l.views l.seen Viewing
             (Some (record { region = N; is_view = true; since = since; taken = taken })) cuts
-            (λ k below. get_or_append_left l.replies (reply ∷ []) 0 k (omega arith))
+            (λ k below. get_or_append_left l.replies (reply ∷ []) 0 k
+            (omega (arith, below, was.replies)))
             (λ k below. refl);
         staged = λ r p staging staged. absurd (none_staged l.staged p empty staged);
         staged_in = empty;
         kept_in = let none : l.to_embed ≡ None =
             subst (λ (f : Phase). IsKeptIn f l.to_embed) phase h.kept_in in none;
         phase = record {
-          announced = calls;
+          announced = was.announced;
           operations = h.phase.operations;
-          replies = omega (arith, length-append l.replies (reply ∷ []), replies);
-          views = views;
-          seen = seen;
+          replies = omega (arith, length-append l.replies (reply ∷ []), was.replies);
+          views = was.views;
+          seen = was.seen;
           embedded_in_N = h.phase.embedded_in_N;
           embedded_in_M = h.phase.embedded_in_M;
           object_steps = h.phase.object_steps;
@@ -176,29 +170,23 @@ module _ (s : Shape) (words : List ℕ) (i : ℕ) (l : Local) (cuts : List Given
       (turned s words i l h l.replies (l.views ++ cut ∷ []) l.seen Publishing None cuts)
   viewed_agrees cut phase =
       let empty : l.staged ≡ [] = subst (λ (f : Phase). IsStagedIn f l.staged) phase h.staged_in in
-      let calls : l.announced ≡ l.published + 1 =
-      h.phase.announced ∙ ap (λ (f : Phase). l.published + unpublished_calls f) phase in
-      let replies : length l.replies ≡ l.published + 1 =
-      h.phase.replies ∙ ap (λ (f : Phase). l.published + unpublished_replies f) phase in
-      let views : length l.views ≡ l.published + 0 =
-      h.phase.views ∙ ap (λ (f : Phase). l.published + unpublished_views f) phase in
-      let seen : length l.seen + 0 ≡ l.published =
-      ap (λ (f : Phase). length l.seen + unseen_records f) (sym phase) ∙ h.phase.seen in
+      let was = in_phase l Viewing h.phase phase in
       record {
         counts =
             turned_count s words i l h l.replies (l.views ++ cut ∷ []) l.seen Publishing None cuts;
         few = h.few;
         rows = turned_row s words i l h l.replies (l.views ++ cut ∷ []) l.seen Publishing None cuts
-            (λ k below. refl) (λ k below. get_or_append_left l.views (cut ∷ []) [] k (omega arith));
+            (λ k below. refl) (λ k below. get_or_append_left l.views (cut ∷ []) [] k
+            (omega (arith, below, was.views)));
         staged = λ r p staging staged. absurd (none_staged l.staged p empty staged);
         staged_in = tt;
         kept_in = tt;
         phase = record {
-          announced = calls;
+          announced = was.announced;
           operations = h.phase.operations;
-          replies = replies;
-          views = omega (arith, length-append l.views (cut ∷ []), views);
-          seen = seen;
+          replies = was.replies;
+          views = omega (arith, length-append l.views (cut ∷ []), was.views);
+          seen = was.seen;
           embedded_in_N = h.phase.embedded_in_N;
           embedded_in_M = h.phase.embedded_in_M;
           object_steps = h.phase.object_steps;
@@ -212,14 +200,7 @@ module _ (s : Shape) (words : List ℕ) (i : ℕ) (l : Local) (cuts : List Given
       (turned s words i l h l.replies l.views (l.seen ++ cut ∷ []) Announcing None cuts)
   seen_agrees cut phase =
       let empty : l.staged ≡ [] = subst (λ (f : Phase). IsStagedIn f l.staged) phase h.staged_in in
-      let calls : l.announced ≡ l.published + 0 =
-      h.phase.announced ∙ ap (λ (f : Phase). l.published + unpublished_calls f) phase in
-      let replies : length l.replies ≡ l.published + 0 =
-      h.phase.replies ∙ ap (λ (f : Phase). l.published + unpublished_replies f) phase in
-      let views : length l.views ≡ l.published + 0 =
-      h.phase.views ∙ ap (λ (f : Phase). l.published + unpublished_views f) phase in
-      let seen : length l.seen + 1 ≡ l.published =
-      ap (λ (f : Phase). length l.seen + unseen_records f) (sym phase) ∙ h.phase.seen in
+      let was = in_phase l Judging h.phase phase in
       record {
         counts =
             turned_count s words i l h l.replies l.views (l.seen ++ cut ∷ []) Announcing None cuts;
@@ -230,11 +211,11 @@ module _ (s : Shape) (words : List ℕ) (i : ℕ) (l : Local) (cuts : List Given
         staged_in = tt;
         kept_in = tt;
         phase = record {
-          announced = calls;
+          announced = was.announced;
           operations = h.phase.operations;
-          replies = replies;
-          views = views;
-          seen = omega (arith, length-append l.seen (cut ∷ []), seen);
+          replies = was.replies;
+          views = was.views;
+          seen = omega (arith, length-append l.seen (cut ∷ []), was.seen);
           embedded_in_N = h.phase.embedded_in_N;
           embedded_in_M = h.phase.embedded_in_M;
           object_steps = h.phase.object_steps;

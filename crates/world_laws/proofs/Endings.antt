@@ -10,7 +10,8 @@ use Rattle.world_core.specs.declared.course.Course.TheVariants.{Collects, Borrow
 use Rattle.world_core.specs.declared.want.Want.TheVariants.{Done}
 use Rattle.world_core.specs.Layout.{View_entry, Embedded_entry, content, embedded_place, places}
 use Rattle.world_core.specs.Scan.{rounds, round, open_round, last_of, course, course_after, course_on, course_by, lent_by, mover, is_same_cut, wanted, wanted_by}
-use Rattle.world_core.specs.Event.{is_same_region, is_look_wanted, is_peek_wanted}
+use Rattle.world_core.specs.Local.{Phase, Announcing, Publishing}
+use Rattle.world_core.specs.Event.{is_same_region, is_staging, is_look_wanted, is_peek_wanted}
 use Rattle.world_core.proofs.Scans.{open_length}
 
 pub same_region_is : (r q : Region) → is_same_region r q ≡ true → r ≡ q
@@ -18,6 +19,20 @@ same_region_is N N h = refl
 same_region_is M M h = refl
 same_region_is N M h = absurd cc
 same_region_is M N h = absurd cc
+
+-- A caller that announces stages rows of the region N alone.
+pub announcing_in_N : (phase : Phase) (region : Region) → phase ≡ Announcing → region ≡ N
+    → (r : Region) → is_staging phase r ≡ true → region ≡ r
+announcing_in_N phase region is same N staging = same
+announcing_in_N phase region is same M staging = let never : false ≡ true =
+    sym (ap (λ (f : Phase). is_staging f M) is) ∙ staging in absurd cc
+
+-- A caller that publishes stages rows of the region M alone.
+pub publishing_in_M : (phase : Phase) (region : Region) → phase ≡ Publishing → region ≡ M
+    → (r : Region) → is_staging phase r ≡ true → region ≡ r
+publishing_in_M phase region is same M staging = same
+publishing_in_M phase region is same N staging = let never : false ≡ true =
+    sym (ap (λ (f : Phase). is_staging f N) is) ∙ staging in absurd cc
 
 -- a scan that is done has ended with that cut
 pub done_ends : (c : Course) (words cut : List ℕ) → wanted_by c words ≡ Done cut → c ≡ Ends cut

@@ -1,5 +1,5 @@
 -- The cuts that a caller keeps are cuts that its scans gave.
-use Rattle.std.proofs.Common.{◌≡◌, ℕ, ◌<◌, Bool, true, false, ◌&&◌, nat_lt, List, [], ◌∷◌, ◌++◌, length, Option, Some, None, slice_index, slice_index_or, refl, sym, ap, ◌∙◌, subst, arith, IsTrue, inl, inr}
+use Rattle.std.proofs.Common.{◌≡◌, ℕ, ◌<◌, Bool, true, ◌&&◌, nat_lt, List, [], ◌∷◌, ◌++◌, length, Option, Some, None, slice_index, slice_index_or, refl, sym, subst, arith, IsTrue, inl, inr}
 use Rattle.std.specs.Option.{unwrap_or}
 use Rattle.std.proofs.lemmas.Bool.{and_parts, cases_eq, cond_both}
 use Rattle.list_laws.proofs.Places.{get_or-replicate_default, slice_get-push_old, slice_get-push_last}
@@ -18,7 +18,7 @@ use Rattle.world_core.specs.Agreement.{Agrees, IsKeptIn}
 use Rattle.world_core.specs.Calls.{AreTogether, local_at}
 use Rattle.world_laws.specs.Given.{IsGivenIn, ViewsAreGiven, SeenCutsAreGiven, EmbeddedCutsAreGiven, ViewsRise, SeenCutsRise}
 use Rattle.world_laws.proofs.Each.{Each, each_map, each_push, each_at}
-use Rattle.world_laws.proofs.Endings.{same_region_is}
+use Rattle.world_laws.proofs.Endings.{same_region_is, announcing_in_N, publishing_in_M}
 use Rattle.world_laws.proofs.Knowing.{Sound, embedded_long, none_asked, keeps_open, sound_after, start_sound, steps_sound}
 use Rattle.world_laws.proofs.Rising.{embedded_due, staging_of}
 use Rattle.world_laws.proofs.Running.{possible, own_local, other_local}
@@ -123,29 +123,17 @@ module _ (l : Local) (h : Keeps l.cuts l) (keeps : IsKeptIn l.phase l.to_embed) 
         to_embed = λ r staging. none_given more r l.to_embed none;
       }
 
-  only_N : l.phase ≡ Announcing → scan.region ≡ N → (r : Region) → is_staging l.phase r ≡ true
-      → scan.region ≡ r
-  only_N phase region N staging = region
-  only_N phase region M staging = let never : false ≡ true =
-      sym (ap (λ (f : Phase). is_staging f M) phase) ∙ staging in absurd cc
-
-  only_M : l.phase ≡ Publishing → scan.region ≡ M → (r : Region) → is_staging l.phase r ≡ true
-      → scan.region ≡ r
-  only_M phase region M staging = region
-  only_M phase region N staging = let never : false ≡ true =
-      sym (ap (λ (f : Phase). is_staging f N) phase) ∙ staging in absurd cc
-
   served_given : (phase : Phase) → l.phase ≡ phase
       → Keeps more (served ended (purpose_of phase l.staged scan) cut)
   served_given Announcing is =
       cond_both (is_same_region scan.region N && is_unstaged l.staged) For_row For_nothing
       (λ (p : Purpose). Keeps more (served ended p cut))
-      (λ e. row_given (only_N is (same_region_is scan.region N
+      (λ e. row_given (announcing_in_N l.phase scan.region is (same_region_is scan.region N
       (and_parts (is_same_region scan.region N) (is_unstaged l.staged) e).0))) (λ _. ended_given)
   served_given Publishing is =
       cond_both (is_same_region scan.region M && is_unstaged l.staged) For_row For_nothing
       (λ (p : Purpose). Keeps more (served ended p cut))
-      (λ e. row_given (only_M is (same_region_is scan.region M
+      (λ e. row_given (publishing_in_M l.phase scan.region is (same_region_is scan.region M
       (and_parts (is_same_region scan.region M) (is_unstaged l.staged) e).0))) (λ _. ended_given)
   served_given Viewing is =
       cond_both (is_same_region scan.region N && scan.is_view) For_view For_nothing

@@ -19,11 +19,11 @@ use Rattle.world_core.specs.Event.{Event, Stage, Announce, Object, Look, Peek, P
 use Rattle.world_core.specs.World.{World, Step, start, local_of, count_of, row_word, after, is_possible, after_all, are_possible, IsRun, end_of}
 use Rattle.world_core.specs.Agreement.{Agrees, IsKeptIn}
 use Rattle.world_core.specs.Snapshot.{counts_in}
-use Rattle.world_core.specs.Calls.{local_at}
+use Rattle.world_core.specs.Calls.{AreTogether, local_at}
 use Rattle.world_core.proofs.Scans.{open_length, open_lacks}
 use Rattle.world_laws.specs.Cuts.{CutsWereCounts, EmbeddedCutsWereCounts, WereOwnCounts, GivenCutsWereCounts, EmbeddedCutsWereOwnCounts, CutsAreComparable, GivenCutsAreComparable, ViewsAreComparable, SeenCutsAreComparable}
 use Rattle.world_laws.proofs.Each.{Each, each_map, each_push, each_at, each_get}
-use Rattle.world_laws.proofs.Endings.{same_region_is, look_is, peek_is, content_embedded, embedded_fits}
+use Rattle.world_laws.proofs.Endings.{same_region_is, look_is, peek_is, content_embedded, embedded_fits, announcing_in_N, publishing_in_M}
 use Rattle.world_laws.proofs.Low.{IsLowScan, AreLow, word_low, opened_low}
 use Rattle.world_laws.proofs.Knowing.{step_later, Sound, known_counted, word_is, embedded_low, embedded_long, none_asked, keeps_open, sound_after, start_sound, steps_sound}
 use Rattle.world_laws.proofs.Rising.{embedded_due, staging_of}
@@ -111,29 +111,17 @@ module _ (s : Shape) (steps : List Step) (w : World) (some : 0 < s.callers) wher
           scan = tt;
         }
 
-    only_N : l.phase ≡ Announcing → scan.region ≡ N → (r : Region) → is_staging l.phase r ≡ true
-        → scan.region ≡ r
-    only_N phase region N staging = region
-    only_N phase region M staging = let never : false ≡ true =
-        sym (ap (λ (f : Phase). is_staging f M) phase) ∙ staging in absurd cc
-
-    only_M : l.phase ≡ Publishing → scan.region ≡ M → (r : Region) → is_staging l.phase r ≡ true
-        → scan.region ≡ r
-    only_M phase region M staging = region
-    only_M phase region N staging = let never : false ≡ true =
-        sym (ap (λ (f : Phase). is_staging f N) phase) ∙ staging in absurd cc
-
     served_was : (phase : Phase) → l.phase ≡ phase
         → Momentary s steps w (served ended (purpose_of phase l.staged scan) cut)
     served_was Announcing is =
         cond_both (is_same_region scan.region N && is_unstaged l.staged) For_row For_nothing
         (λ (p : Purpose). Momentary s steps w (served ended p cut))
-        (λ e. row_was (only_N is (same_region_is scan.region N
+        (λ e. row_was (announcing_in_N l.phase scan.region is (same_region_is scan.region N
         (and_parts (is_same_region scan.region N) (is_unstaged l.staged) e).0))) (λ _. ended_was)
     served_was Publishing is =
         cond_both (is_same_region scan.region M && is_unstaged l.staged) For_row For_nothing
         (λ (p : Purpose). Momentary s steps w (served ended p cut))
-        (λ e. row_was (only_M is (same_region_is scan.region M
+        (λ e. row_was (publishing_in_M l.phase scan.region is (same_region_is scan.region M
         (and_parts (is_same_region scan.region M) (is_unstaged l.staged) e).0))) (λ _. ended_was)
     served_was Viewing is =
         cond_both (is_same_region scan.region N && scan.is_view) For_view For_nothing
@@ -601,52 +589,40 @@ cuts_are_comparable s steps i j p q a b run low low' is is' same =
     was_comparable s steps a.region a.cut b.cut run (run_cut s steps i p a run low is)
     (subst (λ (r : Region). Was s steps r b.cut) (sym same) (run_cut s steps j q b run low' is'))
 
-views_comparable : (s : Shape) (steps : List Step) (i j k m : ℕ) → IsRun s steps → i < s.callers
-    → j < s.callers
-    → k < length (local_of (end_of s steps) i).views
-    → m < length (local_of (end_of s steps) j).views
-    → AreComparable (slice_index_or (local_of (end_of s steps) i).views k [])
-    (slice_index_or (local_of (end_of s steps) j).views m [])
-views_comparable s steps i j k m run low low' below below' =
-    was_comparable s steps N (slice_index_or (local_of (end_of s steps) i).views k [])
-    (slice_index_or (local_of (end_of s steps) j).views m []) run
-    (each_at (Was s steps N)
-    (local_of (end_of s steps) i).views k [] (run_was s steps run i low).views below)
-    (each_at (Was s steps N)
-    (local_of (end_of s steps) j).views m [] (run_was s steps run j low').views below')
-
 pub given_cuts_are_comparable : GivenCutsAreComparable
 given_cuts_are_comparable s locals i j p q a b (w, (steps, run, at), are) low low' =
     subst (λ (ls : List Local). slice_get (local_at ls i).cuts p ≡ Some a
     → slice_get (local_at ls j).cuts q ≡ Some b → a.region ≡ b.region → AreComparable a.cut b.cut)
     (ap (λ (v : World). v.locals) at ∙ are) (cuts_are_comparable s steps i j p q a b run low low')
 
-pub views_are_comparable : ViewsAreComparable
-views_are_comparable s locals i j k m (w, (steps, run, at), are) low low' =
-    subst (λ (ls : List Local). k < length (local_at ls i).views → m < length (local_at ls j).views
-    → AreComparable (slice_index_or (local_at ls i).views k [])
-    (slice_index_or (local_at ls j).views m []))
-    (ap (λ (v : World). v.locals) at ∙ are) (views_comparable s steps i j k m run low low')
+-- of two cuts that locals of one reachable world list, which were the counts at moments of the run,
+-- one is within the other
+listed_comparable : (s : Shape) (r : Region) (lists : Local → List (List ℕ))
+    → ((steps : List Step) → IsRun s steps → (i : ℕ) → i < s.callers
+    → Each (Was s steps r) (lists (local_of (end_of s steps) i)))
+    → (locals : List Local) (i j k m : ℕ) → AreTogether s locals → i < s.callers → j < s.callers
+    → k < length (lists (local_at locals i)) → m < length (lists (local_at locals j))
+    → AreComparable (slice_index_or (lists (local_at locals i)) k [])
+    (slice_index_or (lists (local_at locals j)) m [])
+listed_comparable s r lists were locals i j k m (w, (steps, run, at), are) low low' =
+    subst (λ (ls : List Local). k < length (lists (local_at ls i))
+    → m < length (lists (local_at ls j))
+    → AreComparable (slice_index_or (lists (local_at ls i)) k [])
+    (slice_index_or (lists (local_at ls j)) m []))
+    (ap (λ (v : World). v.locals) at ∙ are) (λ below below'.
+    let one : List (List ℕ) = lists (local_of (end_of s steps) i) in
+    let other : List (List ℕ) = lists (local_of (end_of s steps) j) in
+    was_comparable s steps r (slice_index_or one k []) (slice_index_or other m []) run
+    (each_at (Was s steps r) one k [] (were steps run i low) below)
+    (each_at (Was s steps r) other m [] (were steps run j low') below'))
 
-seen_comparable : (s : Shape) (steps : List Step) (i j k m : ℕ) → IsRun s steps → i < s.callers
-    → j < s.callers
-    → k < length (local_of (end_of s steps) i).seen → m < length (local_of (end_of s steps) j).seen
-    → AreComparable (slice_index_or (local_of (end_of s steps) i).seen k [])
-    (slice_index_or (local_of (end_of s steps) j).seen m [])
-seen_comparable s steps i j k m run low low' below below' =
-    was_comparable s steps M (slice_index_or (local_of (end_of s steps) i).seen k [])
-    (slice_index_or (local_of (end_of s steps) j).seen m []) run
-    (each_at (Was s steps M)
-    (local_of (end_of s steps) i).seen k [] (run_was s steps run i low).seen below)
-    (each_at (Was s steps M)
-    (local_of (end_of s steps) j).seen m [] (run_was s steps run j low').seen below')
+pub views_are_comparable : ViewsAreComparable
+views_are_comparable s =
+    listed_comparable s N (λ l. l.views) (λ steps run i low. (run_was s steps run i low).views)
 
 pub seen_cuts_are_comparable : SeenCutsAreComparable
-seen_cuts_are_comparable s locals i j k m (w, (steps, run, at), are) low low' =
-    subst (λ (ls : List Local). k < length (local_at ls i).seen → m < length (local_at ls j).seen
-    → AreComparable (slice_index_or (local_at ls i).seen k [])
-    (slice_index_or (local_at ls j).seen m []))
-    (ap (λ (v : World). v.locals) at ∙ are) (seen_comparable s steps i j k m run low low')
+seen_cuts_are_comparable s =
+    listed_comparable s M (λ l. l.seen) (λ steps run i low. (run_was s steps run i low).seen)
 
 -- the counts at that moment, as own counts
 was_own : (s : Shape) (steps : List Step) (locals : List Local) (r : Region) (cut : List ℕ)

@@ -10,6 +10,7 @@ pub mod ObjectWords
 pub mod Endings
 pub mod Low
 pub mod Knowing
+pub mod Lending
 pub mod Locals
 pub mod Projecting
 pub mod Since

@@ -17,7 +17,7 @@ use Rattle.world_core.specs.World.{World, count_of, row_word}
 use Rattle.world_core.specs.Agreement.{IsKeptIn}
 use Rattle.world_core.proofs.Scans.{open_length, open_lacks}
 use Rattle.world_laws.proofs.Each.{Each, each_map, each_push}
-use Rattle.world_laws.proofs.Endings.{same_region_is, ended_round, round_word, round_length}
+use Rattle.world_laws.proofs.Endings.{same_region_is, ended_round, round_word, round_length, announcing_in_N, publishing_in_M}
 
 module _ (s : Shape) (w : World) where
   -- a cut with one count for each caller, none above the counts of its region
@@ -220,29 +220,17 @@ module _ (s : Shape) (w : World) (some : 0 < s.callers) where
           peeked = h.peeked;
         }
 
-    only_N : l.phase ≡ Announcing → scan.region ≡ N → (r : Region) → is_staging l.phase r ≡ true
-        → scan.region ≡ r
-    only_N phase region N staging = region
-    only_N phase region M staging = let never : false ≡ true =
-        sym (ap (λ (f : Phase). is_staging f M) phase) ∙ staging in absurd cc
-
-    only_M : l.phase ≡ Publishing → scan.region ≡ M → (r : Region) → is_staging l.phase r ≡ true
-        → scan.region ≡ r
-    only_M phase region M staging = region
-    only_M phase region N staging = let never : false ≡ true =
-        sym (ap (λ (f : Phase). is_staging f N) phase) ∙ staging in absurd cc
-
     served_low : (phase : Phase) → l.phase ≡ phase
         → Low s w (served ended (purpose_of phase l.staged scan) cut)
     served_low Announcing is =
         cond_both (is_same_region scan.region N && is_unstaged l.staged) For_row For_nothing
         (λ (p : Purpose). Low s w (served ended p cut))
-        (λ e. row_low (only_N is (same_region_is scan.region N
+        (λ e. row_low (announcing_in_N l.phase scan.region is (same_region_is scan.region N
         (and_parts (is_same_region scan.region N) (is_unstaged l.staged) e).0))) (λ _. ended_low)
     served_low Publishing is =
         cond_both (is_same_region scan.region M && is_unstaged l.staged) For_row For_nothing
         (λ (p : Purpose). Low s w (served ended p cut))
-        (λ e. row_low (only_M is (same_region_is scan.region M
+        (λ e. row_low (publishing_in_M l.phase scan.region is (same_region_is scan.region M
         (and_parts (is_same_region scan.region M) (is_unstaged l.staged) e).0))) (λ _. ended_low)
     served_low Viewing is =
         cond_both (is_same_region scan.region N && scan.is_view) For_view For_nothing

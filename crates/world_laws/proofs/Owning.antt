@@ -1,5 +1,5 @@
 -- The own entries of what scans gave.
-use Rattle.std.proofs.Common.{◌≡◌, ℕ, ◌+◌, ◌<◌, ◌≤◌, Bool, true, false, ◌&&◌, nat_lt, List, [], ◌∷◌, ◌++◌, length, Option, Some, None, slice_index, slice_index_or, refl, sym, ap, ◌∙◌, subst, arith, IsTrue, inl, inr, length-append}
+use Rattle.std.proofs.Common.{◌≡◌, ℕ, ◌+◌, ◌<◌, ◌≤◌, Bool, true, ◌&&◌, nat_lt, List, [], ◌∷◌, ◌++◌, length, Option, Some, None, slice_index, slice_index_or, refl, sym, ap, ◌∙◌, subst, arith, IsTrue, inl, inr, length-append}
 use Rattle.std.specs.Option.{unwrap_or}
 use Rattle.std.proofs.lemmas.List.{get_or_append_left, get_or_push}
 use Rattle.std.proofs.lemmas.Bool.{and_parts, eqb-true, cases_eq, cases_lt, cond_both}
@@ -16,7 +16,7 @@ use Rattle.world_core.specs.Event.{Event, Stage, Announce, Object, Look, Peek, P
 use Rattle.world_core.specs.World.{World, Step, start, local_of, count_of, row_word, after, is_possible, after_all, are_possible}
 use Rattle.world_core.specs.Agreement.{Agrees, IsKeptIn, HasPhase, unpublished_calls, unpublished_views, unseen_records}
 use Rattle.world_core.proofs.Scans.{open_lacks}
-use Rattle.world_laws.proofs.Endings.{same_region_is, look_is, peek_is}
+use Rattle.world_laws.proofs.Endings.{same_region_is, look_is, peek_is, announcing_in_N, publishing_in_M}
 use Rattle.world_laws.proofs.Agreeing.{opened_agrees}
 use Rattle.world_laws.proofs.Rising.{none_since, step_high, found_look, found_peek, embedded_due, staging_of}
 use Rattle.world_laws.proofs.Since.{AllHigh, AreHigh, done_high, word_high, none_taken}
@@ -205,18 +205,6 @@ module _ (s : Shape) (w : World) (sound : Sound s w) (me : ℕ) (low : me < s.ca
             to_embed = λ r staging. owns_none me (own_count l r) l.to_embed none;
           }
 
-      only_N : l.phase ≡ Announcing → scan.region ≡ N → (r : Region) → is_staging l.phase r ≡ true
-          → scan.region ≡ r
-      only_N is region N staging = region
-      only_N is region M staging = let never : false ≡ true =
-          sym (ap (λ (f : Phase). is_staging f M) is) ∙ staging in absurd cc
-
-      only_M : l.phase ≡ Publishing → scan.region ≡ M → (r : Region) → is_staging l.phase r ≡ true
-          → scan.region ≡ r
-      only_M is region M staging = region
-      only_M is region N staging = let never : false ≡ true =
-          sym (ap (λ (f : Phase). is_staging f N) is) ∙ staging in absurd cc
-
       -- a local whose scan has served its purpose has no scan
       pair : (p : Purpose) → Owns me (served ended p cut)
           → Owned s w me (served ended p cut) (served ended p cut).scan
@@ -230,12 +218,12 @@ module _ (s : Shape) (w : World) (sound : Sound s w) (me : ℕ) (low : me < s.ca
       served_owns Announcing is =
           cond_both (is_same_region scan.region N && is_unstaged l.staged) For_row For_nothing
           (λ (p : Purpose). Owns me (served ended p cut))
-          (λ e. row_owns (only_N is (same_region_is scan.region N
+          (λ e. row_owns (announcing_in_N l.phase scan.region is (same_region_is scan.region N
           (and_parts (is_same_region scan.region N) (is_unstaged l.staged) e).0))) (λ _. ended_owns)
       served_owns Publishing is =
           cond_both (is_same_region scan.region M && is_unstaged l.staged) For_row For_nothing
           (λ (p : Purpose). Owns me (served ended p cut))
-          (λ e. row_owns (only_M is (same_region_is scan.region M
+          (λ e. row_owns (publishing_in_M l.phase scan.region is (same_region_is scan.region M
           (and_parts (is_same_region scan.region M) (is_unstaged l.staged) e).0))) (λ _. ended_owns)
       served_owns Viewing is =
           cond_both (is_same_region scan.region N && scan.is_view) For_view For_nothing

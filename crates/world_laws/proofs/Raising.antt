@@ -10,7 +10,7 @@ use Rattle.world_core.specs.Layout.{places, count_index, place_index, content, R
 use Rattle.world_core.specs.Shape.{Shape, words_of}
 use Rattle.world_core.specs.Local.{Phase, Announcing, Asking, Viewing, Publishing, Judging, Staged, Local, own_count, word_of}
 use Rattle.world_core.specs.Event.{Announce, Publish, is_enabled, words_after, local_after, cut_to_embed, is_staging, is_staged, are_staged, staged_at, staged_operation, is_due, is_entry_to_embed, is_row_staged, is_word}
-use Rattle.world_core.specs.Agreement.{Agrees, IsInRow, HasPhase, unpublished_calls, unpublished_replies, unpublished_views, unseen_records}
+use Rattle.world_core.specs.Agreement.{Agrees, IsInRow, HasPhase}
 use Rattle.world_core.proofs.Indices.{count_apart, count_or_row, count_within}
 use Rattle.world_laws.proofs.RowWords.{SameRow, same_row, low_joined, high_joined}
 use Rattle.world_laws.proofs.Words.{published_few}
@@ -138,6 +138,11 @@ announced_rows s me l words low may h M k p below fits =
     ∙ same_row s.callers l (local_after s.callers l Announce) M k p
     (announced_before s.callers l M k h.phase (omega (arith, below, published_few l h.phase)))
 
+-- the numbers of a local that is in this phase are those of this phase
+pub in_phase : (l : Local) (phase : Phase) → HasPhase l → l.phase ≡ phase
+    → HasPhase (record l { phase = phase })
+in_phase l phase h is = subst (λ (f : Phase). HasPhase (record l { phase = f })) is h
+
 -- an announcement keeps the agreement of its own caller
 pub announce_agrees : (s : Shape) (me : ℕ) (l : Local) (words : List ℕ) → me < s.callers
     → words_of s ≤ length words
@@ -147,14 +152,7 @@ announce_agrees s me l words low long may h =
     let first : IsInRow s words me l N 0 = row_staged s words me l N may h 0 (omega arith) in
     let phase : l.phase ≡ Announcing = staging_N l.phase
     (and_parts (is_staging l.phase N) (are_staged l.staged (places s.callers N)) may).0 in
-    let even : l.announced ≡ l.published + 0 =
-    h.phase.announced ∙ ap (λ (f : Phase). l.published + unpublished_calls f) phase in
-    let replies : length l.replies ≡ l.published + 0 =
-    h.phase.replies ∙ ap (λ (f : Phase). l.published + unpublished_replies f) phase in
-    let views : length l.views ≡ l.published + 0 =
-    h.phase.views ∙ ap (λ (f : Phase). l.published + unpublished_views f) phase in
-    let seen : length l.seen + 0 ≡ l.published =
-    ap (λ (f : Phase). length l.seen + unseen_records f) (sym phase) ∙ h.phase.seen in
+    let was = in_phase l Announcing h.phase phase in
     record {
       counts = λ r. announced_counts s me l words low long h r;
       few = omega (arith, first.row);
@@ -164,15 +162,15 @@ announce_agrees s me l words low long may h =
       kept_in = refl;
       phase =
           record {
-            announced = omega (arith, even);
+            announced = omega (arith, was.announced);
             operations = omega (
               arith,
               length-append l.operations (staged_operation l.staged ∷ []),
               h.phase.operations,
             );
-            replies = replies;
-            views = views;
-            seen = seen;
+            replies = was.replies;
+            views = was.views;
+            seen = was.seen;
             embedded_in_N = omega
                 (arith, length-append l.embedded_in_N (cut_to_embed l ∷ []), h.phase.embedded_in_N);
             embedded_in_M = h.phase.embedded_in_M;
@@ -261,14 +259,7 @@ pub publish_agrees : (s : Shape) (me : ℕ) (l : Local) (words : List ℕ) → m
 publish_agrees s me l words low long may h =
     let phase : l.phase ≡ Publishing = staging_M l.phase
     (and_parts (is_staging l.phase M) (are_staged l.staged (places s.callers M)) may).0 in
-    let even : l.announced ≡ l.published + 1 =
-    h.phase.announced ∙ ap (λ (f : Phase). l.published + unpublished_calls f) phase in
-    let replies : length l.replies ≡ l.published + 1 =
-    h.phase.replies ∙ ap (λ (f : Phase). l.published + unpublished_replies f) phase in
-    let views : length l.views ≡ l.published + 1 =
-    h.phase.views ∙ ap (λ (f : Phase). l.published + unpublished_views f) phase in
-    let seen : length l.seen + 0 ≡ l.published =
-    ap (λ (f : Phase). length l.seen + unseen_records f) (sym phase) ∙ h.phase.seen in
+    let was = in_phase l Publishing h.phase phase in
     record {
       counts = λ r. published_counts s me l words low long h r;
       few = h.few;
@@ -278,11 +269,11 @@ publish_agrees s me l words low long may h =
       kept_in = refl;
       phase =
           record {
-            announced = omega (arith, even);
+            announced = omega (arith, was.announced);
             operations = h.phase.operations;
-            replies = omega (arith, replies);
-            views = omega (arith, views);
-            seen = omega (arith, seen);
+            replies = omega (arith, was.replies);
+            views = omega (arith, was.views);
+            seen = omega (arith, was.seen);
             embedded_in_N = h.phase.embedded_in_N;
             embedded_in_M = omega
                 (arith, length-append l.embedded_in_M (cut_to_embed l ∷ []), h.phase.embedded_in_M);

@@ -1,9 +1,9 @@
 -- What scans and rows hold since some world: a scan that began after it, and a row that was staged
 -- whole after it, hold at least the counts that the world had.
-use Rattle.std.proofs.Common.{◌≡◌, ℕ, zero, suc, ◌+◌, ◌-◌, ◌*◌, ◌<◌, ◌≤◌, Bool, true, false, ◌&&◌, if◌then◌else◌, nat_lt, List, [], ◌∷◌, ◌++◌, length, Option, Some, None, slice_index, slice_index_or, refl, sym, ap, ◌∙◌, subst, arith, inl, inr, length-append}
+use Rattle.std.proofs.Common.{◌≡◌, ℕ, zero, suc, ◌+◌, ◌*◌, ◌<◌, ◌≤◌, Bool, true, false, ◌&&◌, List, [], ◌∷◌, ◌++◌, length, Option, Some, None, slice_index, slice_index_or, refl, sym, ap, ◌∙◌, subst, arith, inl, inr, length-append}
 use Rattle.std.proofs.lemmas.List.{get_or_append_left, get_or_push}
 use Rattle.std.proofs.lemmas.Nat.{same_from_place}
-use Rattle.std.proofs.lemmas.Bool.{and_parts, ltb-true, cases_Bool, cases_lt, cond_both}
+use Rattle.std.proofs.lemmas.Bool.{and_parts, cases_lt, cond_both}
 use Rattle.world_core.specs.declared.region.Region.{Region}
 use Rattle.world_core.specs.declared.region.Region.TheVariants.{N, M}
 use Rattle.world_core.specs.declared.want.Want.{Want}
@@ -11,91 +11,25 @@ use Rattle.world_core.specs.declared.want.Want.TheVariants.{Look as Wants_look, 
 use Rattle.world_core.specs.Layout.{Content, embedded_place}
 use Rattle.world_core.specs.Shape.{Shape}
 use Rattle.world_core.specs.Local.{Phase, Announcing, Asking, Viewing, Publishing, Judging, Scan, Local, own_count, embedded_in, word_of}
-use Rattle.world_core.specs.declared.course.Course.{Course}
-use Rattle.world_core.specs.declared.course.Course.TheVariants.{Collects, Borrows, Ends}
-use Rattle.world_core.specs.Scan.{rounds, round, open_round, last_of, course, course_after, course_on, course_by, lent_by, mover, mover_from, is_same_cut, wanted}
+use Rattle.world_core.specs.declared.course.Course.TheVariants.{Borrows}
+use Rattle.world_core.specs.Scan.{rounds, round, open_round, last_of, course, course_after, wanted}
 use Rattle.world_core.specs.Event.{Opening, Begins_none, Begins_scan, Begins_view, opened, begun, fed, went_on, given_by, with_word, served, purpose_of, Purpose, For_row, For_view, For_seen, For_nothing, is_staging, is_unstaged, is_same_region, is_look_wanted, is_peek_wanted}
 use Rattle.world_core.specs.World.{World, local_of, count_of, row_word}
 use Rattle.world_core.specs.Agreement.{IsKeptIn}
 use Rattle.world_core.proofs.Scans.{open_length, open_lacks}
-use Rattle.world_laws.proofs.Endings.{same_region_is, ended_round, round_word, look_is, peek_is, content_embedded, embedded_fits}
+use Rattle.world_laws.proofs.Endings.{same_region_is, ended_round, round_word, look_is, peek_is, content_embedded, embedded_fits, announcing_in_N, publishing_in_M}
 use Rattle.world_laws.proofs.Knowing.{Sound, word_is}
+use Rattle.world_laws.proofs.Lending.{round_lends}
 
--- A caller that a scan borrows from has moved twice since the first collect.
-record HasMoved (first : List ℕ) (j k : ℕ) : Type 0 where
-  caller : j < length first
-  moved : slice_index first j + 1 ≤ k
-
-record Moved_from (i : ℕ) (first latest : List ℕ) (j : ℕ) : Type 0 where
-  at : ℕ
-  is : j ≡ i + at
-  below : at < length first
-  more : slice_index first at + 1 < slice_index latest at
-
-mover_some : (i : ℕ) (first latest : List ℕ) (j : ℕ) → mover_from i first latest ≡ Some j
-    → Moved_from i first latest j
-mover_some i [] latest j h = absurd cc
-mover_some i (a ∷ first) [] j h = absurd cc
-mover_some i (a ∷ first) (b ∷ latest) j h = elim (cases_Bool (nat_lt (a + 1) b)) [
-  | inl moved ↦
-      let here : Some i ≡ Some j =
-      sym (ap (λ (c : Bool). if c then Some i else mover_from (suc i) first latest) moved) ∙ h in
-      let same : i ≡ j = cc in
-      record {
-        at = 0;
-        is = omega (arith, same);
-        below = omega arith;
-        more = ltb-true (a + 1) b moved;
-      }
-  | inr stays ↦
-      let rest = mover_some (suc i) first latest j
-      (sym (ap (λ (c : Bool). if c then Some i else mover_from (suc i) first latest) stays) ∙ h) in
-      record {
-        at = suc rest.at;
-        is = omega (arith, rest.is);
-        below = omega (arith, rest.below);
-        more = rest.more;
-      }
-]
-
-lent_moved : (first latest : List ℕ) (m : Option ℕ) (j k : ℕ) → mover first latest ≡ m
-    → lent_by latest m ≡ Borrows j k → HasMoved first j k
-lent_moved first latest None j k is h = absurd cc
-lent_moved first latest (Some i) j k is h =
-    let m = mover_some 0 first latest i is in
-    let caller : i ≡ j = cc in
-    let row : slice_index latest i - 1 ≡ k = cc in
-    let at : i ≡ m.at = omega (arith, m.is) in
-    let more : slice_index first i + 1 < slice_index latest i =
-    subst (λ (t : ℕ). slice_index first t + 1 < slice_index latest t) (sym at) m.more in
-    subst (λ (t : ℕ). HasMoved first t k) caller
-    (record { caller = omega (arith, at, m.below); moved = omega (arith, more, row) })
-
-choice_moved : (b : Bool) (first latest : List ℕ) (j k : ℕ)
-    → (if b then Ends latest else lent_by latest (mover first latest)) ≡ Borrows j k
-    → HasMoved first j k
-choice_moved true first latest j k h = absurd cc
-choice_moved false first latest j k h = lent_moved first latest (mover first latest) j k refl h
-
-collect_moved : (first : List ℕ) (last : Option (List ℕ)) (latest : List ℕ) (j k : ℕ)
-    → course_by first last latest ≡ Borrows j k → HasMoved first j k
-collect_moved first None latest j k h = absurd cc
-collect_moved first (Some before) latest j k h =
-    choice_moved (is_same_cut before latest) first latest j k h
-
-on_moved : (first : List ℕ) (last : Option (List ℕ)) (latest : List ℕ) (c : Course) (j k : ℕ)
-    → course_on first last latest c ≡ Borrows j k → HasMoved first j k
-on_moved first last latest Collects j k h = collect_moved first last latest j k h
-on_moved first last latest (Borrows i row) j k h = absurd cc
-on_moved first last latest (Ends cut) j k h = absurd cc
-
+-- Where a scan borrows row k of caller j, at least one collect is whole, and k is above the count
+-- of j in the first collect.
 after_moved : (n : ℕ) (taken : List ℕ) (m j k : ℕ) → m * n ≤ length taken
-    → course_after n taken m ≡ Borrows j k → HasMoved (round n taken 0) j k × (n ≤ length taken)
+    → course_after n taken m ≡ Borrows j k
+    → (slice_index (round n taken 0) j < k) × (n ≤ length taken)
 after_moved n taken zero j k fits h = absurd cc
-after_moved n taken (suc m) j k fits h = (
-  on_moved (round n taken 0) (last_of n taken m) (round n taken m) (course_after n taken m) j k h,
-  omega (arith, fits),
-)
+after_moved n taken (suc m) j k fits h =
+    let l = round_lends (round n taken 0) (last_of n taken m) (round n taken m)
+    (course_after n taken m) j k h in (l.lent.moved, omega (arith, fits))
 
 -- What a caller has looked at, found and embedded since some world has no count below those of that
 -- world.
@@ -179,7 +113,7 @@ module _ (s : Shape) (from : World) where
         (omega (arith, open_length s.callers taken 0 some)) borrows in
         let high : count_of s from region j ≤ slice_index taken (0 * s.callers + j) =
         h 0 j caller (omega (arith, moved.1, caller)) in
-        omega (arith, high, moved.0.moved, round_word s.callers taken 0 j caller)
+        omega (arith, high, moved.0, round_word s.callers taken 0 j caller)
 
     -- A word that the scan under way takes, in a world whose locals are all high.
     module _ (w : World) (sound : Sound s w) (all : AllHigh w) where
@@ -266,29 +200,17 @@ module _ (s : Shape) (from : World) where
             scan = tt;
           }
 
-      only_N : l.phase ≡ Announcing → scan.region ≡ N → (r : Region) → is_staging l.phase r ≡ true
-          → scan.region ≡ r
-      only_N phase region N staging = region
-      only_N phase region M staging = let never : false ≡ true =
-          sym (ap (λ (f : Phase). is_staging f M) phase) ∙ staging in absurd cc
-
-      only_M : l.phase ≡ Publishing → scan.region ≡ M → (r : Region) → is_staging l.phase r ≡ true
-          → scan.region ≡ r
-      only_M phase region M staging = region
-      only_M phase region N staging = let never : false ≡ true =
-          sym (ap (λ (f : Phase). is_staging f N) phase) ∙ staging in absurd cc
-
       served_high : (phase : Phase) → l.phase ≡ phase
           → High j (served ended (purpose_of phase l.staged scan) cut)
       served_high Announcing is =
           cond_both (is_same_region scan.region N && is_unstaged l.staged) For_row For_nothing
           (λ (p : Purpose). High j (served ended p cut))
-          (λ e. row_high (only_N is (same_region_is scan.region N
+          (λ e. row_high (announcing_in_N l.phase scan.region is (same_region_is scan.region N
           (and_parts (is_same_region scan.region N) (is_unstaged l.staged) e).0))) (λ _. ended_high)
       served_high Publishing is =
           cond_both (is_same_region scan.region M && is_unstaged l.staged) For_row For_nothing
           (λ (p : Purpose). High j (served ended p cut))
-          (λ e. row_high (only_M is (same_region_is scan.region M
+          (λ e. row_high (publishing_in_M l.phase scan.region is (same_region_is scan.region M
           (and_parts (is_same_region scan.region M) (is_unstaged l.staged) e).0))) (λ _. ended_high)
       served_high Viewing is =
           cond_both (is_same_region scan.region N && scan.is_view) For_view For_nothing

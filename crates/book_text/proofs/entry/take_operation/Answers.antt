@@ -1,7 +1,6 @@
 use Rattle.std.proofs.Common.{◌≡◌, List, ℕ, ◌++◌, ◌∷◌, drop, ◌∙◌, sym, ap, arith, length}
-use Rattle.std.specs.Prelude.{option_copied}
 use Rattle.std.proofs.lemmas.List.{length-append}
-use Rattle.book_text.proofs.WordTexts.{next_word, next_drops, drop_more, three_taken, spelled_prefix, not_in_prefix}
+use Rattle.book_text.proofs.WordTexts.{next_drops, drop_more, three_taken, spelled_prefix, not_in_prefix}
 use Rattle.book_text.proofs.entry.take_operation.Goals as goal
 
 pub returns-in_err-first-clause-none : goal.returns-in_err-first-clause-none
@@ -21,16 +20,12 @@ loop-preserved g c =
 
 pub returns-in_err-op-clause-none : goal.returns-in_err-op-clause-none
 returns-in_err-op-clause-none g c = rw c.from_residual-in_err-op.ensures (λ op others has text.
-    let second = next_word c.next-second.result c.copy-ahead.result c.next-second.new.self
-    c.next-second.ensures in
-    let third = next_word c.next-third.result c.next-second.new.self c.next-third.new.self
-    c.next-third.ensures in
     let first : c.args.words.now ≡ c.in_ok-first.first.now ∷ c.copy-ahead.result =
     c.in_ok-first.ensures
     ∙ ap (λ (ws : List (List ℕ)). c.in_ok-first.first.now ∷ ws) (sym c.copy-ahead.ensures) in
-    let taken = three_taken c.in_ok-first.first.now (option_copied c.next-second.result)
-    (option_copied c.next-third.result) c.args.words.now c.copy-ahead.result c.next-second.new.self
-    c.next-third.new.self first second third in
+    let taken = three_taken c.in_ok-first.first.now c.next-second.result c.next-third.result
+    c.args.words.now c.copy-ahead.result c.next-second.new.self c.next-third.new.self
+    first c.next-second.ensures c.next-third.ensures in
     let operations = g.T.OpText.operations c.args.operations.now in
     not_in_prefix operations c.args.words.now _ c.next-third.new.self others op taken has
     (g.met.T.OpText.solid_words c.args.operations.now op has).some
@@ -38,16 +33,12 @@ returns-in_err-op-clause-none g c = rw c.from_residual-in_err-op.ensures (λ op 
 
 pub returns-clause-found : goal.returns-clause-found
 returns-clause-found g c =
-    let second = next_word c.next-second.result c.copy-ahead.result c.next-second.new.self
-    c.next-second.ensures in
-    let third = next_word c.next-third.result c.next-second.new.self c.next-third.new.self
-    c.next-third.ensures in
     let first : c.args.words.now ≡ c.in_ok-first.first.now ∷ c.copy-ahead.result =
     c.in_ok-first.ensures
     ∙ ap (λ (ws : List (List ℕ)). c.in_ok-first.first.now ∷ ws) (sym c.copy-ahead.ensures) in
-    let taken = three_taken c.in_ok-first.first.now (option_copied c.next-second.result)
-    (option_copied c.next-third.result) c.args.words.now c.copy-ahead.result c.next-second.new.self
-    c.next-third.new.self first second third in
+    let taken = three_taken c.in_ok-first.first.now c.next-second.result c.next-third.result
+    c.args.words.now c.copy-ahead.result c.next-second.new.self c.next-third.new.self
+    first c.next-second.ensures c.next-third.ensures in
     let operations = g.T.OpText.operations c.args.operations.now in
     let count : c.in_ok-op.used ≡ c.loop.counter = omega arith in
     let left : drop c.in_ok-op.used c.copy-ahead.result ≡ c.loop.words =

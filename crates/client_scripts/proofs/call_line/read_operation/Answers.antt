@@ -1,8 +1,8 @@
 use Rattle.std.proofs.Common.{◌≡◌, length, true, false, sym, ap, ◌∙◌, arith}
-use Rattle.std.specs.Prelude.{option_copied, is_some}
+use Rattle.std.specs.Prelude.{is_some}
 use Rattle.text_fields.specs.OperationLaws.{few_operation_words}
 use Rattle.text_fields.proofs.NumberTexts.{no_next, some_next}
-use Rattle.book_text.proofs.WordTexts.{next_word, three_taken}
+use Rattle.book_text.proofs.WordTexts.{three_taken}
 use Rattle.client_scripts.proofs.OperationTexts.{too_many, none_spelled, spelled_all, spelled_part}
 use Rattle.client_scripts.proofs.call_line.read_operation.Goals as goal
 
@@ -16,13 +16,9 @@ returns-in_err-first-clause-none c = rw c.from_residual.ensures (λ op small tex
 pub returns-then-is_some-clause-none : goal.returns-then-is_some-clause-none
 returns-then-is_some-clause-none c = λ op small text.
     let words = c.args.operations.now in
-    let second =
-    next_word c.next-second.result c.next.new.self c.next-second.new.self c.next-second.ensures in
-    let third = next_word c.next-third.result c.next-second.new.self c.next-third.new.self
-    c.next-third.ensures in
-    let taken = three_taken c.in_ok-first.first.now (option_copied c.next-second.result)
-    (option_copied c.next-third.result) c.args.words.now c.next.new.self c.next-second.new.self
-    c.next-third.new.self c.in_ok-first.ensures second third in
+    let taken = three_taken c.in_ok-first.first.now c.next-second.result c.next-third.result
+    c.args.words.now c.next.new.self c.next-second.new.self c.next-third.new.self
+    c.in_ok-first.ensures c.next-second.ensures c.next-third.ensures in
     let some : is_some c.next-2.result ≡ true = sym c.is_some.ensures ∙ c.if-is_some.true in
     let fourth = some_next c.next-2.result _ _ some c.next-2.ensures in
     too_many words.version words.kind c.args.words.now _ c.next-third.new.self taken fourth.0.now
@@ -31,13 +27,9 @@ returns-then-is_some-clause-none c = λ op small text.
 pub returns-in_err-op-clause-none : goal.returns-in_err-op-clause-none
 returns-in_err-op-clause-none c = rw c.from_residual-in_err-op.ensures (λ op small text.
     let words = c.args.operations.now in
-    let second =
-    next_word c.next-second.result c.next.new.self c.next-second.new.self c.next-second.ensures in
-    let third = next_word c.next-third.result c.next-second.new.self c.next-third.new.self
-    c.next-third.ensures in
-    let taken = three_taken c.in_ok-first.first.now (option_copied c.next-second.result)
-    (option_copied c.next-third.result) c.args.words.now c.next.new.self c.next-second.new.self
-    c.next-third.new.self c.in_ok-first.ensures second third in
+    let taken = three_taken c.in_ok-first.first.now c.next-second.result c.next-third.result
+    c.args.words.now c.next.new.self c.next-second.new.self c.next-third.new.self
+    c.in_ok-first.ensures c.next-second.ensures c.next-third.ensures in
     let none : is_some c.next-2.result ≡ false = sym c.is_some.ensures ∙ c.if-is_some.false in
     let end = no_next c.next-2.result _ _ none c.next-2.ensures in
     none_spelled words.version words.kind c.args.words.now _ c.next-third.new.self taken end.0
@@ -46,13 +38,9 @@ returns-in_err-op-clause-none c = rw c.from_residual-in_err-op.ensures (λ op sm
 pub returns-then-used-given-clause-found : goal.returns-then-used-given-clause-found
 returns-then-used-given-clause-found c =
     let words = c.args.operations.now in
-    let second =
-    next_word c.next-second.result c.next.new.self c.next-second.new.self c.next-second.ensures in
-    let third = next_word c.next-third.result c.next-second.new.self c.next-third.new.self
-    c.next-third.ensures in
-    let taken = three_taken c.in_ok-first.first.now (option_copied c.next-second.result)
-    (option_copied c.next-third.result) c.args.words.now c.next.new.self c.next-second.new.self
-    c.next-third.new.self c.in_ok-first.ensures second third in
+    let taken = three_taken c.in_ok-first.first.now c.next-second.result c.next-third.result
+    c.args.words.now c.next.new.self c.next-second.new.self c.next-third.new.self
+    c.in_ok-first.ensures c.next-second.ensures c.next-third.ensures in
     let none : is_some c.next-2.result ≡ false = sym c.is_some.ensures ∙ c.if-is_some.false in
     let end = no_next c.next-2.result _ _ none c.next-2.ensures in
     spelled_all words.version words.kind c.args.words.now _ c.next-third.new.self taken end.0
@@ -61,13 +49,9 @@ returns-then-used-given-clause-found c =
 pub returns-else-used-given-clause-none : goal.returns-else-used-given-clause-none
 returns-else-used-given-clause-none c = λ op small text.
     let words = c.args.operations.now in
-    let second =
-    next_word c.next-second.result c.next.new.self c.next-second.new.self c.next-second.ensures in
-    let third = next_word c.next-third.result c.next-second.new.self c.next-third.new.self
-    c.next-third.ensures in
-    let taken = three_taken c.in_ok-first.first.now (option_copied c.next-second.result)
-    (option_copied c.next-third.result) c.args.words.now c.next.new.self c.next-second.new.self
-    c.next-third.new.self c.in_ok-first.ensures second third in
+    let taken = three_taken c.in_ok-first.first.now c.next-second.result c.next-third.result
+    c.args.words.now c.next.new.self c.next-second.new.self c.next-third.new.self
+    c.in_ok-first.ensures c.next-second.ensures c.next-third.ensures in
     let none : is_some c.next-2.result ≡ false = sym c.is_some.ensures ∙ c.if-is_some.false in
     let end = no_next c.next-2.result _ _ none c.next-2.ensures in
     spelled_part words.version words.kind c.args.words.now _ c.next-third.new.self taken end.0

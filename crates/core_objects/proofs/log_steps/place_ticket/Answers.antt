@@ -2,7 +2,7 @@ use Rattle.std.proofs.Common.{◌≡◌, ◌<◌, ℕ, ◌+◌, ◌*◌, Bool, i
 use Rattle.std.specs.Prelude.{is_ok}
 use Rattle.world_core.specs.Local.{Object_step}
 use Rattle.core_objects.specs.LogCalls.{places_on, HasPlaced, KnowsPlaces}
-use Rattle.core_objects.proofs.LogCalls.{number_is_low, places_few, made_none, made_one, stored_kept, tickets_grown, tried_made, tried_placed, tried_unplaced, finds_a_place}
+use Rattle.core_objects.proofs.LogCalls.{number_few, made_none, made_one, stored_kept, tickets_grown, tried_made, tried_placed, tried_unplaced, finds_a_place}
 use Rattle.core_objects.proofs.log_steps.place_ticket.Goals as goal
 
 pub loop-place-init : goal.loop-place-init
@@ -20,14 +20,10 @@ loop-place-init g c =
 
 pub overflow_add-number : goal.overflow_add-number
 overflow_add-number g c =
-    let r = c.args.rows.now in
-    let low = (number_is_low g.S.SeqObject.spec r c.args.announced.now
-    c.requires.caller).1 in
     omega (
       arith,
-      c.requires.number,
-      low,
-      places_few g.S.SeqObject.spec r c.requires.words,
+      number_few g.S.SeqObject.spec c.args.rows.now c.args.announced.now c.args.number
+          c.requires.caller c.requires.number c.requires.words,
     )
 
 pub returns-then-ticket-number-clause-made : goal.returns-then-ticket-number-clause-made

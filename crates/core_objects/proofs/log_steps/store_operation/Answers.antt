@@ -1,18 +1,14 @@
 use Rattle.std.proofs.Common.{◌∙◌, ap, arith}
 use Rattle.book_base.specs.OperationWord.{low_of, high_of}
-use Rattle.core_objects.proofs.LogCalls.{number_is_low, places_few, may_store_low, may_store_second, both_made, both_stored, stored_unplaced, stored_tickets}
+use Rattle.core_objects.proofs.LogCalls.{number_few, number_is_low, may_store_low, may_store_second, both_made, both_stored, stored_unplaced, stored_tickets}
 use Rattle.core_objects.proofs.log_steps.store_operation.Goals as goal
 
 pub overflow_mul-number : goal.overflow_mul-number
 overflow_mul-number g c =
-    let r = c.args.rows.now in
-    let low = (number_is_low g.S.SeqObject.spec r c.args.announced.now
-    c.requires.caller).1 in
     omega (
       arith,
-      c.requires.number,
-      low,
-      places_few g.S.SeqObject.spec r c.requires.words,
+      number_few g.S.SeqObject.spec c.args.rows.now c.args.announced.now c.args.number
+          c.requires.caller c.requires.number c.requires.words,
     )
 
 pub object_store-requires-clause-place : goal.object_store-requires-clause-place
@@ -34,26 +30,18 @@ object_store-requires-clause-program g c =
 
 pub overflow_mul-number-2 : goal.overflow_mul-number-2
 overflow_mul-number-2 g c =
-    let r = c.args.rows.now in
-    let low = (number_is_low g.S.SeqObject.spec r c.args.announced.now
-    c.requires.caller).1 in
     omega (
       arith,
-      c.requires.number,
-      low,
-      places_few g.S.SeqObject.spec r c.requires.words,
+      number_few g.S.SeqObject.spec c.args.rows.now c.args.announced.now c.args.number
+          c.requires.caller c.requires.number c.requires.words,
     )
 
 pub overflow_add-number : goal.overflow_add-number
 overflow_add-number g c =
-    let r = c.args.rows.now in
-    let low = (number_is_low g.S.SeqObject.spec r c.args.announced.now
-    c.requires.caller).1 in
     omega (
       arith,
-      c.requires.number,
-      low,
-      places_few g.S.SeqObject.spec r c.requires.words,
+      number_few g.S.SeqObject.spec c.args.rows.now c.args.announced.now c.args.number
+          c.requires.caller c.requires.number c.requires.words,
     )
 
 pub object_store-requires-2-clause-place : goal.object_store-requires-2-clause-place

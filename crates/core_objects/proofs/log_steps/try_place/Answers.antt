@@ -1,17 +1,13 @@
 use Rattle.std.proofs.Common.{ℕ, ◌+◌, ◌*◌, length, ap, arith}
-use Rattle.core_objects.proofs.LogCalls.{number_is_low, places_few, may_place}
+use Rattle.core_objects.proofs.LogCalls.{number_few, may_place}
 use Rattle.core_objects.proofs.log_steps.try_place.Goals as goal
 
 pub overflow_add-number : goal.overflow_add-number
 overflow_add-number g c =
-    let r = c.args.rows.now in
-    let low = (number_is_low g.S.SeqObject.spec r c.args.announced.now
-    c.requires.caller).1 in
     omega (
       arith,
-      c.requires.number,
-      low,
-      places_few g.S.SeqObject.spec r c.requires.words,
+      number_few g.S.SeqObject.spec c.args.rows.now c.args.announced.now c.args.number
+          c.requires.caller c.requires.number c.requires.words,
     )
 
 pub object_exchange-requires-clause-program : goal.object_exchange-requires-clause-program
@@ -25,12 +21,8 @@ object_exchange-requires-clause-program g c =
 
 pub overflow_add-result : goal.overflow_add-result
 overflow_add-result g c =
-    let r = c.args.rows.now in
-    let low = (number_is_low g.S.SeqObject.spec r c.args.announced.now
-    c.requires.caller).1 in
     omega (
       arith,
-      c.requires.number,
-      low,
-      places_few g.S.SeqObject.spec r c.requires.words,
+      number_few g.S.SeqObject.spec c.args.rows.now c.args.announced.now c.args.number
+          c.requires.caller c.requires.number c.requires.words,
     )

@@ -4,7 +4,7 @@ use Rattle.world_core.specs.CallSteps.{all_steps_of}
 use Rattle.drv_wrapper.specs.States.{who_announced, op_announced, announced_local}
 use Rattle.log_program.specs.LogProgram.{list_of}
 use Rattle.core_objects.specs.LogCalls.{KnowsTickets, KnowsOperations, places_on, number_on, HasMade, HasStored, HasPlaced, KnowsPlaces, KnowsLog}
-use Rattle.core_objects.proofs.LogCalls.{meaning, number_is_low, places_few, made_both, made_all, log_kept, stored_kept, placed_kept, own_log_known, has_replied}
+use Rattle.core_objects.proofs.LogCalls.{meaning, number_few, made_both, made_all, log_kept, stored_kept, placed_kept, own_log_known, has_replied}
 use Rattle.core_objects.proofs.core_log.CoreLogCoreObject.reply.Goals as goal
 
 pub overflow_add-number : goal.overflow_add-number
@@ -17,12 +17,10 @@ overflow_add-number g c =
     ap (λ (i : ℕ). i * pass.cap + c.number.result) who
     ∙ ap (λ (k : ℕ). who_announced a * k + c.number.result) c.requires.fits.cap_is
     ∙ ap (λ (m : ℕ). who_announced a * r.cap + m) c.number.ensures in
-    let low = (number_is_low g.S.SeqObject.spec r a c.requires.caller).1 in
     omega (
       arith,
-      same,
-      low,
-      places_few g.S.SeqObject.spec r c.requires.program.objects,
+      number_few g.S.SeqObject.spec r a (c.from-2.result * pass.cap + c.number.result)
+          c.requires.caller same c.requires.program.objects,
     )
 
 pub load_operations-requires-clause-log : goal.load_operations-requires-clause-log
