@@ -5,6 +5,7 @@ ghost use Rattle.stack_pruning.specs.LastFirst.{GivesLastFirst};
 
 use crate::closure::Closure;
 use crate::order::calls_to;
+use crate::runs::RunSearch;
 use crate::search::{LevelSearch, LevelsFound};
 use crate::stack_book::StackBook;
 use crate::table::LevelTable;
@@ -63,6 +64,12 @@ pub fn decide_stack<S: SeqObject + Reader>(
         sight: &sight,
         book,
     };
+    let runs = RunSearch {
+        levels: LevelSearch { alloc, on: &on },
+    };
+    if let LevelsFound::Whole(table, place) = runs.run()? {
+        return order_of(alloc, stack, book, &table, place);
+    }
     let search = LevelSearch { alloc, on: &on };
     match search.run()? {
         LevelsFound::Whole(table, place) => order_of(alloc, stack, book, &table, place),

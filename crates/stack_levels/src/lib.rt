@@ -8,6 +8,7 @@ mod closure;
 mod decide;
 pub mod laws;
 mod order;
+mod runs;
 mod search;
 mod stack_book;
 mod table;

@@ -12,11 +12,11 @@ use stack_pruning::Top;
 use std::alloc::Global;
 use std::cmp::Reverse;
 
-// The greatest number of nodes that a search looks at.
-const NODES: u64 = 2_000_000;
+/// The greatest number of nodes that a search looks at.
+pub const NODES: u64 = 2_000_000;
 
-// How often a search may be led to a node, new or not, before it is given up.
-const LINKS: u64 = 30_000_000;
+/// How often a search may be led to a node, new or not, before it is given up.
+pub const LINKS: u64 = 30_000_000;
 
 /// The result of a search.
 #[derive(Drop)]
@@ -63,16 +63,16 @@ struct Here {
 /// A call that is to be tried, and its turn: the nodes to which the call of the least turn leads
 /// are looked at first.
 #[derive(Clone, Copy, Drop)]
-struct Turn {
-    turn: u64,
-    call: Call,
+pub struct Turn {
+    pub turn: u64,
+    pub call: Call,
 }
 
 /// A call that is to be tried, and the number of the cut that it leads to.
 #[derive(Clone, Copy)]
-struct LevelStep {
-    call: Call,
-    cut: usize,
+pub struct LevelStep {
+    pub call: Call,
+    pub cut: usize,
 }
 
 impl<R: Reader> LevelSearch<'_, R> {
@@ -158,10 +158,13 @@ impl<R: Reader> LevelSearch<'_, R> {
         Ok(Some(looked))
     }
 
-    // The calls that are to be tried, the one of the least turn last.
-    fn turns(&self, look: &NextCallers, top: Top) -> Result<Vec<Turn>, NoMemory>
+    /// The calls that are to be tried, the one of the least turn last.
+    pub fn turns(&self, look: &NextCallers, top: Top) -> Result<Vec<Turn>, NoMemory>
+        // The cut has a count for each caller of the book.
         requires wide { length look.now.cut ≡ length self.now.on.now.book.now }
+        // Exactly those callers are marked in `all` whose next calls may come next after the cut.
         requires all { MarksAllNext self.now.on.now.book.now look.now.cut look.now.all }
+        // Each caller whose next call has to be tried is one whose next call may come next.
         requires fewer { IsMarkedWithin look.now.marks look.now.all }
     {
         let mut turns = Vec::new(self.alloc);
@@ -178,10 +181,10 @@ impl<R: Reader> LevelSearch<'_, R> {
         Ok(turns)
     }
 
-    // Adds a call to those that are to be tried, unless it shows something other than the last
-    // word, is unanswered and doesn't change the list, or one of them serves for it. Where it
-    // serves for one of them, it replaces that one.
-    fn consider(&self, turns: &mut Vec<Turn>, top: Top, call: Call) -> Result<(), NoMemory> {
+    /// Adds a call to those that are to be tried, unless it shows something other than the last
+    /// word, is unanswered and doesn't change the list, or one of them serves for it. Where it
+    /// serves for one of them, it replaces that one.
+    pub fn consider(&self, turns: &mut Vec<Turn>, top: Top, call: Call) -> Result<(), NoMemory> {
         if !self.is_call(call) {
             return Ok(());
         }
@@ -204,8 +207,8 @@ impl<R: Reader> LevelSearch<'_, R> {
         Ok(())
     }
 
-    // Whether a call is one of the book's.
-    fn is_call(&self, call: Call) -> bool
+    /// Whether a call is one of the book's.
+    pub fn is_call(&self, call: Call) -> bool
         ensures caller { IsTrue result → call.caller < length self.now.on.now.book.now }
         ensures call { IsTrue result → IsCall self.now.on.now.book.now call }
     {
@@ -303,9 +306,9 @@ fn step_of(progress: &SearchState, looked: usize, k: usize) -> Option<LevelStep>
     progress.steps.get(looked)?.get(k).copied()
 }
 
-// The counts with one more call of a caller, or as they are where the caller can have no more
-// calls.
-fn more(counts: &[u16; MAX_CALLERS], caller: u32) -> [u16; MAX_CALLERS] {
+/// The counts with one more call of a caller, or as they are where the caller can have no more
+/// calls.
+pub fn more(counts: &[u16; MAX_CALLERS], caller: u32) -> [u16; MAX_CALLERS] {
     let place = caller as usize;
     if place < MAX_CALLERS && u64::from(counts[place]) < MAX_CALLS {
         raised(counts, caller)
