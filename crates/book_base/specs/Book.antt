@@ -76,12 +76,12 @@ abbrev pub Precedes : List Page → Call → Call → Type 0
 Precedes book a b = IsSomeAnd (record_of book a) (λ r. slice_index r.view b.caller ≤ b.number)
     ⊎ ((a.caller ≡ b.caller) × (a.number < b.number))
 
--- the book with one more call of a caller
+-- the book in which a caller has one more call, with this operation word, as its last one
 abbrev pub with_call : List Page → ℕ → ℕ → List Page
 with_call book i op = slice_set book i
     (record (page_of book i) { operations = (page_of book i).operations ++ op ∷ [] })
 
--- the book with the answer to a caller's first unanswered call
+-- the book in which a caller has one more record, which answers its first unanswered call
 abbrev pub with_answer : List Page → ℕ → Record → List Page
 with_answer book i r =
     slice_set book i (record (page_of book i) { records = (page_of book i).records ++ r ∷ [] })
@@ -95,7 +95,7 @@ unanswered_page calls = record { operations = replicate calls 0; records = [] }
 abbrev pub unanswered_book : List ℕ → List Page
 unanswered_book calls = map unanswered_page calls
 
--- the book with another operation word of a call
+-- the book in which a call has this operation word in place of its own
 abbrev pub with_operation : List Page → Call → ℕ → List Page
 with_operation book call op =
     slice_set book call.caller (record (page_of book call.caller)
@@ -105,8 +105,7 @@ with_operation book call op =
 abbrev pub first_unanswered : List Page → ℕ → Call
 first_unanswered book i = record { caller = i; number = answers_of book i }
 
--- An answer is recorded at its caller's first unanswered call; what was recorded before is recorded
--- still, and nothing else is.
+-- An answer is recorded at its caller's first unanswered call, and no other record changes.
 pub record AnswersAreRecorded : Type 0 where
   pub new : (book : List Page) (i : ℕ) (r : Record) → i < length book
       → record_of (with_answer book i r) (first_unanswered book i) ≡ Some r

@@ -11,20 +11,21 @@ abbrev pub IsHeldBySomeView : List Page → List ℕ → Call → Type 0
 IsHeldBySomeView book cut call = (answered : Call) × (r : Record) × Holds cut answered
     × (record_of book answered ≡ Some r) × Holds r.view call
 
--- A part of a book is the book at a cut (Castañeda and Rodríguez 2023).
+-- A part of a book is the book at a cut: it has of each caller as many first records as the cut
+-- counts, and the calls that some view of these records holds (Castañeda and Rodríguez 2023).
 pub record IsBookAt (book : List Page) (cut : List ℕ) (part : List Page) : Type 0 where
-  -- it has the same callers
+  -- the part has as many callers as the book
   pub callers : length part ≡ length book
-  -- each caller has as many of its first records as the cut counts for it
+  -- each caller of the part has as many of its first records as the cut counts for it
   pub records : (i : ℕ)
       → (page_of part i).records ≡ take (slice_index cut i) (page_of book i).records
-  -- its calls are exactly those that the view of some record within the cut holds
+  -- the part's calls are exactly those that the view of some record within the cut holds
   pub calls : (call : Call) → IsCall part call ↔ IsHeldBySomeView book cut call
-  -- each of its calls has the operation that the book has for it
+  -- each call of the part has the operation word that the book has for it
   pub operations : (call : Call) → IsCall part call
       → operation_of part call ≡ operation_of book call
 
--- The greatest count that any of these cuts has for a caller: 0 where there is no cut.
+-- The greatest count for caller `i` in a list of cuts: 0 for an empty list.
 abbrev pub greatest_count : List (List ℕ) → ℕ → ℕ
 greatest_count [] i = 0
 greatest_count (cut ∷ cuts) i = max (slice_index cut i) (greatest_count cuts i)
@@ -44,6 +45,6 @@ page_at cut book i = record {
   records = take (slice_index cut i) (page_of book i).records;
 }
 
--- The book at a cut, computed: `IsBookAt` says what it is.
+-- The book at a cut, as a function; the relation `IsBookAt` states which book that is.
 abbrev pub book_at : List ℕ → List Page → List Page
 book_at cut book = map (page_at cut book) (range_with_len 0 (length book))

@@ -21,6 +21,7 @@ abbrev pub padded : List ℕ → Inside
 padded counts =
     record { n = length counts; at = counts ++ replicate (MAX_CALLERS - length counts) 0 }
 
+-- Padding the counts of a cut with zeros gives its array back.
 pub counts_of-inverse : (c : Inside) → IsPadded c → padded (counts_of c) ≡ c
 counts_of-inverse c h =
     let long : length (take c.n c.at) ≡ c.n = omega (arith, length-take c.n c.at) in

@@ -6,8 +6,8 @@ use Rattle.book_base.specs.SeqSpec.{SeqSpec}
 use Rattle.book_base.specs.Book.{Page}
 use Rattle.book_base.specs.Order.{IsLegalOrder, HasLegalOrder}
 
--- A decision on a book is right: an order that it carries is legal, where it says that there is no
--- legal order there is none, and otherwise it says nothing.
+-- A decision on a book is right where it carries a legal order of the book, where it is `NoOrder`
+-- and the book has no legal order, or where it says nothing.
 abbrev pub IsRightDecision : SeqSpec → List Page → Decision → Type 0
 IsRightDecision spec book (Order order) = IsLegalOrder spec book order.items
 IsRightDecision spec book NoOrder = HasLegalOrder spec book → ⊥

@@ -15,7 +15,7 @@ raised cut i = slice_set cut i (slice_index cut i + 1)
 abbrev pub next_call : List ℕ → ℕ → Call
 next_call cut i = record { caller = i; number = slice_index cut i }
 
--- the cut holds all answered calls
+-- a cut holds all answered calls of a book
 abbrev pub HoldsAnswered : List Page → List ℕ → Type 0
 HoldsAnswered book cut = (call : Call) → IsAnswered book call → Holds cut call
 

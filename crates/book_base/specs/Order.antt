@@ -22,20 +22,20 @@ step_at book place = (unwrap_or (operation_of book (call_at place)) 0, place.rep
 -- A legal order of a book, for a sequential object (Herlihy and Wing 1990, on views). An unanswered
 -- call may stand in it with the reply that the object gives, or be left out.
 pub record IsLegalOrder (spec : SeqSpec) (book : List Page) (order : List Place) : Type 0 where
-  -- each call in it is a call of the book
+  -- each call in the order is a call of the book
   pub calls : (k : ℕ) (call : Call) → StandsAt order k call → IsCall book call
-  -- no call stands in it twice
+  -- no call stands in the order twice
   pub once : (j k : ℕ) (call : Call) → StandsAt order j call → StandsAt order k call → j ≡ k
-  -- where a call stands, all earlier calls of its caller stand before it
+  -- before each call in the order stand all earlier calls of its caller
   pub earlier : (k : ℕ) (call : Call) → StandsAt order k call → (number : ℕ) → number < call.number
       → (j : ℕ) × (j < k) × StandsAt order j (record { caller = call.caller; number = number })
-  -- each answered call stands in it with its recorded reply
+  -- each answered call stands in the order with its recorded reply
   pub answered : (call : Call) (r : Record) → record_of book call ≡ Some r
       → (k : ℕ) × (slice_get order k
       ≡ Some (record { caller = call.caller; number = call.number; reply = r.reply }))
   -- the replies are those that the object gives when the operations are applied in this order
   pub run : IsLegalRun spec (map (step_at book) order)
-  -- where a call precedes another and both stand in it, it stands before the other
+  -- of two calls in the order, one that precedes the other stands before it
   pub precedence : (j k : ℕ) (a b : Call) → StandsAt order j a → StandsAt order k b
       → Precedes book a b → j < k
 

@@ -16,21 +16,20 @@ abbrev pub HasOneOpen : List Page → Type 0
 HasOneOpen book = (call : Call) (r : Record) (i : ℕ) → record_of book call ≡ Some r
     → slice_index r.view i ≤ answers_of book i + 1
 
--- where both calls are answered, the view of the first is within that of the second
+-- where two calls are answered, the view of the first is within that of the second
 abbrev pub ViewsAreWithin : List Page → Call → Call → Type 0
 ViewsAreWithin book a b = (r s : Record) → record_of book a ≡ Some r → record_of book b ≡ Some s
     → IsWithin r.view s.view
 
--- A caller's first call outside a cut is answered, and of the callers below a number it has the
--- least view: its view is within that of each other's first call outside the cut, where this is
--- answered.
+-- A caller's first call outside a cut is answered, and its view is within that of the first call
+-- outside the cut of each caller below the number `below`, where this call is answered.
 pub record IsLeast (book : List Page) (cut : List ℕ) (below caller : ℕ) : Type 0 where
   pub answered : IsAnswered book (next_call cut caller)
   pub least : (other : ℕ) → other < below
       → ViewsAreWithin book (next_call cut caller) (next_call cut other)
 
--- A caller is forced after a cut: of all answered calls outside the cut its first one has the least
--- view.
+-- A caller is forced after a cut: its first call outside the cut is answered, and has the least
+-- view of all answered calls outside the cut.
 abbrev pub IsForced : List Page → List ℕ → ℕ → Type 0
 IsForced book cut caller = IsLeast book cut (length book) caller
 
@@ -38,8 +37,8 @@ IsForced book cut caller = IsLeast book cut (length book) caller
 abbrev pub IsDeadEnd : List Page → (List ℕ → ℕ → List ℕ × ℕ) → List ℕ → List ℕ → Type 0
 IsDeadEnd book next cut list = (rest : List Place) → Continues book next cut list rest → ⊥
 
--- A place may be taken at once, after a cut and at a list: it may come next, and where places
--- continue an order from there, some that begin with this place do.
+-- A place may be taken at once, after a cut and at a list: it may come next, and where any places
+-- continue an order from the cut and the list, some places that begin with this one do too.
 pub record StandsAtOnce (book : List Page) (next : List ℕ → ℕ → List ℕ × ℕ) (cut list : List ℕ)
     (place : Place) : Type 0 where
   pub may_stand : MayStandNext book next cut list place
@@ -62,14 +61,14 @@ IsMarked marks i = IsTrue (slice_index_or marks.callers i false)
 abbrev pub MarksAllNext : List Page → List ℕ → MarkedCallers → Type 0
 MarksAllNext book cut marks = (i : ℕ) → IsMarked marks i ↔ MayComeNext book cut (next_call cut i)
 
--- Where places continue an order from a cut and a list, as many or fewer that begin with the next
--- call of a marked caller do too.
+-- Marks on callers suffice at a cut and a list: where some places continue an order from there, as
+-- many places or fewer that begin with the next call of a marked caller do too.
 abbrev pub MarksSuffice : List Page → (List ℕ → ℕ → List ℕ × ℕ) → List ℕ → List ℕ
     → MarkedCallers → Type 0
 MarksSuffice book next cut list marks = (rest : List Place) → Continues book next cut list rest
     → (place : Place) × (other : List Place) × IsMarked marks place.caller
     × Continues book next cut list (place ∷ other) × (length other < length rest)
 
--- all callers that are marked here are marked there
+-- each caller that is marked in `few` is marked in `many`
 abbrev pub IsMarkedWithin : MarkedCallers → MarkedCallers → Type 0
 IsMarkedWithin few many = (i : ℕ) → IsMarked few i → IsMarked many i

@@ -13,7 +13,7 @@ use Rattle.book_base.specs.Cut.{Holds}
 use Rattle.book_base.specs.Book.{Page}
 use Rattle.book_base.specs.Order.{StandsAt, step_at, IsLegalOrder}
 
--- the object's list after a run, from this list on
+-- the object's list after the operations of a run, applied in order from a first list on
 abbrev pub list_after_run : (List ℕ → ℕ → List ℕ × ℕ) → List ℕ → List (ℕ × ℕ) → List ℕ
 list_after_run next list [] = list
 list_after_run next list (step ∷ steps) = list_after_run next (next list step.0).0 steps
@@ -26,8 +26,8 @@ pub record Reaches (spec : SeqSpec) (book : List Page) (order : List Place)
   pub held : (call : Call) → Holds cut call → (k : ℕ) × StandsAt order k call
   pub reached : list_after_run spec.next spec.init (map (step_at book) order) ≡ list
 
--- A call is infeasible next, after a cut and at a list: no legal order that reaches them goes on
--- with it.
+-- A call is infeasible next, after a cut and at a list: no legal order has it right after places
+-- that reach the cut and the list.
 abbrev pub IsInfeasible : SeqSpec → List Page → List ℕ → List ℕ → Call → Type 0
 IsInfeasible spec book cut list call = (before rest : List Place) (reply : ℕ)
     → Reaches spec book before cut list
@@ -49,7 +49,7 @@ pub record Known : Type 0 where
   pub call_bounds : List (List CallBound)
   pub ranks : List (ℕ × ℕ)
 
--- a bound that forbids nothing
+-- the bound of a call that forbids nothing: its predecessor bound holds no call, and its limit is 0
 abbrev pub no_call_bound : CallBound
 no_call_bound = record { predecessor_bound = replicate MAX_CALLERS 0; limit = 0 }
 
@@ -62,7 +62,7 @@ abbrev pub call_bound_of : Known → Call → CallBound
 call_bound_of known call =
     slice_index_or (call_bounds_of known call.caller) call.number no_call_bound
 
--- what is known has a bound for the call
+-- the pruning rules have a bound for the call
 abbrev pub HasCallBound : Known → Call → Type 0
 HasCallBound known call = (call.caller < length known.call_bounds)
     × (call.number < length (call_bounds_of known call.caller))
@@ -86,29 +86,30 @@ abbrev pub Forbids : Known → List ℕ → List ℕ → Call → Type 0
 Forbids known cut list call = IsBelow cut (call_bound_of known call).predecessor_bound
     ⊎ HasEarly known.ranks list (call_bound_of known call).limit
 
--- What is known of a book is right for an object: each call that it forbids is infeasible there.
+-- Pruning rules are right for an object and a book: each call that they forbid next, after a cut
+-- and at a list, is infeasible there.
 abbrev pub ArePruningRules : SeqSpec → List Page → Known → Type 0
 ArePruningRules spec book known = (cut list : List ℕ) (call : Call)
     → Forbids known cut list call
     → IsInfeasible spec book cut list call
 
--- what is known without any bounds and ranks, which forbids nothing
+-- the pruning rules without any bounds and ranks, which forbid nothing
 abbrev pub nothing_known : Known
 nothing_known = record { call_bounds = []; ranks = [] }
 
--- for each call of a book a bound that forbids nothing
+-- bounds that forbid nothing, one for each call of a book
 abbrev pub blank_call_bounds : List Page → List (List CallBound)
 blank_call_bounds book = map (λ page. replicate (length page.operations) no_call_bound) book
 
--- what is known, with another bound of a call
+-- the pruning rules in which a call has this bound in place of its own
 abbrev pub with_call_bound : Known → Call → CallBound → Known
 with_call_bound known call call_bound = record known {
   call_bounds = slice_set known.call_bounds call.caller
       (slice_set (call_bounds_of known call.caller) call.number call_bound);
 }
 
--- what is known, with a call held back until after another one: its predecessor bound holds the
--- other one too
+-- the pruning rules in which a call is held back until after another one: the call's predecessor
+-- bound holds the other call too
 abbrev pub held_back : Known → Call → Call → Known
 held_back known call other =
     let call_bound : CallBound = call_bound_of known call in
@@ -117,11 +118,11 @@ held_back known call other =
           (max (slice_index call_bound.predecessor_bound other.caller) (other.number + 1));
     })
 
--- what is known, with the limit of a call raised to this one where it is lower
+-- the pruning rules in which the limit of a call is raised to this one where it is lower
 abbrev pub limited : Known → Call → ℕ → Known
 limited known call limit = let call_bound : CallBound = call_bound_of known call in
     with_call_bound known call (record call_bound { limit = max call_bound.limit limit })
 
--- what is known, with a rank of a word
+-- the pruning rules in which a word has this rank
 abbrev pub ranked : Known → ℕ → ℕ → Known
 ranked known word rank = record known { ranks = insert_entry nat_cmp known.ranks word rank }

@@ -34,7 +34,7 @@ FailsTest book i view (ViewHasLater count) = (count ≡ slice_index view i)
 -- the view and the recorded view of the call that the fault names aren't comparable
 FailsTest book i view (ViewsCross call) =
     IsSomeAnd (record_of book call) (λ r. ¬ AreComparable view r.view)
--- no test of an answer has these names
+-- `TooManyCalls` and `NoMemory` name no test of an answer
 FailsTest book i view TooManyCalls = ⊥
 FailsTest book i view NoMemory = ⊥
 
@@ -48,13 +48,13 @@ turn_of (ViewsCross call) = 4
 turn_of TooManyCalls = 5
 turn_of NoMemory = 5
 
--- the caller that a fault names
+-- the caller that a fault names: 0 where it names none
 abbrev pub named_caller : BookFault → ℕ
 named_caller (ViewOutside j) = j
 named_caller (ViewsCross call) = call.caller
 named_caller e = 0
 
--- the number of the call that a fault names
+-- the number of the call that a fault names: 0 where it names none
 abbrev pub named_number : BookFault → ℕ
 named_number (ViewsCross call) = call.number
 named_number e = 0

@@ -1,12 +1,12 @@
--- The views of a caller's records, which rise.
+-- The views of one caller's records rise: each is within the next one.
 use Rattle.std.specs.Prelude.{◌≡◌, ℕ, ◌<◌, ◌≤◌, List, Some, slice_index}
 use Rattle.book_base.specs.declared.call.Call.{Call}
 use Rattle.book_base.specs.declared.call.Record.{Record}
 use Rattle.book_base.specs.Cut.{IsWithin}
 use Rattle.book_base.specs.Book.{Page, answers_of, record_of, IsValid}
 
--- The views of a caller's first records are within a cut, and those of its records from another
--- number on aren't.
+-- Of a caller's records, those with a number below `low` have views within the cut `view`, and
+-- those with a number from `high` on have views that aren't within it.
 pub record AreViewsWithin (book : List Page) (caller : ℕ) (view : List ℕ)
     (low high : ℕ) : Type 0 where
   pub ordered : low ≤ high

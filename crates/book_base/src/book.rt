@@ -17,7 +17,7 @@ use crate::{MAX_CALLERS, MAX_CALLS, OpWord};
 use std::alloc::Global;
 use std::marker::Model;
 
-/// What one caller did.
+/// One caller's page: the operation words of its calls, and the records of those that are answered.
 #[derive(Debug, Drop)]
 struct CallerPage {
     operations: Vec<OpWord>,
@@ -36,7 +36,8 @@ pub struct Book {
 }
 
 impl CallerPage {
-    // The page of this many calls without answers, with capacity for the answers.
+    // The page of `calls` unanswered calls, each with the operation word 0, with capacity for their
+    // records.
     fn unanswered(alloc: Global, calls: u64) -> Result<CallerPage, NoMemory>
         requires { calls ≤ MAX_CALLS }
         ensures { IfOk result (λ rows. page rows ≡ unanswered_page calls) }
@@ -47,7 +48,7 @@ impl CallerPage {
         })
     }
 
-    // The page with the first calls and the first records of this one, this many of each.
+    // The page with the first `calls` calls and the first `answers` records of this page.
     fn prefix(&self, alloc: Global, calls: u64, answers: u64) -> Result<CallerPage, NoMemory>
         requires calls { calls ≤ length self.now.operations.items }
         requires answers { answers ≤ length self.now.records.items }
@@ -242,7 +243,7 @@ impl Book {
         None
     }
 
-    // The least call, by caller and number, whose view and the given one aren't comparable.
+    // The least call, by caller and then by number, whose view and `view` aren't comparable.
     fn first_crossing(&self, view: &Cut) -> Option<Call>
         requires { length view.now ≡ length self.now }
         ensures crossing { IfSome result
@@ -263,9 +264,9 @@ impl Book {
         None
     }
 
-    // The least call of a caller whose view and the given one aren't comparable. It can only be the
-    // first call whose view isn't within the given one: a caller's views rise, so that the given
-    // one is within all later views where it is within that one.
+    // The least call of a caller whose view and `view` aren't comparable. Only the first call whose
+    // view isn't within `view` can be that call: where `view` is within its view, it is within
+    // those of all later calls of the caller, since a caller's views rise.
     fn first_crossing_of(&self, caller: u32, view: &Cut) -> Option<u64>
         requires valid { IsValid self.now }
         requires caller { caller < length self.now }
@@ -288,9 +289,9 @@ impl Book {
         Some(number)
     }
 
-    // How many of a caller's views are within the given one: they are its first, since a caller's
-    // views rise. A new view mostly contains all of them, so that they are looked at from the last
-    // one backwards, at distances that double.
+    // How many of a caller's views are within `view`. They are the caller's first views, since a
+    // caller's views rise. A new view mostly contains all of them, so the search goes backwards
+    // from the last one, at distances that double.
     fn views_within(&self, caller: u32, view: &Cut) -> u64
         requires valid { IsValid self.now }
         requires caller { caller < length self.now }
@@ -310,8 +311,8 @@ impl Book {
         0
     }
 
-    // How many of a caller's views are within the given one, where this number is between the lower
-    // and the higher one.
+    // How many of a caller's views are within `view`, found by bisection where this number is known
+    // to lie between `lower` and `higher`.
     fn views_within_between(&self, caller: u32, view: &Cut, lower: u64, higher: u64) -> u64
         requires valid { IsValid self.now }
         requires caller { caller < length self.now }
@@ -349,8 +350,8 @@ impl Book {
         Ok(Book { rows })
     }
 
-    // How many calls of a caller are held by the views of the records that a cut holds. The views
-    // of each caller rise, so that only its last one is looked at.
+    // How many calls of a caller are held by the views of the records that a cut holds. Since the
+    // views of each caller rise, only that of each caller's last record in the cut is looked at.
     fn held_calls(&self, cut: &Cut, caller: u32) -> u64
         requires wide { length cut.now ≡ length self.now }
         requires answered { IsWithin cut.now (answered self.now) }
@@ -366,8 +367,8 @@ impl Book {
         held
     }
 
-    // How many calls of a caller are held by the view of another one's last record that a cut
-    // holds.
+    // How many calls of `caller` are held by the view of the last record of the caller `other` that
+    // a cut holds: 0 where the cut holds no record of `other`.
     fn held_by_last(&self, cut: &Cut, other: u32, caller: u32) -> u64
         requires valid { IsValid self.now }
         requires wide { length cut.now ≡ length self.now }
@@ -489,7 +490,7 @@ impl Book {
         earlier || (self.is_answered(a) && !self.view(a).holds(b.caller, b.number))
     }
 
-    // Whether the view of a caller's record is within the given one.
+    // Whether the view of a caller's record with this number is within `view`.
     fn is_within(&self, caller: u32, number: u64, view: &Cut) -> bool
         requires answered { number < answers_of self.now caller }
         requires wide { length view.now ≡ length self.now }

@@ -97,7 +97,7 @@ impl Cut {
         requires { length other.now ≡ length self.old }
         // The cut has as many counts as before.
         ensures wide { length self.new ≡ length self.old }
-        // Each count is the greater one of that before and the other cut's.
+        // Each count is the greater one of the count before and the other cut's count.
         ensures counts { (i : ℕ) → slice_index self.new i
             ≡ max (slice_index self.old i) (slice_index other.now i) }
     {

@@ -1,6 +1,6 @@
 use crate::call::Place;
 
-/// What an object says of a whole book without a search of pairs.
+/// What an object says of a whole book without a search of orders.
 #[derive(Debug, Drop)]
 pub enum Decision {
     /// A legal order.

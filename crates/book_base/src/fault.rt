@@ -35,10 +35,10 @@ pub enum BookFault {
     /// The view counts more calls of this caller than it made: the least such caller.
     #[error("the view counts more calls of caller {0} than it made")]
     ViewOutside(u32),
-    /// The view's own count, which is below the call's number plus 1.
+    /// The view's count for the answering caller, which is below the answered call's number plus 1.
     #[error("the view counts {0} of its caller's calls, and lacks its own")]
     ViewLacksOwn(u64),
-    /// The view's own count, which is above the call's number plus 1.
+    /// The view's count for the answering caller, which is above the answered call's number plus 1.
     #[error("the view counts {0} of its caller's calls, and has later ones")]
     ViewHasLater(u64),
     /// Neither the answer's view nor that of this call is within the other: the least such call.

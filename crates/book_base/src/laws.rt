@@ -21,8 +21,8 @@ pub fn answers_are_recorded()
     ensures { AnswersAreRecorded }
 {}
 
-/// A caller's views rise, and an answered call's view already gives its precedence over its
-/// caller's later calls.
+/// The views of one caller rise from call to call, and the view of an answered call holds none of
+/// its caller's later calls.
 pub fn views_of_a_caller_rise()
     // The view of a caller's later call contains that of an earlier one, in a valid book.
     ensures rise { ViewsRise }
@@ -33,8 +33,8 @@ pub fn views_of_a_caller_rise()
 /// Joining a low and a high word below 2^64 gives an operation word with these two words, and each
 /// operation word is joined from its own low and high word.
 pub fn operation_words_are_two_words()
-    // The low and the high word of a joined operation word are those of which it was joined, and
-    // each operation word is joined of its own.
+    // Joining a low and a high word below 2^64 gives an operation word with these two words, and
+    // each operation word is joined from its own low and high word.
     ensures words { WordsAreJoinedAndParted }
     // The operation word joined of 5 and 3 is 3 * 2^64 + 5.
     ensures worked { joined 5 3 ≡ 55340232221128654853 }
@@ -42,7 +42,8 @@ pub fn operation_words_are_two_words()
 
 /// An order reaches its cut and its list place by place, and reaches at most one of each.
 pub fn orders_reach_place_by_place()
-    // No places reach the cut without calls and the list with which the object begins.
+    // The empty order reaches the cut that holds no call, and the list with which the object
+    // begins.
     ensures start { NoPlacesReachTheStart }
     // An order with one more place, the next call of its caller, reaches the cut with that call and
     // the list after its operation.
@@ -51,8 +52,8 @@ pub fn orders_reach_place_by_place()
     ensures one { OneCutIsReached }
 {}
 
-/// An infeasible call stands in no legal order where it is infeasible, and a call that precedes
-/// another one must come first.
+/// No legal order goes on with a call after a cut and at a list where the call is infeasible, and a
+/// call that precedes another one must come first.
 pub fn infeasible_and_first_calls()
     // A call of a legal order isn't infeasible after the cut and at the list that the places before
     // it reach.

@@ -35,9 +35,9 @@ impl CallBound {
 
 /// What an object knows of a book before a search: for each call a bound, and ranks of words.
 ///
-/// A search asks [`PruningRules::forbids`] at each call that it tries. One that keeps the least
-/// rank of its words along its path asks [`PruningRules::lacks`] and compares that rank with
-/// [`PruningRules::limit`] instead, and then looks at no word twice.
+/// A search asks [`PruningRules::forbids`] at each call that it tries. A search that keeps the
+/// least rank of the words along its path asks [`PruningRules::lacks`] instead, compares that rank
+/// with [`PruningRules::limit`], and so looks at no word twice.
 #[derive(Drop)]
 pub struct PruningRules {
     call_bounds: Vec<Vec<CallBound>>,
@@ -54,7 +54,7 @@ impl Model for PruningRules {
 }
 
 impl PruningRules {
-    /// What is known without any bounds and ranks, which forbids nothing.
+    /// The pruning rules without any bounds and ranks, which forbid nothing.
     pub fn none(alloc: Global) -> PruningRules
         // The answer has no bounds and no ranks.
         ensures none { result ≡ nothing_known }
@@ -67,7 +67,7 @@ impl PruningRules {
         }
     }
 
-    /// For each call of a book a bound that forbids nothing.
+    /// The pruning rules with a bound that forbids nothing for each call of a book.
     pub fn blank(alloc: Global, book: &Book) -> Result<PruningRules, NoMemory>
         // The answer has a bound that forbids nothing for each call of the book, and no ranks.
         ensures blank { IfOk result
@@ -97,13 +97,12 @@ impl PruningRules {
         requires caller { other.caller < MAX_CALLERS }
         // The other call's number is below `MAX_CALLS`.
         requires number { other.number < MAX_CALLS }
-        // The predecessor bound of the call's bound holds the other call too, and all else is as
-        // before.
+        // The call's predecessor bound holds the other call too, and all else is as before.
         ensures held { self.new ≡ held_back self.old call other }
         // There still is a bound for each call that had one.
         ensures call_bounds { (c : Call) → HasCallBound self.old c → HasCallBound self.new c }
-        // What is known stays right where the other call must come before the call in each legal
-        // order.
+        // Right pruning rules stay right where the other call must come before the call in each
+        // legal order.
         ensures right { (spec : SeqSpec) (book : List Page) → ArePruningRules spec book self.old
             → MustComeFirst spec book other call → ArePruningRules spec book self.new }
     {
@@ -116,12 +115,13 @@ impl PruningRules {
     pub fn hold_back_below(&mut self, call: Call, limit: u64)
         // There is a bound for the call.
         requires { HasCallBound self.old call }
-        // The limit of the call's bound is no lower than this one, and all else is as before.
+        // The call's limit is the greater one of its limit before and this one, and all else is as
+        // before.
         ensures limited { self.new ≡ limited self.old call limit }
         // There still is a bound for each call that had one.
         ensures call_bounds { (c : Call) → HasCallBound self.old c → HasCallBound self.new c }
-        // What is known stays right where the call is infeasible at each list that has a word of a
-        // rank below the limit.
+        // Right pruning rules stay right where the call is infeasible at each list that has a word
+        // of a rank below the limit.
         ensures right { (spec : SeqSpec) (book : List Page) → ArePruningRules spec book self.old
             → ((cut list : List ℕ) → HasEarly self.old.ranks list limit
             → IsInfeasible spec book cut list call) → ArePruningRules spec book self.new }
@@ -139,8 +139,8 @@ impl PruningRules {
         // before.
         ensures ranks { OnOk result ((other : ℕ) → rank_of self.new.ranks other
             ≡ (if other == word then Some rank else rank_of self.old.ranks other)) }
-        // After an answer Ok what is known stays right where each call whose limit is above the
-        // rank is infeasible at each list with the word.
+        // After an answer Ok right pruning rules are still right where each call whose limit is
+        // above the rank is infeasible at each list with the word.
         ensures right { OnOk result ((spec : SeqSpec) (book : List Page) → ArePruningRules spec book
             self.old → ((cut list : List ℕ) (call : Call) → Contains list word
             → rank < (call_bound_of self.old call).limit → IsInfeasible spec book cut list call)
@@ -159,7 +159,7 @@ impl PruningRules {
         self.lacks(counts, call) || self.has_early(words, self.limit(call))
     }
 
-    /// Whether a cut lacks a call of a call's predecessor bound.
+    /// Whether a cut lacks a call that the predecessor bound of this call holds.
     pub fn lacks(&self, counts: &[u64], call: Call) -> bool
         ensures { IsTrue result
             ↔ IsBelow counts.now (call_bound_of self.now call).predecessor_bound }
@@ -197,8 +197,8 @@ impl PruningRules {
             .get(call.number as usize)
     }
 
-    // Whether a word has a rank below a limit. No rank is below 0, so that no word is looked at
-    // then.
+    // Whether one of `words` has a rank below a limit. No rank is below the limit 0, for which no
+    // word is looked at.
     fn has_early(&self, words: &[u64], limit: u64) -> bool
         ensures { IsTrue result ↔ HasEarly self.now.ranks words.now limit }
     {

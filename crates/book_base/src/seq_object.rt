@@ -28,7 +28,7 @@ pub trait SeqObject {
     /// and an operation the list after the operation, and the reply.
     ghost spec: { Self → SeqSpec };
 
-    /// What a sight of a book says, where the object prepares one.
+    /// What the object promises of a sight that it prepares of a book.
     ghost sees: { Self → List Page → Sight → Type 0 } = { λ _ _ _. Unit {0} };
 
     /// Whether the object knows an operation word.
@@ -46,26 +46,26 @@ pub trait SeqObject {
     fn step(&self, state: &mut State, op: OpWord) -> u64
         // The state has capacity for one word more.
         requires { length state.old.words < state.old.room }
-        // The list becomes the one that follows it by the operation, and the capacity doesn't
-        // change.
+        // The list becomes the one that the object has after the operation, and the capacity
+        // doesn't change.
         ensures list { state.new
             ≡ record state.old { words = ((spec self.now).next state.old.words op).0 } }
-        // The answer is the object's reply to the operation at the list before.
+        // The answer is the object's reply to the operation at the list before the operation.
         ensures reply { result ≡ ((spec self.now).next state.old.words op).1 };
 
-    /// What the object knows of a book before a search: each call that it forbids next, after a cut
-    /// and at a list, is next in no legal order that reaches them. An object that leaves this out
-    /// forbids nothing.
+    /// What the object knows of a book before a search, as pruning rules. Each call that they
+    /// forbid next, after a cut and at a list, is next in no legal order that reaches the cut and
+    /// the list. The default forbids nothing.
     fn find_pruning_rules(&self, alloc: Global, book: &Book) -> Result<PruningRules, NoMemory>
-        // What is answered is right: each call that it forbids next, after a cut and at a list, is
-        // infeasible there.
+        // Each call that the answered rules forbid next, after a cut and at a list, is infeasible
+        // there.
         ensures { IfOk result (ArePruningRules (spec self.now) book.now) }
     {
         Ok(PruningRules::none(alloc))
     }
 
     /// Whether an operation is known to be read-only with this reply: it changes no list at which
-    /// it has the reply. An object that leaves this out knows of none.
+    /// it has the reply. The default knows of no read-only operation.
     fn leaves(&self, op: OpWord, reply: u64) -> bool
         // The answer is `true` only where the operation changes no list at which it has this reply.
         ensures { IsTrue result → Leaves (spec self.now).next op reply }
@@ -73,20 +73,20 @@ pub trait SeqObject {
         false
     }
 
-    /// What the object looks at in [`SeqObject::narrow`], made once a book. An object that leaves
-    /// this out prepares nothing, and isn't asked to narrow anything.
+    /// What [`SeqObject::narrow`] looks at, made once for each book. The default prepares nothing,
+    /// and an object that prepares nothing isn't asked to narrow.
     fn prepare(&self, alloc: Global, book: &Book) -> Result<Option<Sight>, NoMemory>
-        // A sight that is answered says of the book what the object's `sees` states.
+        // Where the answer is a sight, the object's `sees` holds of it and of the book.
         ensures { IfOk result (λ found. IfSome found (sees self.now book.now)) }
     {
         Ok(None)
     }
 
-    /// Which of the calls that may come next a search tries, after a cut and at a list: of those
-    /// that are marked, some that suffice. The fewer are left, the less is tried: a call that may
-    /// be taken at once is enough alone, and at a dead end none is needed. No clause says how few
-    /// are left. The forced caller's first call outside the cut has the least view of all such
-    /// calls.
+    /// The callers whose next calls a search is to try, after a cut and at a list: of the marked
+    /// callers some that suffice. Often one caller alone suffices, and at a dead end none is
+    /// needed. No clause says how few callers are left; the fewer, the less is tried. The forced
+    /// caller is the one whose first call outside the cut has the least view of all answered calls
+    /// outside it.
     fn narrow(
         &self,
         sight: &Sight,
@@ -118,8 +118,7 @@ pub trait SeqObject {
         marks
     }
 
-    /// What the object says of a whole book without a search. An object that leaves this out says
-    /// nothing.
+    /// What the object says of a whole book without a search. The default says nothing.
     fn decide(&self, alloc: Global, book: &Book) -> Result<Decision, NoMemory>
         // An order in the answer is a legal one of the book, and the answer is `NoOrder` only where
         // the book has none.
@@ -128,7 +127,7 @@ pub trait SeqObject {
         Ok(Decision::Unsaid)
     }
 
-    /// The list begins with at most one word.
+    /// The list with which the object begins has at most one word.
     ghost begins_small: { (object : Self) → length (spec object).init ≤ 1 };
 
     /// An operation makes the list at most one word longer.

@@ -10,9 +10,9 @@ pub struct Labelled {
     pub shows: Vec<Call>,
 }
 
-/// When a call may take effect, by moments, which are the numbers of calls that views count: from
-/// the moment of the first view that holds the call to that of its own view. Where there is no such
-/// view, the moment is the greatest number.
+/// When a call may take effect, as two moments: `first` is the moment of the first view that holds
+/// the call, and `last` that of the call's own view. The moment of a view is the number of calls
+/// that it counts; where no view holds the call, or it has none, it is the greatest number.
 #[derive(Clone, Copy, Debug, Drop)]
 pub struct Span {
     pub first: u64,
@@ -23,8 +23,8 @@ pub struct Span {
 /// place of each label, the calls of each label by this place, and the span of each call by caller
 /// and number.
 ///
-/// It is plain data. What its labels mean, and that it has all calls of each, is said by the object
-/// that prepares it.
+/// A sight is plain data. The object that prepares it says what its labels mean, and that it has
+/// all calls of each label.
 ///
 /// [`SeqObject::narrow`]: crate::SeqObject::narrow
 #[derive(Debug, Drop)]

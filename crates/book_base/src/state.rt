@@ -92,7 +92,7 @@ impl State {
         self.words.push(word).unwrap();
     }
 
-    /// Puts a word at a place, before the words from there on.
+    /// Puts a word in at a place. The words from this place on move one place further.
     pub fn insert(&mut self, i: u64, word: u64)
         // The place is one of the list's, or that after its last word.
         requires place { i ≤ length self.old.words }

@@ -8,11 +8,12 @@ use Rattle.book_base.specs.Book.{Page, IsCall, operation_of, record_of, answered
 use Rattle.book_base.specs.BookAt.{IsBookAt, book_at}
 use Rattle.book_base.specs.Order.{HasLegalOrder}
 
--- The computed book is the book at the cut, and there is no other.
+-- The computed book at a cut of a valid book is the book at that cut, as `IsBookAt` states it.
 abbrev pub IsTheBookAt : Type 0
 IsTheBookAt = (book : List Page) (cut : List ℕ) → IsValid book
     → IsBookAt book cut (book_at cut book)
 
+-- A book that is the book at a cut of a valid book, as `IsBookAt` states it, is the computed one.
 abbrev pub IsTheOnlyOne : Type 0
 IsTheOnlyOne = (book : List Page) (cut : List ℕ) (part : List Page) → IsValid book
     → IsBookAt book cut part → part ≡ book_at cut book
@@ -21,7 +22,8 @@ IsTheOnlyOne = (book : List Page) (cut : List ℕ) (part : List Page) → IsVali
 abbrev pub StaysValid : Type 0
 StaysValid = (book : List Page) (cut : List ℕ) → IsValid book → IsValid (book_at cut book)
 
--- The book at a cut of the book at a larger cut is the book at the smaller one.
+-- The book at a smaller cut of the book at a larger cut is the book at the smaller cut of the whole
+-- book.
 abbrev pub IsTheBookAtTheSmaller : Type 0
 IsTheBookAtTheSmaller = (book : List Page) (smaller larger : List ℕ) → IsValid book
     → IsWithin smaller larger
@@ -45,11 +47,13 @@ IsHeldByAView book call = (other : Call) × (r : Record) × (record_of book othe
     × Holds r.view call
 
 -- The book at the cut of all records of a book has exactly those calls of the book that some view
--- holds, each with its operation.
+-- holds.
 abbrev pub KeepsEachHeldCall : Type 0
 KeepsEachHeldCall = (book : List Page) (call : Call) → IsValid book
     → IsCall (book_at (answered book) book) call ↔ IsCall book call × IsHeldByAView book call
 
+-- Each call of the book at the cut of all records of a book has the operation that the book has for
+-- it.
 abbrev pub KeepsEachOperation : Type 0
 KeepsEachOperation = (book : List Page) (call : Call) → IsValid book
     → IsCall (book_at (answered book) book) call

@@ -12,21 +12,24 @@ line_next [] zero = ([], 0)
 line_next (first ∷ rest) zero = (rest, first)
 line_next list (suc n) = (list ++ suc n ∷ [], 0)
 
--- That queue, which begins empty.
+-- The sequential object of the queue of numbers above 0, which begins empty.
 abbrev pub line_spec : SeqSpec
 line_spec = record { init = []; next = line_next }
 
+-- a record with this reply and this view
 abbrev pub answer : ℕ → List ℕ → Record
 answer reply view = record { reply = reply; view = view }
 
+-- a page with these operation words and these records
 abbrev pub caller_page : List ℕ → List Record → Page
 caller_page operations records = record { operations = operations; records = records }
 
+-- the place of call `k` of caller `i`, with this reply
 abbrev pub stand : ℕ → ℕ → ℕ → Place
 stand i k reply = record { caller = i; number = k; reply = reply }
 
--- Caller 0 puts in 5 and then takes, and gets 6, which caller 1 put in meanwhile; and it has made
--- one more call, which no view holds.
+-- A book of two callers of a queue. Caller 0 puts in 5, then takes and gets 6, which caller 1 put
+-- in meanwhile, and has made one more call, which no view holds.
 abbrev pub overtaken : List Page
 overtaken = caller_page (5 ∷ 0 ∷ 7 ∷ []) (answer 0 (1 ∷ 1 ∷ []) ∷ answer 6 (2 ∷ 1 ∷ []) ∷ [])
     ∷ caller_page (6 ∷ []) (answer 0 (1 ∷ 1 ∷ []) ∷ []) ∷ []
@@ -37,7 +40,7 @@ overtaken_seen = caller_page (5 ∷ 0 ∷ []) (answer 0 (1 ∷ 1 ∷ []) ∷ ans
     ∷ caller_page (6 ∷ []) (answer 0 (1 ∷ 1 ∷ []) ∷ []) ∷ []
 
 -- The book `overtaken` at the cut of caller 0's first record alone: the view of this record holds
--- the call of caller 1, which is unanswered here.
+-- the call of caller 1, which is unanswered in this book.
 abbrev pub overtaken_early : List Page
 overtaken_early = caller_page (5 ∷ []) (answer 0 (1 ∷ 1 ∷ []) ∷ []) ∷ caller_page (6 ∷ []) [] ∷ []
 
@@ -50,7 +53,7 @@ overtaking = stand 1 0 0 ∷ stand 0 0 0 ∷ stand 0 1 6 ∷ []
 abbrev pub tenfold_next : List ℕ → ℕ → List ℕ × ℕ
 tenfold_next list op = (list, 10 * op)
 
--- That object, which begins with the empty list.
+-- The sequential object that replies ten times the operation, and begins with the empty list.
 abbrev pub tenfold_spec : SeqSpec
 tenfold_spec = record { init = []; next = tenfold_next }
 

@@ -7,25 +7,26 @@ ghost use Rattle.book_base.specs.Order.{IsLegalOrder, HasLegalOrder};
 ghost use Rattle.book_laws.specs.Greatest.{greatest_counts};
 ghost use Rattle.book_laws.specs.Cases.{line_spec, caller_page, overtaken, overtaken_seen, overtaken_early, overtaking, tenfold_spec, mistaken};
 
-/// The books at three cuts of one book: each has the calls that some view of a record within the
-/// cut holds, whoever's view that is, and whether or not they are answered there.
+/// The books at three cuts of one book. Each has exactly the calls that the view of some record
+/// within the cut holds, of whichever caller, answered or not.
 pub fn books_at_cuts()
-    // The book whose calls overtake one another is valid.
+    // The book in which caller 0 puts in 5 and then takes 6, which caller 1 put in, is valid.
     ensures valid { IsValid overtaken }
-    // The book at the cut of all records has the calls that some view holds, and not the last one.
+    // The book at the cut of all records has the calls that some view holds. It lacks caller 0's
+    // last call, which no view holds.
     ensures all { book_at (2 ∷ 1 ∷ []) overtaken ≡ overtaken_seen }
-    // The book at the cut of the first record has the calls that its view holds, and this record
-    // alone.
+    // The book at the cut of caller 0's first record has the calls that the view of this record
+    // holds, and no other record.
     ensures early { book_at (1 ∷ 0 ∷ []) overtaken ≡ overtaken_early }
     // The book at the cut without records has no calls.
     ensures none { book_at (0 ∷ 0 ∷ []) overtaken ≡ caller_page [] [] ∷ caller_page [] [] ∷ [] }
 {}
 
-/// An order that has to end early: what is legal for the book at the cut of all its records isn't
-/// for the book at the earlier cut, in which the call of caller 1 is unanswered, and which lacks
-/// the last call.
+/// A legal order of the book at the cut of all its records isn't legal for the book at an earlier
+/// cut, in which the call of caller 1 is unanswered, and which lacks caller 0's second call. The
+/// first two places of the order are legal for it.
 pub fn an_order_ends_early()
-    // The whole order is legal for the book at all its records.
+    // The whole order is legal for the book at the cut of all its records.
     ensures whole { IsLegalOrder line_spec overtaken_seen overtaking }
     // The whole order isn't legal for the book at the earlier cut.
     ensures too_long { ¬ IsLegalOrder line_spec overtaken_early overtaking }
@@ -35,17 +36,19 @@ pub fn an_order_ends_early()
     ensures too_short { ¬ IsLegalOrder line_spec overtaken_early (take 1 overtaking) }
 {}
 
-/// A wrong reply is an error at the cut of its record alone, and so at the larger cut.
+/// A book with a wrong reply has no legal order at the cut of this record alone, and none at the
+/// larger cut of both records.
 pub fn an_error_stays()
     // The book at the cut of the wrong reply alone has no legal order.
     ensures first { ¬ HasLegalOrder tenfold_spec (book_at (1 ∷ 0 ∷ []) mistaken) }
-    // The book at the larger cut has no legal order.
+    // The book at the cut of both records has no legal order.
     ensures later { ¬ HasLegalOrder tenfold_spec (book_at (1 ∷ 1 ∷ []) mistaken) }
 {}
 
-/// The greatest counts of three cuts are those of the second, and those of no cut are zeros.
+/// The greatest counts of three cuts are the counts of the second one, which contains the others.
+/// The greatest counts of no cut are zeros.
 pub fn greatest_of_three()
-    // The greatest counts of the three cuts are those of the second.
+    // The greatest counts of the three cuts are the counts of the second one.
     ensures three { greatest_counts 2 ((1 ∷ 0 ∷ []) ∷ (2 ∷ 1 ∷ []) ∷ (1 ∷ 1 ∷ []) ∷ [])
         ≡ 2 ∷ 1 ∷ [] }
     // The greatest counts of no cut are zeros.

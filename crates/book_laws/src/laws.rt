@@ -5,25 +5,27 @@ ghost use Rattle.book_laws.specs.BooksAtCuts.{IsTheBookAt, IsTheOnlyOne, StaysVa
 ghost use Rattle.book_laws.specs.Finality.{SomePrefixIsLegal, SmallerHasOne, LargerHasNone};
 ghost use Rattle.book_laws.specs.Greatest.{GreatestIsOne, GreatestContainsEach};
 
-/// The computed book at a cut of a valid book is the only one that the relation takes for the book
-/// at this cut, and it is valid (Castañeda and Rodríguez 2023).
+/// The computed book at a cut of a valid book is the only book that `IsBookAt` allows at this cut,
+/// and it is valid (Castañeda and Rodríguez 2023).
 pub fn book_at_is_the_book_at()
-    // The computed book at a cut of a valid book is one that the relation takes for the book at
-    // that cut.
+    // The computed book at a cut of a valid book is the book at that cut, as `IsBookAt` states it.
     ensures book { IsTheBookAt }
-    // A book that the relation takes for the book at a cut is the computed one.
+    // A book at a cut of a valid book, as `IsBookAt` states it, is the computed one.
     ensures only { IsTheOnlyOne }
     // The book at a cut of a valid book is valid.
     ensures valid { StaysValid }
 {}
 
-/// The book at a cut of the book at a larger cut is the book at the smaller one, and the record
-/// counts of the book at a cut are the cut.
+/// The book at a smaller cut of the book at a larger cut is the book at the smaller cut of the
+/// whole book, and the record counts of the book at a cut within the book's record counts are the
+/// cut.
 #[tactic(auto, using(crate::proofs::BookAtLaws::is_the_book_at_the_smaller, crate::proofs::BookAtLaws::record_counts_are_the_cut))]
 pub fn books_at_cuts_agree()
-    // The book at a cut of the book at a larger cut is the book at the smaller one.
+    // The book at a smaller cut of the book at a larger cut is the book at the smaller cut of the
+    // whole book.
     ensures smaller { IsTheBookAtTheSmaller }
-    // The record counts of the book at a cut are the cut.
+    // Where a cut counts of each caller no more records than the book has, the record counts of the
+    // book at the cut are the cut.
     ensures counts { RecordCountsAreTheCut }
 {}
 
@@ -35,7 +37,8 @@ pub fn calls_without_a_view_are_free()
     // The book at the cut of all records of a book has exactly the calls that are answered or held
     // by a view.
     ensures calls { KeepsEachHeldCall }
-    // The book at the cut of all records of a book has the operations of the book.
+    // Each call of the book at the cut of all records of a book has the operation that the book has
+    // for it.
     ensures operations { KeepsEachOperation }
     // The book at the cut of all records of a book has a legal order exactly where the book has
     // one.

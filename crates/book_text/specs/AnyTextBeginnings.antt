@@ -1,5 +1,5 @@
--- Where bytes stop being the beginning of a text of a kind: the first fault, by what texts begin
--- with.
+-- The place of the first fault of bytes, for any form of text: the first line such that no text
+-- begins with the lines up to it.
 use Rattle.std.specs.Prelude.{◌≡◌, ◌≢◌, ◌⊎◌, ◌+◌, ℕ, List, [], ◌∷◌, ◌++◌, Some}
 use Rattle.book_base.specs.declared.fault.TextFault.{TextFault}
 use Rattle.book_base.specs.declared.fault.What.{What}
@@ -15,8 +15,8 @@ BeginsSome {Said} IsText prefix = (said : Said) × (more : List ℕ) × IsText (
 abbrev pub BeginsNone : {Said : Type 0} → (List ℕ → Said → Type 0) → List ℕ → Type 0
 BeginsNone {Said} IsText prefix = (said : Said) (more : List ℕ) → ¬ (IsText (prefix ++ more) said)
 
--- After the first whole lines comes one more whole line, and no text begins with all of these
--- lines.
+-- After `prefix` comes one more whole line, and no text begins with `prefix` and this line; the
+-- fault is neither `Cut` nor `Rest`.
 pub record BreaksOff {Said : Type 0} (IsText : List ℕ → Said → Type 0) (prefix rest : List ℕ)
     (what : What) : Type 0 where
   pub named : (what ≢ Cut) × (what ≢ Rest)
@@ -25,7 +25,7 @@ pub record BreaksOff {Said : Type 0} (IsText : List ℕ → Said → Type 0) (pr
   pub whole : cut_at 10 rest ≡ Some (line, suffix)
   pub none : BeginsNone IsText (prefix ++ (line ++ 10 ∷ []))
 
--- The first whole lines are a whole text already, and bytes follow.
+-- `prefix` is a whole text already, and bytes follow it; the fault is `Rest`.
 pub record GoesPast {Said : Type 0} (IsText : List ℕ → Said → Type 0) (prefix rest : List ℕ)
     (what : What) : Type 0 where
   pub named : what ≡ Rest
@@ -33,9 +33,9 @@ pub record GoesPast {Said : Type 0} (IsText : List ℕ → Said → Type 0) (pre
   pub text : IsText prefix said
   pub more : rest ≢ []
 
--- A fault is where bytes stop being the beginning of a text: some text begins with the lines before
--- the fault's line, and none begins with these and the fault's line, or that line isn't whole, or
--- the lines before it are a whole text already.
+-- A fault is at the line where bytes stop being the beginning of a text. Some text begins with the
+-- lines before the fault's line; and either no text begins with these lines and the fault's line,
+-- or the fault's line isn't whole, or the lines before it are a whole text already.
 pub record LeavesAt {Said : Type 0} (IsText : List ℕ → Said → Type 0) (bytes : List ℕ)
     (fault : TextFault) : Type 0 where
   pub count : ℕ

@@ -1,4 +1,5 @@
--- Where bytes stop being the beginning of a book's text: the first fault, by what texts begin with.
+-- The place of the first fault of bytes that are to be a book's text: the first line such that no
+-- text of a book begins with the lines up to it.
 use Rattle.std.specs.Prelude.{◌≡◌, ◌≢◌, ◌⊎◌, ◌+◌, ℕ, zero, suc, List, [], ◌∷◌, ◌++◌, Some, None}
 use Rattle.book_base.specs.declared.fault.TextFault.{TextFault}
 use Rattle.book_base.specs.declared.fault.What.{What}
@@ -26,8 +27,8 @@ AreWholeLines zero bytes = bytes ≡ []
 AreWholeLines (suc count) bytes = (line : List ℕ) × (rest : List ℕ)
     × (cut_at 10 bytes ≡ Some (line, rest)) × AreWholeLines count rest
 
--- After the first whole lines comes one more whole line, and no text of a book begins with all of
--- these lines.
+-- After `prefix` comes one more whole line, and no text of a book begins with `prefix` and this
+-- line; the fault is neither `Cut` nor `Rest`.
 pub record BreaksText (version : Version) (prefix rest : List ℕ) (what : What) : Type 0 where
   pub named : (what ≢ Cut) × (what ≢ Rest)
   pub line : List ℕ
@@ -35,12 +36,12 @@ pub record BreaksText (version : Version) (prefix rest : List ℕ) (what : What)
   pub whole : cut_at 10 rest ≡ Some (line, suffix)
   pub none : BeginsNoText version (prefix ++ (line ++ 10 ∷ []))
 
--- After the first whole lines the bytes have no further whole line.
+-- No whole line is left in `rest`; the fault is `Cut`.
 pub record EndsEarly (rest : List ℕ) (what : What) : Type 0 where
   pub named : what ≡ Cut
   pub none : cut_at 10 rest ≡ None
 
--- The first whole lines are a whole text of a book already, and bytes follow.
+-- `prefix` is a whole text of a book already, and bytes follow it; the fault is `Rest`.
 pub record GoesOn (version : Version) (prefix rest : List ℕ) (what : What) : Type 0 where
   pub named : what ≡ Rest
   pub kind : Kind
@@ -48,9 +49,9 @@ pub record GoesOn (version : Version) (prefix rest : List ℕ) (what : What) : T
   pub text : IsBookText version prefix kind book
   pub more : rest ≢ []
 
--- A fault is where bytes stop being the beginning of a book's text: some text begins with the lines
--- before the fault's line, and none begins with these and the fault's line, or that line isn't
--- whole, or the lines before it are a whole text already.
+-- A fault is at the line where bytes stop being the beginning of a book's text. Some text begins
+-- with the lines before the fault's line; and either no text begins with these lines and the
+-- fault's line, or the fault's line isn't whole, or the lines before it are a whole text already.
 pub record LeavesTexts (version : Version) (bytes : List ℕ) (fault : TextFault) : Type 0 where
   pub count : ℕ
   pub prefix : List ℕ

@@ -20,7 +20,8 @@ pub data BookDue : Type 0 where
   InCalls : Kind → List Page → List Call → BookDue
   AtEnd : Kind → List Page → BookDue
 
--- a state of reading the head, as one of reading the book: after the whole head the calls are due
+-- a state of reading the head as a state of reading the book: after the whole head the calls are
+-- due
 abbrev pub after_head : HeadDue → BookDue
 after_head TitleDue = InHead TitleDue
 after_head ObjectDue = InHead ObjectDue
@@ -28,11 +29,11 @@ after_head (CallersDue kind) = InHead (CallersDue kind)
 after_head (CountsDue kind n) = InHead (CountsDue kind n)
 after_head (HeadRead kind calls) = InCalls kind (no_call_read calls).book (no_call_read calls).due
 
--- how far the lines of calls are read, as a state of reading the book of an object of this kind
+-- the state of reading a book's text in which the lines of calls are read as far as `progress` says
 abbrev pub in_calls : Kind → BookSoFar → BookDue
 in_calls kind progress = InCalls kind progress.book progress.due
 
--- the right lines of a book's text
+-- a line of these words is right in a state of reading a book's text, and leads to another state
 abbrev pub BookPasses : Version → BookDue → List (List ℕ) → BookDue → Type 0
 BookPasses version (InHead due) words after = (next : HeadDue)
     × HeadPasses version (codes "book") due words next × (after ≡ after_head next)
@@ -43,7 +44,7 @@ BookPasses version (InCalls kind book (call ∷ calls)) words after = (next : Bo
     × (after ≡ in_calls kind next)
 BookPasses version (AtEnd kind book) words after = ⊥
 
--- the tests that the lines of a book's text may fail
+-- a line of these words fails a test in a state of reading a book's text
 abbrev pub BookFails : Version → BookDue → List (List ℕ) → What → Type 0
 BookFails version (InHead due) words what = HeadFails version (codes "book") due words what
 BookFails version (InCalls kind book []) words what = (what ≡ End) × (words ≢ end_words)

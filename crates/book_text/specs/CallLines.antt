@@ -38,40 +38,40 @@ call_words version operations call op answer =
 
 -- ---- what the tests of a line speak of
 
--- after the caller, the number and an operation the line has these words
+-- after the caller, the number and an operation the line has the words `suffix`
 pub record IsAfterOperation (operations : Operations) (call : Call)
     (words suffix : List (List ℕ)) : Type 0 where
   pub op : ℕ
   pub has : IsTrue (operations.has op)
   pub text : words ≡ place_words call ++ (operations.words op ++ suffix)
 
--- after the reply the line has these words
+-- after the caller, the number, an operation and a reply the line has the words `suffix`
 pub record IsAfterReply (operations : Operations) (call : Call)
     (words suffix : List (List ℕ)) : Type 0 where
   pub reply : ℕ
   pub small : reply < 2 ^ 64
   pub text : IsAfterOperation operations call words (reply_word reply ∷ suffix)
 
--- the words after the reply are this view of this many callers, and nothing else
+-- after the reply the line has the words of the view `view`, of `n` counts, and nothing else
 pub record HasView (version : Version) (operations : Operations) (n : ℕ) (call : Call)
     (words : List (List ℕ)) (view : List ℕ) : Type 0 where
   pub wide : length view ≡ n
   pub numbers : AreNumbers view
   pub text : IsAfterReply operations call words (codes "view" ∷ cut_words version view)
 
--- the words are this view, of this many callers
+-- the words are those of the view `view`, of `n` counts: 'view' and then its counts or pairs
 abbrev pub AreView : Version → ℕ → List ℕ → List (List ℕ) → Type 0
 AreView version n view words = (length view ≡ n) × AreNumbers view
     × (words ≡ codes "view" ∷ cut_words version view)
 
--- the next word isn't 'view'
+-- the words don't begin with 'view'
 abbrev pub LacksViewWord : List (List ℕ) → Type 0
 LacksViewWord words = (suffix : List (List ℕ)) → words ≢ codes "view" ∷ suffix
 
--- The words after the reply are no view. In version 1 they aren't 'view' and as many numbers as
--- there are callers. In version 2 there are four cases: the next word isn't 'view'; of the pair
--- words after it, those up to the next word without a colon, one is no pair of a caller and a count
--- above 0, or its caller isn't above that of the pair before it; or a word follows them.
+-- The words after a reply are no view. In version 1: they aren't 'view' and then a number for each
+-- caller. In version 2: they don't begin with 'view'; or one of the words after it has no colon; or
+-- one of these is no pair of a caller and a count above 0; or a pair's caller isn't above that of
+-- the pair before it.
 abbrev pub IsNoView : Version → ℕ → List (List ℕ) → Type 0
 IsNoView First n words = (view : List ℕ) → length view ≡ n → AreNumbers view
     → words ≢ codes "view" ∷ cut_words First view
@@ -80,13 +80,13 @@ IsNoView Second n words = LacksViewWord words ⊎ ((suffix : List (List ℕ))
 
 -- ---- the tests of a line, by itself
 
--- A line for this call, in a text of this many callers, fails a test that needs no other view;
--- `gap` says whether an earlier call of the same caller is unanswered.
+-- A line fails a test that needs no other line's view, where `call` is due in a text of `n`
+-- callers; `gap` says whether an earlier call of the same caller is unanswered.
 abbrev pub EntryFails : Version → Operations → ℕ → Bool → Call → List (List ℕ) → What → Type 0
 -- the line doesn't begin with the caller and the number that are due
 EntryFails version operations n gap call words what.Place = (suffix : List (List ℕ))
     → words ≢ place_words call ++ suffix
--- the next words are no operation
+-- the words after the caller and the number begin with those of no operation
 EntryFails version operations n gap call words what.Op = (suffix : List (List ℕ))
     × (words ≡ place_words call ++ suffix)
     × ((op : ℕ) (others : List (List ℕ)) → IsTrue (operations.has op)
@@ -94,18 +94,18 @@ EntryFails version operations n gap call words what.Op = (suffix : List (List �
 -- words follow the operation, and an earlier call of this caller is unanswered
 EntryFails version operations n gap call words what.Gap = (suffix : List (List ℕ))
     × IsAfterOperation operations call words suffix × (suffix ≢ []) × (gap ≡ true)
--- the next word is no reply
+-- the word after the operation is no reply
 EntryFails version operations n gap call words what.Reply = (word : List ℕ)
     × (suffix : List (List ℕ)) × IsAfterOperation operations call words (word ∷ suffix)
     × ((reply : ℕ) → reply < 2 ^ 64 → reply_word reply ≢ word)
--- the next words are no view
+-- the words after the reply are no view
 EntryFails version operations n gap call words what.View = (suffix : List (List ℕ))
     × IsAfterReply operations call words suffix × IsNoView version n suffix
 EntryFails version operations n gap call words _ = ⊥
 
 -- ---- the tests of a view
 
--- the name in texts of the test by which a book refuses a view
+-- the name in texts of the test of views that a book's fault names; `None` for other faults
 abbrev pub view_test : BookFault → Option What
 view_test tests.TooManyCalls = None
 view_test tests.NoSuchCall = None
@@ -115,8 +115,8 @@ view_test (tests.ViewHasLater count) = Some what.ViewHasLater
 view_test (tests.ViewsCross other) = Some what.ViewsCross
 view_test tests.NoMemory = None
 
--- A book may refuse the answer of an unanswered call of its own by this fault: by a test of views,
--- or for want of memory.
+-- A fault by which a book may refuse an answer to one of its unanswered calls: a test of views, or
+-- want of memory.
 abbrev pub MayRefuse : BookFault → Type 0
 MayRefuse tests.TooManyCalls = ⊥
 MayRefuse tests.NoSuchCall = ⊥
@@ -143,7 +143,7 @@ pub record BookSoFar : Type 0 where
   pub book : List Page
   pub due : List Call
 
--- this many calls of a caller, from this number on
+-- the calls of caller `i` from number `k` on, as many as the last argument says
 abbrev pub calls_from : ℕ → ℕ → ℕ → List Call
 calls_from i k zero = []
 calls_from i k (suc more) = record { caller = i; number = k } ∷ calls_from i (k + 1) more
@@ -157,7 +157,8 @@ all_calls i (count ∷ counts) = calls_from i 0 count ++ all_calls (i + 1) count
 abbrev pub reading : List Page → List Call → BookSoFar
 reading book due = record { book = book; due = due }
 
--- how far the lines of calls are read before the first of them
+-- what is read before the first line of a call: each call has the operation 0 and no answer, and is
+-- due
 abbrev pub no_call_read : List ℕ → BookSoFar
 no_call_read calls = record { book = unanswered_book calls; due = all_calls 0 calls }
 
@@ -165,7 +166,7 @@ no_call_read calls = record { book = unanswered_book calls; due = all_calls 0 ca
 abbrev pub is_gap : List Page → Call → Bool
 is_gap book call = nat_lt (answers_of book call.caller) call.number
 
--- the answer to a call may be written after the lines that give this book
+-- a line may give a call this answer, or none, where the lines before it give this book
 abbrev pub MayStand : List Page → Call → Option Record → Type 0
 MayStand book call None = Unit {0}
 MayStand book call (Some answer) = (is_gap book call ≡ false) × (answer.reply < 2 ^ 64)
@@ -195,14 +196,15 @@ pub record IsCallLine (version : Version) (operations : Operations) (book : List
   pub text : words ≡ call_words version operations call op answer
   pub book_is : after ≡ with_line book call op answer
 
--- the right lines of calls
+-- a line of these words is right for the first call that is due, and leads to a book and to the
+-- calls that are due after it
 abbrev pub CallPasses : Version → Operations → List Page → List Call → List (List ℕ)
     → BookSoFar → Type 0
 CallPasses version operations book [] words after = ⊥
 CallPasses version operations book (call ∷ calls) words after =
     IsCallLine version operations book call words after.book × (after.due ≡ calls)
 
--- the tests of the lines of calls
+-- a line of these words fails a test, where the first of these calls is due
 abbrev pub CallFails : Version → Operations → List Page → List Call → List (List ℕ) → What → Type 0
 CallFails version operations book [] words name = ⊥
 CallFails version operations book (call ∷ calls) words name =
@@ -225,8 +227,8 @@ call_rules version operations = record {
 
 -- ---- reading
 
--- The lines of these calls lead from one book to another, whatever is due after them, and leave the
--- rest unread.
+-- The lines of these calls lead from one book to another, whatever is due after them, and `left` is
+-- the rest of the text.
 abbrev pub AreRead : Version → Operations → List Call → List Page → Unread → List Page
     → Unread → Type 0
 AreRead version operations calls book text after left = (more : List Call)
@@ -238,19 +240,19 @@ abbrev pub AreStopped : Version → Operations → List Call → List Page → U
 AreStopped version operations calls book text fault = (more : List Call)
     → StopsFor (call_rules version operations) (reading book (calls ++ more)) text fault
 
--- The text begins with the lines of a book's calls, this many of each caller, and leaves the rest
--- unread.
+-- The text begins with the lines of a book's calls, as many of each caller as `calls` says, and
+-- `left` is the rest of it.
 abbrev pub AreCallLines : Version → Operations → List ℕ → List Page → Unread → Unread → Type 0
 AreCallLines version operations calls book text left =
     GoesTo (call_rules version operations) (no_call_read calls) text (reading book []) left
 
--- Reading the lines of calls, this many of each caller, stops for want of memory or with their
--- first fault.
+-- Reading the lines of calls, as many of each caller as `calls` says, stops for want of memory or
+-- with their first fault.
 abbrev pub AreNoCallLines : Version → Operations → List ℕ → Unread → ReadFault → Type 0
 AreNoCallLines version operations calls text fault =
     StopsFor (call_rules version operations) (no_call_read calls) text fault
 
--- The first fault of lines of calls, this many of each caller.
+-- The first fault of lines of calls, as many of each caller as `calls` says.
 abbrev pub IsFirstCallFault : Version → Operations → List ℕ → Unread → TextFault → Type 0
 IsFirstCallFault version operations calls text fault =
     IsFirstFault (call_rules version operations) (no_call_read calls) text fault

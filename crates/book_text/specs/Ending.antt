@@ -12,7 +12,7 @@ pub record IsEnded (text left : Unread) : Type 0 where
   pub words : words_of line ≡ end_words
   pub whole : left.bytes ≡ []
 
--- the next line is whole, and isn't 'end'
+-- the fault is `End` at the next line, which is whole and isn't 'end'
 pub record IsNoEndLine (text : Unread) (fault : TextFault) : Type 0 where
   pub line : List ℕ
   pub left : Unread
@@ -20,7 +20,7 @@ pub record IsNoEndLine (text : Unread) (fault : TextFault) : Type 0 where
   pub words : words_of line ≢ end_words
   pub fault_is : fault ≡ record { line = text.number; what = End }
 
--- the next line is 'end', and bytes follow it
+-- the fault is `Rest` at the line after the next one: the next line is 'end', and bytes follow it
 pub record HasRest (text : Unread) (fault : TextFault) : Type 0 where
   pub line : List ℕ
   pub left : Unread

@@ -10,8 +10,8 @@ use Rattle.text_fields.specs.Counts.{AreNumbers}
 use Rattle.text_fields.specs.Operations.{Operations}
 use Rattle.book_text.specs.CallLines.{call_words, IsNoView}
 
--- an answer that the words after an operation may give, in a text of this many callers; `gap` says
--- whether an earlier call of the caller is unanswered
+-- an answer, or none, that the words after an operation may give in a text of `n` callers; `gap`
+-- says whether an earlier call of the caller is unanswered
 abbrev pub IsEntryAnswer : ℕ → Bool → Option Record → Type 0
 IsEntryAnswer n gap None = Unit {0}
 IsEntryAnswer n gap (Some answer) = (gap ≡ false) × (answer.reply < 2 ^ 64)

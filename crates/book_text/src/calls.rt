@@ -31,8 +31,8 @@ pub fn read_calls<T: OpText>(
     requires callers { length calls.now ≡ n }
     // Each caller has at most `MAX_CALLS` calls.
     requires few { (i : ℕ) → slice_index calls.now i ≤ MAX_CALLS }
-    // A book that was read is that of the lines of calls with which the unread text began, and what
-    // follows these lines is left.
+    // A book that was read is the one that the first unread lines give, one line for each call; the
+    // lines after them are left.
     ensures found { IfOk result (λ book.
         AreCallLines Second (T.operations operations.now) calls.now book lines.old lines.new) }
     // A refusal is the first fault of the lines, or want of memory.
@@ -40,8 +40,8 @@ pub fn read_calls<T: OpText>(
         (AreNoCallLines Second (T.operations operations.now) calls.now lines.old) }
     // A refusal leaves the lines as they were.
     ensures unchanged { IfErr result (λ _. lines.new ≡ lines.old) }
-    // The lines of a book's calls are read as that book, unless memory runs out, and what follows
-    // them is left.
+    // Where the unread text begins with the lines of a book's calls, the answer is this book, and
+    // the lines after them are left, unless memory runs out.
     ensures only { (book : List Page) (left : Unread)
         → AreCallLines Second (T.operations operations.now) calls.now book lines.old left
         → MatchResult result (λ b. (b ≡ book) × (lines.new ≡ left)) (λ e. e ≡ ReadFault.NoMemory) }
@@ -80,7 +80,7 @@ pub(crate) fn read_calls_of<T: OpText>(
     Ok(book)
 }
 
-/// Reads the lines of a caller's calls, of which there are this many.
+/// Reads the lines of a caller's first `count` calls.
 fn read_caller<T: OpText>(
     version: Version,
     lines: &mut Lines,

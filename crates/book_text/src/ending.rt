@@ -21,7 +21,7 @@ pub fn read_end(lines: &mut Lines) -> Result<(), TextFault>
     // line is taken.
     ensures only { (left : Unread) → IsEnded lines.old left
         → MatchResult result (λ _. lines.new ≡ left) (λ _. ⊥) }
-    // Where the next line isn't the end of a text by some fault, the answer is that fault.
+    // Where a fault says why the next line isn't the end of a text, the answer is that fault.
     ensures first { (fault : TextFault) → IsNoEnd lines.old fault
         → MatchResult result (λ _. ⊥) (λ e. e ≡ fault) }
 {

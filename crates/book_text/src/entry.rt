@@ -19,8 +19,8 @@ pub(crate) struct CallEntry {
     pub(crate) answer: Option<Record>,
 }
 
-/// What the line of this call says, in a text of `n` callers. After a gap, an unanswered call of
-/// the same caller, a call has no answer.
+/// What the line of this call says, in a text of `n` callers. Where `gap` says that an earlier call
+/// of the same caller is unanswered, the line must have no answer.
 pub(crate) fn read_entry<T: OpText>(
     version: Version,
     operations: &T,
@@ -73,7 +73,7 @@ fn take_due(words: &mut Words, due: u64) -> Option<()>
 
 /// Takes the words of an operation.
 pub fn take_operation<T: OpText>(operations: &T, words: &mut Words) -> Option<OpWord>
-    // An operation that was found is that with whose words the words began, and these are taken.
+    // An operation that was found is the one whose words came first, and these words are taken.
     ensures found { IfSome result (λ op.
         BeginWith (T.operations operations.now) words.old op words.new) }
     // No operation is found only where the words begin with those of no operation.

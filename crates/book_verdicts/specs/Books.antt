@@ -1,4 +1,4 @@
--- What bytes say of a book, and whether it is legal.
+-- Whether bytes are the text of a book, and whether this book has a legal order.
 use Rattle.std.specs.Prelude.{ℕ, List}
 use Rattle.book_base.specs.declared.call.Place.{Place}
 use Rattle.book_base.specs.Book.{Page}
@@ -34,7 +34,7 @@ abbrev pub IsBookVerdict : List ℕ → BookVerdict → Type 0
 IsBookVerdict bytes Legal = IsLegalBook bytes
 IsBookVerdict bytes Illegal = IsIllegalBook bytes
 
--- the text is that of a certificate of the book that the bytes are the text of: the book, with a
+-- the bytes are the text of a book, and the text is that of a certificate with this book and a
 -- legal order of it
 unfoldable pub Certifies : List ℕ → List ℕ → Type 0
 Certifies bytes text = (kind : Kind) × (book : List Page) × (order : List Place)

@@ -1,5 +1,5 @@
--- What bytes say of a certificate: a book, and a list of its calls with their replies, which is a
--- legal order of it or not.
+-- Whether bytes are the text of a certificate, which is a book with a list of calls and their
+-- replies, and whether this list is a legal order of the book.
 use Rattle.std.specs.Prelude.{ℕ, List}
 use Rattle.book_base.specs.declared.call.Place.{Place}
 use Rattle.book_base.specs.Book.{Page}

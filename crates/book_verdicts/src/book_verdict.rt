@@ -21,7 +21,7 @@ pub enum BookVerdict {
 ///
 /// A text fault names the first wrong line, and the first test that this line fails.
 pub fn verify(alloc: Global, bytes: &[u8]) -> Result<BookVerdict, ReadFault>
-    // A verdict is that on the book that the bytes are the text of.
+    // A verdict that is answered is the one on the book whose text the bytes are.
     ensures verdict { IfOk result (IsBookVerdict bytes.now) }
     // A refusal has the first fault of the bytes as the text of a book, or says want of memory.
     ensures refused { IfErr result (IsFaultOf (IsFirstBookFault Second bytes.now)) }
@@ -37,7 +37,7 @@ pub fn verify(alloc: Global, bytes: &[u8]) -> Result<BookVerdict, ReadFault>
     judged(alloc, bytes)
 }
 
-/// The verdict by the reader and the search.
+/// Reads the book, and looks for a legal order of it.
 #[tactic(auto, unfolding(crate::specs::Books::IsLegalBook, crate::specs::Books::IsIllegalBook))]
 fn judged(alloc: Global, bytes: &[u8]) -> Result<BookVerdict, ReadFault>
     ensures verdict { IfOk result (IsBookVerdict bytes.now) }

@@ -11,22 +11,23 @@ use certificate_text::write_certificate;
 use frontier_check::{Verdict, check};
 use std::alloc::Global;
 
-/// The text of a certificate of the book that the bytes are the text of: the book, with a legal
-/// order of it. There is none where the book has no legal order.
+/// Reads the book whose text the bytes are, and answers the text of a certificate: the book with a
+/// legal order of it. No text is answered where the book has no legal order.
 ///
 /// A text fault names the first wrong line, and the first test that this line fails.
 pub fn certify(alloc: Global, bytes: &[u8]) -> Result<Option<Vec<u8>>, ReadFault>
-    // A text that is answered certifies the book that the bytes are the text of, and none is
-    // answered only where that book has no legal order.
+    // A text that is answered is one of a certificate with a legal order, for the book whose text
+    // the bytes are. No text is answered only where that book has no legal order.
     ensures certificate { IfOk result (λ found.
         MatchOption found (IsIllegalBook bytes.now) (λ text. Certifies bytes.now text.items)) }
     // A refusal has the first fault of the bytes as the text of a book, or says want of memory.
     ensures refused { IfErr result (IsFaultOf (IsFirstBookFault Second bytes.now)) }
-    // A book with a legal order has a certificate answered, unless memory runs out.
+    // Where the bytes are the text of a book with a legal order, a certificate is answered, unless
+    // memory runs out.
     ensures legal { IsLegalBook bytes.now
         → MatchResult result IsSome (λ e. e ≡ ReadFault.NoMemory) }
-    // For a book without a legal order the answer is that there is no certificate, want of memory
-    // aside.
+    // Where the bytes are the text of a book without a legal order, no certificate is answered, or
+    // memory runs out.
     ensures illegal { IsIllegalBook bytes.now
         → MatchResult result IsNone (λ e. e ≡ ReadFault.NoMemory) }
     // Where the bytes have a first fault, the answer is that fault, unless memory runs out.
@@ -37,7 +38,7 @@ pub fn certify(alloc: Global, bytes: &[u8]) -> Result<Option<Vec<u8>>, ReadFault
     written(alloc, bytes)
 }
 
-/// The certificate by the reader, the search and the writer.
+/// Reads the book, looks for a legal order of it, and writes the certificate.
 #[tactic(auto, unfolding(crate::specs::Books::Certifies, crate::specs::Books::IsIllegalBook))]
 fn written(alloc: Global, bytes: &[u8]) -> Result<Option<Vec<u8>>, ReadFault>
     ensures certificate { IfOk result (λ found.

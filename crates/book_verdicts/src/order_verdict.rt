@@ -20,7 +20,7 @@ pub enum OrderVerdict {
 ///
 /// A text fault names the first wrong line, and the first test that this line fails.
 pub fn order(alloc: Global, bytes: &[u8]) -> Result<OrderVerdict, ReadFault>
-    // A verdict is that on the certificate that the bytes are the text of.
+    // A verdict that is answered is the one on the certificate whose text the bytes are.
     ensures verdict { IfOk result (IsOrderVerdict bytes.now) }
     // A refusal has the first fault of the bytes as the text of a certificate, or says want of
     // memory.
@@ -37,7 +37,7 @@ pub fn order(alloc: Global, bytes: &[u8]) -> Result<OrderVerdict, ReadFault>
     judged(alloc, bytes)
 }
 
-/// The verdict by the reader and the test of orders.
+/// Reads the certificate, and tests whether its list of places is a legal order of its book.
 #[tactic(auto, using(crate::proofs::CertificateLemmas::certificate_is_legal, crate::proofs::CertificateLemmas::certificate_is_faulty))]
 fn judged(alloc: Global, bytes: &[u8]) -> Result<OrderVerdict, ReadFault>
     ensures verdict { IfOk result (IsOrderVerdict bytes.now) }

@@ -11,7 +11,7 @@ use Rattle.text_fields.specs.Operations.{kind_operations}
 use Rattle.book_text.specs.CallLines.{calls_from}
 use Rattle.book_text.specs.Grammar.{line_of}
 
--- words that go on a line, each after a space
+-- the bytes of some words, one after another, with a space before each
 abbrev pub spaced : List (List ℕ) → List ℕ
 spaced [] = []
 spaced (word ∷ words) = 32 ∷ (word ++ spaced words)

@@ -33,6 +33,7 @@ abbrev pub sketch_lines : Kind → List Page → List Event → List (List (List
 sketch_lines kind book events =
     title_words Second (codes "sketch") ∷ (map (event_words kind book) events ++ end_words ∷ [])
 
--- Each event is one of the book's: its call is one of the book, and is answered where it returns.
+-- Each of the events is the invocation of a call of the book, or the return of an answered call of
+-- the book.
 abbrev pub AreEventsOf : List Page → List Event → Type 0
 AreEventsOf book events = (event : Event) → StandsIn events event → IsEventOf book event

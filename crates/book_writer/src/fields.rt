@@ -55,8 +55,8 @@ fn put_callers(out: &mut Vec<u8>, n: u32) -> Result<(), NoMemory>
 
 /// Appends each count of a cut after a space.
 pub fn put_counts(out: &mut Vec<u8>, cut: &Cut) -> Result<(), NoMemory>
-    // After an answer Ok the vector has each count of the cut, after a space each, after what it
-    // held.
+    // After an answer Ok each count of the cut, with a space before it, is appended to what the
+    // vector held.
     ensures { OnOk result (out.new.items ≡ out.old.items ++ spaced (map decimal cut.now)) }
 {
     for i in 0..cut.n() {
@@ -90,8 +90,8 @@ pub fn put_head(out: &mut Vec<u8>, title: &[u8], kind: Kind, calls: &Cut) -> Res
 
 /// Appends the pairs of a cut, each after a space.
 pub fn put_pairs(out: &mut Vec<u8>, cut: &Cut) -> Result<(), NoMemory>
-    // After an answer Ok the vector has the pairs of the cut, after a space each, after what it
-    // held.
+    // After an answer Ok each pair of the cut, with a space before it, is appended to what the
+    // vector held.
     ensures { OnOk result (out.new.items ≡ out.old.items ++ spaced (pair_words 0 cut.now)) }
 {
     for j in 0..cut.n() {
@@ -114,8 +114,8 @@ fn put_pair(out: &mut Vec<u8>, j: u32, count: u64) -> Result<(), NoMemory>
 
 /// Appends the caller and the number of a call, each after a space.
 pub fn put_place(out: &mut Vec<u8>, call: Call) -> Result<(), NoMemory>
-    // After an answer Ok the vector has the call's caller and number, after a space each, after
-    // what it held.
+    // After an answer Ok the call's caller and its number, with a space before each, are appended
+    // to what the vector held.
     ensures { OnOk result (out.new.items ≡ out.old.items ++ spaced (place_words call)) }
 {
     put_spaced(out, u64::from(call.caller))?;
@@ -124,8 +124,8 @@ pub fn put_place(out: &mut Vec<u8>, call: Call) -> Result<(), NoMemory>
 
 /// Appends the words of an operation, each after a space.
 pub fn put_operation(out: &mut Vec<u8>, kind: Kind, op: OpWord) -> Result<(), NoMemory>
-    // After an answer Ok the vector has the operation's words, after a space each, after what it
-    // held.
+    // After an answer Ok the operation's words, with a space before each, are appended to what the
+    // vector held.
     ensures { OnOk result (out.new.items ≡ out.old.items ++ spaced (operation_words kind op)) }
 {
     out.push(b' ')?;

@@ -23,6 +23,7 @@ pub fn events_text(
 ) -> Result<Vec<u8>, NoMemory>
     // Each of the events is one of the book's.
     requires { AreEventsOf book.now events.now }
+    // The bytes are the title, the lines of the events in order, and the end.
     ensures { IfOk result (λ bytes. bytes.items ≡ text_of (sketch_lines kind book.now events.now)) }
 {
     let mut out = Vec::new(alloc);

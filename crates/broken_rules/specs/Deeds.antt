@@ -1,4 +1,5 @@
--- What the calls of a book did, by the kind of its object.
+-- What the calls of a book did, as deals: puts, takes, takes that found nothing or have no answer,
+-- or neither. It depends on the kind of the book's object.
 use Rattle.std.specs.Prelude.{ℕ, ◌==◌, Bool, true, false, List, [], Option, Some, None, unwrap_or, if◌then◌else◌}
 use Rattle.book_base.specs.declared.call.Call.{Call}
 use Rattle.book_base.specs.declared.call.Record.{Record}
@@ -17,7 +18,7 @@ use Rattle.seq_objects.specs.RegisterReading.{register_reading}
 use Rattle.broken_rules.specs.declared.act.Act.{Act}
 use Rattle.broken_rules.specs.declared.act.Act.TheVariants as acts
 
--- An increment of a counter is read as a take of the count that it replies.
+-- How a counter is read: an increment as a take of the count that it replies.
 abbrev pub counter_reading : Reading
 counter_reading = record {
   deed = λ word. if is_known_word kinds.Counter word then Takes else Neither;
@@ -25,7 +26,7 @@ counter_reading = record {
   values = λ list. [];
 }
 
--- Of the other kinds no operation is read as a put or a take.
+-- How sets, maps and registers with compare-and-set are read: no operation is a put or a take.
 abbrev pub other_reading : Reading
 other_reading = record { deed = λ word. Neither; shown = shown_value; values = λ list. [] }
 
@@ -38,13 +39,14 @@ reading_of kinds.Register = register_reading
 reading_of kinds.Counter = counter_reading
 reading_of _ = other_reading
 
--- Whether a kind's objects are of keys: sets and maps.
+-- Whether a kind's objects are objects of keys: sets and maps.
 abbrev pub is_keyed : Kind → Bool
 is_keyed kinds.IntSet = true
 is_keyed kinds.Map = true
 is_keyed _ = false
 
--- The key of an operation word of a set or a map, where the object knows the word.
+-- The key of an operation word of a set or a map, where the object knows the word: the word's
+-- argument.
 abbrev pub key_of_word : Kind → ℕ → Option ℕ
 key_of_word kind word = if is_known_word kind word then Some (argument_of word) else None
 
@@ -58,26 +60,27 @@ puts_key word = code_of word == 1
 abbrev pub set_finds : ℕ → ℕ → Bool
 set_finds word reply = if puts_key word then reply == reply_no else reply == reply_yes
 
--- Whether the reply to an operation says that its key was there: the one of a map gives the value
--- that the key had.
+-- Whether the reply to an operation of a set or a map says that its key was there: for a set as
+-- `set_finds` says, for a map where the reply gives the value that the key had. It never does for
+-- other kinds.
 abbrev pub finds_key : Kind → ℕ → ℕ → Bool
 finds_key kinds.IntSet word reply = set_finds word reply
 finds_key kinds.Map word reply = is_value reply
 finds_key _ word reply = false
 
--- Whether an operation is answered, and found its key there.
+-- Whether an operation of a set or a map has a record, and its reply says that its key was there.
 abbrev pub has_found : Kind → ℕ → Option Record → Bool
 has_found kind word None = false
 has_found kind word (Some r) = finds_key kind word r.reply
 
--- What an operation did with its key: one that found the key is read as a take of it, and one that
--- puts the key in and isn't known to have found it as a put.
+-- What an operation did with its key: one that found the key is read as a take of it, one that puts
+-- the key in and isn't known to have found it as a put, and any other one as neither.
 abbrev pub deal_on_key : Option ℕ → Bool → Bool → Deal
 deal_on_key None found puts = deals.Other
 deal_on_key (Some key) found puts =
     if found then deals.Took key else if puts then deals.Put key else deals.Other
 
--- What a call with this operation word did with its key.
+-- What a call of a set or a map with the operation word `word` did with its key.
 abbrev pub deal_by_word : Kind → List Page → Call → ℕ → Deal
 deal_by_word kind book call word =
     deal_on_key (key_of_word kind word) (has_found kind word (record_of book call)) (puts_key word)
@@ -86,12 +89,13 @@ deal_by_word kind book call word =
 abbrev pub deal_by_key : Kind → List Page → Call → Deal
 deal_by_key kind book call = deal_by_word kind book call (unwrap_or (operation_of book call) 0)
 
--- What a call of a book did.
+-- What a call of a book did: for a set or a map by its key, for any other kind by the kind's
+-- reading.
 abbrev pub did : Kind → List Page → Call → Deal
 did kind book call =
     if is_keyed kind then deal_by_key kind book call else deal_of (reading_of kind) book call
 
--- The deal, in the words of the readings, that an act names.
+-- The deal for which an act of the code stands.
 abbrev pub deal_of_act : Act → Deal
 deal_of_act (acts.Put value) = deals.Put value
 deal_of_act (acts.Took value) = deals.Took value
@@ -99,13 +103,13 @@ deal_of_act acts.FoundNothing = deals.FoundNothing
 deal_of_act acts.OpenTake = deals.OpenTake
 deal_of_act acts.Other = deals.Other
 
--- The value that a deal is about: 0 where it is about none.
+-- The value that a deal puts in or takes, or 0 where it does neither.
 abbrev pub value_by : Deal → ℕ
 value_by (deals.Put value) = value
 value_by (deals.Took value) = value
 value_by _ = 0
 
--- The value that a call puts in, takes or shows.
+-- The value that a call of a book puts in, takes or shows, or 0 where it does none of these.
 abbrev pub value_at : Kind → List Page → Call → ℕ
 value_at kind book call = value_by (did kind book call)
 

@@ -1,4 +1,5 @@
--- What a rule asks of all calls of a book, where two calls are to break it.
+-- The demands of rules: what has to hold of all calls of a book where two of its calls break a
+-- rule.
 use Rattle.std.specs.Prelude.{◌≡◌, ◌⊎◌, ℕ, List}
 use Rattle.book_base.specs.declared.call.Call.{Call}
 use Rattle.book_base.specs.Book.{Page, IsCall, Precedes}
@@ -8,19 +9,19 @@ use Rattle.broken_rules.specs.declared.demand.Demand.{Demand}
 use Rattle.broken_rules.specs.declared.demand.Demand.TheVariants as demands
 use Rattle.broken_rules.specs.Deeds.{did, value_at}
 
--- A call puts a value in.
+-- A call of a book puts the value `value` in.
 abbrev pub Puts : Kind → List Page → ℕ → Call → Type 0
 Puts kind book value call = did kind book call ≡ deals.Put value
 
--- A call is answered and takes a value.
+-- A call of a book is answered and takes the value `value`.
 abbrev pub Took : Kind → List Page → ℕ → Call → Type 0
 Took kind book value call = did kind book call ≡ deals.Took value
 
--- A call may take a value: it took it, or it is a take without an answer.
+-- A call of a book may take the value `value`: it took it, or it is a take without an answer.
 abbrev pub MayTake : Kind → List Page → ℕ → Call → Type 0
 MayTake kind book value call = Took kind book value call ⊎ (did kind book call ≡ deals.OpenTake)
 
--- What a demand about two calls asks of a call.
+-- A call of a book meets a demand about two calls, `first` and `second`.
 abbrev pub Meets : Kind → List Page → Demand → Call → Call → Call → Type 0
 -- a call that puts in the value of the first call comes after the first call
 Meets kind book demands.OwnPutsFollow first second call =
@@ -42,7 +43,7 @@ Meets kind book demands.OnlyTake first second call = Took kind book (value_at ki
 -- a call that may take the value of the first call comes after the second call
 Meets kind book demands.TakesFollow first second call =
     MayTake kind book (value_at kind book first) call → Precedes book second call
--- this demand asks nothing
+-- the demand `Nothing` asks nothing of a call
 Meets kind book demands.Nothing first second call = Unit {0}
 
 -- All calls of the book meet a demand about two calls.

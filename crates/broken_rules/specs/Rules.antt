@@ -64,37 +64,37 @@ keeps kind rules.ReadUnwritten = is_register kind
 keeps kind rules.ReadOverwritten = is_register kind
 keeps kind rules.FoundUnput = is_keyed kind
 
--- Whether two calls with these deals may break a rule.
+-- Whether two calls whose deals are `first` and `second` may break a rule.
 abbrev pub fits : Rule → Deal → Deal → Bool
--- the first one takes
+-- the first call takes a value
 fits rules.TakenUnput first second = is_take first
--- the second one takes what the first one puts in
+-- the second call takes the value that the first one puts in
 fits rules.TakenTwice first second =
     is_put first && is_take second && (value_by first == value_by second)
--- the first one puts in, and the second one finds nothing
+-- the first call puts a value in, and the second one finds nothing
 fits rules.FoundNothing first second = is_put first && is_nothing second
--- the first one puts in, and the second one takes
+-- the first call puts a value in, and the second one takes a value
 fits rules.PassedOver first second = is_put first && is_take second
 fits rules.TakenFromUnder first second = is_put first && is_take second
--- the first one puts in a value that is less than the one that the second one takes
+-- the first call puts in a value that is less than the one that the second call takes
 fits rules.LesserLeft first second =
     is_put first && is_take second && nat_lt (value_by first) (value_by second)
--- the first one replies a count
+-- the first call replies a count
 fits rules.CountedUnseen first second = is_take first
--- both reply one count
+-- both calls reply the same count
 fits rules.CountedTwice first second =
     is_take first && is_take second && (value_by first == value_by second)
--- the second one replies a lower count
+-- the second call replies a lower count than the first one
 fits rules.CountedDown first second =
     is_take first && is_take second && nat_lt (value_by second) (value_by first)
--- the first one reads another value than 0
+-- the first call reads a value other than 0
 fits rules.ReadUnwritten first second = is_take first && not (value_by first == 0)
--- the first one writes, and the second one reads
+-- the first call writes a value, and the second one reads a value
 fits rules.ReadOverwritten first second = is_put first && is_take second
--- the first one finds its key
+-- the first call finds its key
 fits rules.FoundUnput first second = is_take first
 
--- Whether a rule is broken by one call, which is both its calls.
+-- Whether a rule is broken by one call, which then stands as both of its calls.
 abbrev pub is_of_one_call : Rule → Bool
 is_of_one_call rules.TakenUnput = true
 is_of_one_call rules.CountedUnseen = true
@@ -102,7 +102,7 @@ is_of_one_call rules.ReadUnwritten = true
 is_of_one_call rules.FoundUnput = true
 is_of_one_call _ = false
 
--- What a rule asks of all calls that put in.
+-- What a rule asks of the calls that put values in, as a demand about the rule's two calls.
 abbrev pub puts_demand : Rule → Demand
 puts_demand rules.TakenUnput = demands.OwnPutsFollow
 puts_demand rules.TakenTwice = demands.OnlyPut
@@ -113,7 +113,7 @@ puts_demand rules.FoundUnput = demands.OwnPutsFollow
 puts_demand rules.ReadOverwritten = demands.OtherPutsOutside
 puts_demand _ = demands.Nothing
 
--- What a rule asks of all calls that take.
+-- What a rule asks of the calls that take values, as a demand about the rule's two calls.
 abbrev pub takes_demand : Rule → Demand
 takes_demand rules.FoundNothing = demands.TakesFollow
 takes_demand rules.PassedOver = demands.TakesFollow
@@ -121,7 +121,7 @@ takes_demand rules.TakenFromUnder = demands.TakesFollow
 takes_demand rules.LesserLeft = demands.TakesFollow
 takes_demand _ = demands.Nothing
 
--- How the two calls of a rule are related.
+-- How two calls that break a rule are related.
 abbrev pub relation_of : Rule → Relation
 relation_of rules.TakenUnput = relations.Same
 relation_of rules.TakenTwice = relations.TakenByAnother
@@ -136,39 +136,39 @@ relation_of rules.ReadUnwritten = relations.Same
 relation_of rules.ReadOverwritten = relations.Before
 relation_of rules.FoundUnput = relations.Same
 
--- A call is answered, and its view holds at most this many calls, itself among them.
+-- A call is answered, and its view holds at most `most` calls, the call itself among them.
 abbrev pub SeesAtMost : List Page → Call → ℕ → Type 0
 SeesAtMost book call most = IsSomeAnd (record_of book call) (λ r. sum r.view ≤ most)
 
--- Two calls are related in this way.
+-- Two calls of a book are related as a relation of rules says.
 abbrev pub Related : Kind → List Page → Relation → Call → Call → Type 0
--- they are the same call
+-- the two calls are the same call
 Related kind book relations.Same first second = first ≡ second
--- they are the same call, whose view holds no more calls than the count that it replies
+-- the two calls are the same call, whose view holds no more calls than the count that it replies
 Related kind book relations.Unseen first second =
     (first ≡ second) × SeesAtMost book first (value_at kind book first)
--- they are different calls
+-- the two calls are different calls
 Related kind book relations.Apart first second = first ≢ second
--- the first one precedes the second one
+-- the first call precedes the second one
 Related kind book relations.Before first second = Precedes book first second
--- another call takes what the second one takes
+-- another call takes the value that the second one takes
 Related kind book relations.TakenByAnother first second =
     ¬ AllMeet kind book demands.OnlyTake first second
--- nothing is asked
+-- the relation `Any` asks nothing
 Related kind book relations.Any first second = Unit {0}
 
 -- A book of an object of a kind breaks a rule by two of its calls.
 pub record Breaks (kind : Kind) (book : List Page) (broken : BrokenRule) : Type 0 where
-  -- they are calls of the book
+  -- the two calls are calls of the book
   pub first : IsCall book broken.first
   pub second : IsCall book broken.second
   -- the objects of the kind keep the rule
   pub kept : keeps kind broken.rule ≡ true
-  -- the calls did what the rule is about
+  -- the two calls did what `fits` asks of calls that break the rule
   pub fit : fits broken.rule (did kind book broken.first) (did kind book broken.second) ≡ true
   -- the two calls are related as the rule says
   pub related : Related kind book (relation_of broken.rule) broken.first broken.second
-  -- the calls that put in, and those that take, are where the rule says
+  -- all calls of the book meet the rule's demand on puts, and its demand on takes
   pub puts : AllMeet kind book (puts_demand broken.rule) broken.first broken.second
   pub takes : AllMeet kind book (takes_demand broken.rule) broken.first broken.second
 

@@ -1,4 +1,4 @@
--- A broken rule in plain words, on one line.
+-- The text of a broken rule: one line in plain words.
 use Rattle.std.specs.Prelude.{ℕ, List, ◌++◌, codes, decimal}
 use Rattle.book_base.specs.declared.call.Call.{Call}
 use Rattle.book_base.specs.Book.{Page}
@@ -12,21 +12,22 @@ use Rattle.broken_rules.specs.Deeds.{value_at}
 abbrev pub call_text : Call → List ℕ
 call_text call = codes "call " ++ decimal call.caller ++ codes " " ++ decimal call.number
 
--- what one call did with a value, and what is said of it
+-- the text of what one call did with a value, and what is said of that
 abbrev pub one_text : Call → List ℕ → ℕ → List ℕ → List ℕ
 one_text first deed value end = call_text first ++ deed ++ decimal value ++ end
 
--- what one call did with a value, and what another one did
+-- the text of what one call did with a value, and what another call did
 abbrev pub two_text : Call → List ℕ → ℕ → List ℕ → Call → List ℕ → List ℕ
 two_text first deed value middle second end =
     one_text first deed value middle ++ call_text second ++ end
 
--- what two calls did with two values
+-- the text of what two calls did with two values
 abbrev pub both_text : Call → List ℕ → ℕ → List ℕ → Call → List ℕ → ℕ → List ℕ → List ℕ
 both_text first deed value middle second verb other end =
     two_text first deed value middle second verb ++ decimal other ++ end
 
--- the line of a rule, of two calls and their values
+-- the line that says that two calls, with a value each, break a rule; of a rule of one call it
+-- names the first call alone
 unfoldable pub rule_text : Rule → Call → ℕ → Call → ℕ → List ℕ
 rule_text rules.TakenUnput first value second other =
     one_text first (codes " took ") value (codes ", which no call had put in before\n")
@@ -61,7 +62,7 @@ rule_text rules.ReadOverwritten first value second other =
 rule_text rules.FoundUnput first value second other =
     one_text first (codes " found ") value (codes ", which no call had put in before\n")
 
--- the line of a rule that a book breaks
+-- the line that says by which calls a book breaks a rule
 abbrev pub broken_text : Kind → List Page → BrokenRule → List ℕ
 broken_text kind book broken =
     rule_text broken.rule broken.first (value_at kind book broken.first) broken.second

@@ -1,5 +1,4 @@
--- Worked books: what calls of sets and maps did with their keys, and what the view of a count
--- holds.
+-- Books of a set, of a map and of a counter, for the worked cases.
 use Rattle.std.specs.Prelude.{List, [], ◌∷◌}
 use Rattle.book_base.specs.Book.{Page}
 use Rattle.book_laws.specs.Cases.{answer, caller_page}
@@ -7,8 +6,8 @@ use Rattle.seq_objects.specs.Words.{add, remove, has, get, del, inc, word_of}
 use Rattle.seq_objects.specs.Replies.{reply_none, reply_value, reply_yes, reply_no}
 use Rattle.object_laws.specs.Worked.{operation}
 
--- A caller adds 3 to a set twice, looks for 3 and for 4, removes 3 twice, and adds 5 without an
--- answer.
+-- The book of one caller that adds 3 to a set twice, looks for 3 and for 4, removes 3 twice, and
+-- adds 5 without an answer.
 abbrev pub of_a_set : List Page
 of_a_set =
     caller_page
@@ -18,8 +17,8 @@ of_a_set =
     ∷ answer reply_no (4 ∷ []) ∷ answer reply_yes (5 ∷ []) ∷ answer reply_no (6 ∷ []) ∷ [])
     ∷ []
 
--- A caller puts 7 and then 8 into a map for the key 3, gets the keys 3 and 4, deletes the key 3,
--- and gets it without an answer.
+-- The book of one caller that puts 7 and then 8 into a map for the key 3, gets the keys 3 and 4,
+-- deletes the key 3, and gets it without an answer.
 abbrev pub of_a_map : List Page
 of_a_map =
     caller_page
@@ -29,8 +28,8 @@ of_a_map =
     ∷ answer reply_none (4 ∷ []) ∷ answer (reply_value 8) (5 ∷ []) ∷ [])
     ∷ []
 
--- Caller 0 counts 3 while its view holds one call of its own and two of caller 1, of which none has
--- an answer.
+-- The book of a counter with two callers. Caller 0's one increment replies 3, and its view holds
+-- itself and two increments of caller 1, which are unanswered.
 abbrev pub of_a_counter : List Page
 of_a_counter =
     caller_page (operation inc 0 ∷ []) (answer (reply_value 3) (1 ∷ 2 ∷ []) ∷ [])

@@ -14,10 +14,10 @@ use seq_objects::{Kind, NO, Pqueue, Queue, Register, Stack, YES};
 /// How many keys there are: a key is below this number.
 const KEYS: u64 = 1 << 32;
 
-/// The code of the operation that puts a key in.
+/// The code of the operation of a set or a map that puts a key in.
 const PUT: u64 = 1;
 
-/// The number that the reply of a map has above a key's value.
+/// The number that a reply word has above its low 32 bits where it gives a value.
 const VALUE_TAG: u64 = 2;
 
 /// What a call of a book did. An increment takes the count that it replies, a read takes the value
@@ -37,7 +37,7 @@ pub(crate) enum Act {
 }
 
 impl Act {
-    /// The value that the act is about, and 0 where it is about none.
+    /// The value that the act puts in or takes, and 0 where it does neither.
     pub(crate) fn value(self) -> u64
         ensures { result ≡ value_by (deal_of_act self) }
     {
@@ -76,21 +76,21 @@ impl Act {
         matches!(self, Act::OpenTake)
     }
 
-    /// Whether the act puts this value in.
+    /// Whether the act puts the value `value` in.
     pub(crate) fn puts(self, value: u64) -> bool
         ensures { result ≡ (is_put (deal_of_act self) && (value_by (deal_of_act self) == value)) }
     {
         self.is_put() && self.value() == value
     }
 
-    /// Whether the act is an answered take of this value.
+    /// Whether the act is an answered take of the value `value`.
     pub(crate) fn took(self, value: u64) -> bool
         ensures { result ≡ (is_take (deal_of_act self) && (value_by (deal_of_act self) == value)) }
     {
         self.is_take() && self.value() == value
     }
 
-    /// Whether the act may take this value: it is a take of it, or a take without an answer.
+    /// Whether the act may take the value `value`: it is a take of it, or a take without an answer.
     pub(crate) fn may_take(self, value: u64) -> bool
         ensures { result ≡ ((is_take (deal_of_act self) && (value_by (deal_of_act self) == value))
             || is_open (deal_of_act self)) }
@@ -111,7 +111,7 @@ pub(crate) fn act_of(kind: Kind, book: &Book, call: Call) -> Act
     }
 }
 
-/// Whether a kind's objects are of keys: sets and maps.
+/// Whether a kind's objects are objects of keys: sets and maps.
 pub(crate) fn is_keyed(kind: Kind) -> bool
     ensures { result ≡ deeds.is_keyed kind }
 {
@@ -130,7 +130,8 @@ fn act_by_key(kind: Kind, book: &Book, call: Call) -> Act
     act_on_key(key, found, puts)
 }
 
-// What an operation with this key did, by whether it found the key and whether it puts the key in.
+// What an operation with the key `key` did, by whether it found the key (`found`) and whether it
+// puts the key in (`puts`).
 fn act_on_key(key: Option<u64>, found: bool, puts: bool) -> Act
     ensures { deal_of_act result ≡ deal_on_key key found puts }
 {
@@ -166,7 +167,8 @@ fn puts_key(op: OpWord) -> bool
     low(op) / KEYS == PUT
 }
 
-// Whether a call with this operation word is answered, and found its key there.
+// Whether a call with the operation word `op` is answered, and its reply says that its key was
+// there.
 fn has_found(kind: Kind, book: &Book, call: Call, op: OpWord) -> bool
     requires { IsCall book.now call }
     ensures { result ≡ deeds.has_found kind op (record_of book.now call) }
@@ -177,7 +179,8 @@ fn has_found(kind: Kind, book: &Book, call: Call, op: OpWord) -> bool
     finds_key(kind, op, book.record(call).reply)
 }
 
-// Whether the reply to an operation says that its key was there.
+// Whether the reply to an operation of a set or a map says that its key was there. It never does
+// for other kinds.
 fn finds_key(kind: Kind, op: OpWord, reply: u64) -> bool
     ensures { result ≡ deeds.finds_key kind op reply }
 {
@@ -204,7 +207,7 @@ fn set_finds(op: OpWord, reply: u64) -> bool
     }
 }
 
-// What a call did by the reading of its kind.
+// What a call did, as the reading of its kind says.
 fn act_by_reading(kind: Kind, book: &Book, call: Call) -> Act
     requires { IsCall book.now call }
     ensures { deal_of_act result ≡ deal_of (reading_of kind) book.now call }
@@ -216,7 +219,7 @@ fn act_by_reading(kind: Kind, book: &Book, call: Call) -> Act
     }
 }
 
-// What a call that takes did. Of each kind a reply shows a value in the same way.
+// What a call that is a take did. Replies of all kinds show a value in the same way.
 fn take_of(book: &Book, call: Call) -> Act
     requires { IsCall book.now call }
     ensures { deal_of_act result ≡ take_of queue_reading book.now call }
@@ -230,7 +233,8 @@ fn take_of(book: &Book, call: Call) -> Act
     }
 }
 
-// What an operation word does.
+// The role of an operation word of a kind: whether it puts a value in, takes one out, or does
+// neither.
 fn role_of(kind: Kind, op: OpWord) -> Role
     ensures { deed_of result ≡ (reading_of kind).deed op }
 {
@@ -244,7 +248,7 @@ fn role_of(kind: Kind, op: OpWord) -> Role
     }
 }
 
-// What an operation word does to a counter.
+// The role of an operation word of a counter: an increment takes the count that it replies.
 fn counter_role(op: OpWord) -> Role
     ensures { deed_of result ≡ counter_reading.deed op }
 {

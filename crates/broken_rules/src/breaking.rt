@@ -1,4 +1,4 @@
-//! Whether two calls break a rule.
+//! Whether a book breaks a rule by two of its calls.
 
 ghost use Rattle.std.specs.Prelude.{◌≡◌, ◌≤◌, ◌↔◌, sum, IsTrue};
 ghost use Rattle.book_base.specs.Book.{IsCall};
@@ -11,7 +11,7 @@ use crate::rule::{BrokenRule, Relation};
 use book_base::{Book, Call, Cut};
 use seq_objects::Kind;
 
-/// Whether a book breaks a rule by these calls.
+/// Whether a book breaks the rule of `broken` by the two calls of `broken`.
 pub(crate) fn is_broken(kind: Kind, book: &Book, broken: BrokenRule) -> bool
     requires first { IsCall book.now broken.first }
     requires second { IsCall book.now broken.second }
@@ -35,7 +35,7 @@ pub(crate) fn is_broken(kind: Kind, book: &Book, broken: BrokenRule) -> bool
     all_meet(kind, book, rule.takes_demand(), broken.first, broken.second)
 }
 
-// Whether two calls are related in this way.
+// Whether two calls are related as `relation` says.
 fn are_related(kind: Kind, book: &Book, relation: Relation, first: Call, second: Call) -> bool
     requires first { IsCall book.now first }
     requires second { IsCall book.now second }
@@ -67,7 +67,7 @@ fn is_unseen(kind: Kind, book: &Book, first: Call, second: Call) -> bool
     }
 }
 
-// Whether a call is answered, and its view holds at most this many calls.
+// Whether a call is answered, and its view holds at most `most` calls.
 fn sees_at_most(book: &Book, call: Call, most: u64) -> bool
     requires { IsCall book.now call }
     ensures { IsTrue result ↔ SeesAtMost book.now call most }
@@ -80,7 +80,7 @@ fn sees_at_most(book: &Book, call: Call, most: u64) -> bool
     }
 }
 
-// Whether a view holds at most this many calls.
+// Whether a view holds at most `most` calls.
 fn holds_at_most(view: &Cut, most: u64) -> bool
     ensures { IsTrue result ↔ (sum view.now ≤ most) }
 {

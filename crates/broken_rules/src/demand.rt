@@ -1,4 +1,5 @@
-//! What a rule asks of all calls of a book.
+//! The demands of rules: what has to hold of all calls of a book where two of its calls break a
+//! rule.
 
 ghost use Rattle.std.specs.Prelude.{◌≡◌, ◌↔◌, ◌⊎◌, ℕ, ◌<◌, length, IsTrue};
 ghost use Rattle.book_base.specs.Book.{calls_of, IsCall, Precedes};
@@ -9,7 +10,7 @@ use crate::act::act_of;
 use book_base::{Book, Call};
 use seq_objects::Kind;
 
-/// What is asked of each call of a book, about two calls.
+/// What is asked of each call of a book, about a first call and a second call of it.
 #[derive(Clone, Copy, Debug)]
 pub(crate) enum Demand {
     /// The puts of the first call's value come after the first call.
@@ -42,7 +43,7 @@ pub(crate) fn all_meet(kind: Kind, book: &Book, demand: Demand, first: Call, sec
     true
 }
 
-// Whether all calls of a caller meet a demand.
+// Whether all calls of a caller meet a demand about two calls.
 fn caller_meets(
     kind: Kind,
     book: &Book,
@@ -65,7 +66,7 @@ fn caller_meets(
     true
 }
 
-// Whether a call meets a demand.
+// Whether a call meets a demand about two calls.
 fn meets(kind: Kind, book: &Book, demand: Demand, first: Call, second: Call, call: Call) -> bool
     requires first { IsCall book.now first }
     requires second { IsCall book.now second }
@@ -83,7 +84,8 @@ fn meets(kind: Kind, book: &Book, demand: Demand, first: Call, second: Call, cal
     }
 }
 
-// Whether a call comes after another one, if it puts in the value of a third one.
+// Whether the call `call`, if it puts in the value of the call `valued`, comes after the call
+// `first`.
 fn put_follows(kind: Kind, book: &Book, valued: Call, first: Call, call: Call) -> bool
     requires valued { IsCall book.now valued }
     requires first { IsCall book.now first }
@@ -98,8 +100,8 @@ fn put_follows(kind: Kind, book: &Book, valued: Call, first: Call, call: Call) -
     }
 }
 
-// Whether a call comes before a first call or after a second one, if it puts in the value of the
-// second one.
+// Whether the call `call`, if it puts in the value of the call `second`, comes before the call
+// `first` or after the call `second`.
 fn put_is_outside(kind: Kind, book: &Book, first: Call, second: Call, call: Call) -> bool
     requires first { IsCall book.now first }
     requires second { IsCall book.now second }
@@ -114,7 +116,7 @@ fn put_is_outside(kind: Kind, book: &Book, first: Call, second: Call, call: Call
     }
 }
 
-// Whether a call comes before a first call or after a second one.
+// Whether the call `call` comes before the call `first` or after the call `second`.
 fn is_outside(book: &Book, first: Call, second: Call, call: Call) -> bool
     requires first { IsCall book.now first }
     requires second { IsCall book.now second }
@@ -128,7 +130,7 @@ fn is_outside(book: &Book, first: Call, second: Call, call: Call) -> bool
     }
 }
 
-// Whether a call is the call `only`, if it puts in the value of that call.
+// Whether the call `call`, if it puts in the value of the call `only`, is the call `only` itself.
 fn put_is_only(kind: Kind, book: &Book, only: Call, call: Call) -> bool
     requires only { IsCall book.now only }
     requires call { IsCall book.now call }
@@ -142,7 +144,7 @@ fn put_is_only(kind: Kind, book: &Book, only: Call, call: Call) -> bool
     }
 }
 
-// Whether a call is the call `only`, if it takes the value of that call.
+// Whether the call `call`, if it took the value of the call `only`, is the call `only` itself.
 fn take_is_only(kind: Kind, book: &Book, only: Call, call: Call) -> bool
     requires only { IsCall book.now only }
     requires call { IsCall book.now call }
@@ -156,7 +158,8 @@ fn take_is_only(kind: Kind, book: &Book, only: Call, call: Call) -> bool
     }
 }
 
-// Whether a call comes after a second call, if it may take the value of a first one.
+// Whether the call `call`, if it may take the value of the call `first`, comes after the call
+// `second`.
 fn take_follows(kind: Kind, book: &Book, first: Call, second: Call, call: Call) -> bool
     requires first { IsCall book.now first }
     requires second { IsCall book.now second }
@@ -172,7 +175,7 @@ fn take_follows(kind: Kind, book: &Book, first: Call, second: Call, call: Call) 
     }
 }
 
-// Whether a call puts in the value of another one.
+// Whether the call `call` puts in the value of the call `valued`.
 fn puts_value(kind: Kind, book: &Book, valued: Call, call: Call) -> bool
     requires valued { IsCall book.now valued }
     requires call { IsCall book.now call }
@@ -182,7 +185,7 @@ fn puts_value(kind: Kind, book: &Book, valued: Call, call: Call) -> bool
     act_of(kind, book, call).puts(value)
 }
 
-// Whether a call takes the value of another one.
+// Whether the call `call` is answered and takes the value of the call `valued`.
 fn takes_value(kind: Kind, book: &Book, valued: Call, call: Call) -> bool
     requires valued { IsCall book.now valued }
     requires call { IsCall book.now call }
@@ -192,7 +195,8 @@ fn takes_value(kind: Kind, book: &Book, valued: Call, call: Call) -> bool
     act_of(kind, book, call).took(value)
 }
 
-// Whether a call may take the value of another one.
+// Whether the call `call` may take the value of the call `valued`: it took it, or it is a take
+// without an answer.
 fn may_take_value(kind: Kind, book: &Book, valued: Call, call: Call) -> bool
     requires valued { IsCall book.now valued }
     requires call { IsCall book.now call }

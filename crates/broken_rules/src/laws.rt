@@ -1,4 +1,4 @@
-//! The law of broken rules: the contract of a function with nothing in it.
+//! The law of broken rules, as the contract of a function with an empty body.
 
 ghost use Rattle.broken_rules.specs.Rules.{WhatBreaksIsIllegal};
 

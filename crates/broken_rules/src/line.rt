@@ -1,4 +1,4 @@
-//! A broken rule in plain words.
+//! The text of a broken rule: one line in plain words.
 
 ghost use Rattle.std.specs.Prelude.{◌≡◌, ℕ, ◌++◌, IfOk, OnOk};
 ghost use Rattle.book_base.specs.Book.{IsCall};
@@ -11,7 +11,8 @@ use book_base::{Book, Call, NoMemory};
 use seq_objects::{Kind, put_number};
 use std::alloc::Global;
 
-/// The line that says by which calls a book breaks a rule, with the values that they are about.
+/// The line that says by which calls a book breaks a rule, with the values that these calls put in,
+/// take or show.
 pub fn broken_line(
     alloc: Global,
     kind: Kind,
@@ -32,7 +33,7 @@ pub fn broken_line(
     Ok(line)
 }
 
-// Appends the line of a rule, of its calls and their values.
+// Appends the line of the rule of `broken`, whose two calls have the values `value` and `other`.
 #[tactic(auto, unfolding(crate::specs::Texts::rule_text))]
 fn put_rule(out: &mut Vec<u8>, broken: BrokenRule, value: u64, other: u64) -> Result<(), NoMemory>
     ensures { OnOk result (out.new.items
@@ -154,7 +155,7 @@ fn put_rule(out: &mut Vec<u8>, broken: BrokenRule, value: u64, other: u64) -> Re
     }
 }
 
-// Appends what one call did with a value, and what is said of it.
+// Appends what one call did with a value, and what is said of that.
 fn put_one(
     out: &mut Vec<u8>,
     first: Call,
@@ -172,7 +173,7 @@ fn put_one(
     Ok(())
 }
 
-// Appends what one call did with a value, and what another one did.
+// Appends what one call did with a value, and what another call did.
 fn put_two(
     out: &mut Vec<u8>,
     first: Call,

@@ -9,48 +9,50 @@ use crate::demand::Demand;
 use book_base::Call;
 use seq_objects::Kind;
 
-/// A rule that the objects of a kind keep. It is broken by two calls, or by one that is named
-/// twice.
+/// A rule that the objects of a kind keep. A book breaks it by two of its calls, or by one that
+/// stands as both.
 #[derive(Clone, Copy, Debug, PartialEq, Eq)]
 pub enum Rule {
-    /// What is taken was put in before: the first call takes a value that no call puts in but after
-    /// it.
+    /// What is taken was put in before: the first call takes a value, and each put of this value
+    /// comes after the first call.
     TakenUnput,
-    /// A value that is put in once is taken once: the first call alone puts a value in, and the
-    /// second call isn't the only one that takes it.
+    /// A value that is put in once is taken once: the first call alone puts a value in, and both
+    /// the second call and another call take it.
     TakenTwice,
-    /// A take finds what is there: the first call puts a value in that no call takes but after the
-    /// second call, which finds nothing.
+    /// A take finds what is there: the second call finds nothing, the first call precedes it and
+    /// puts a value in, and each call that may take this value comes after the second call.
     FoundNothing,
     /// A queue gives the oldest value: the first call puts a value in, and the second one takes
-    /// another value, which is put in later, while the first value is there.
+    /// another value, which is only put in after the first call, while the first value is still
+    /// there.
     PassedOver,
     /// A stack gives the newest value: the first call puts a value in, and the second one takes
-    /// another value, which was put in earlier, while the first value is there.
+    /// another value, which was put in before the first call, while the first value is still there.
     TakenFromUnder,
     /// A priority queue gives the least value: the second call takes a value while a lesser one is
-    /// there, which the first call puts in.
+    /// there, which the first call put in before.
     LesserLeft,
-    /// A counter counts what is there: the first call replies a count that is greater than the
-    /// number of other calls in its view.
+    /// A counter counts increments that were made: the first call replies a count that is greater
+    /// than the number of other calls in its view.
     CountedUnseen,
-    /// A counter gives each count once: two calls reply the same one.
+    /// A counter gives each count once: two calls reply the same count.
     CountedTwice,
     /// A counter goes up: the second call replies a lower count than the first one, which precedes
     /// it.
     CountedDown,
-    /// What is read was written before: the first call reads a value that no call writes but after
-    /// it, and that isn't 0.
+    /// What is read was written before: the first call reads a value other than 0, and each write
+    /// of this value comes after the first call.
     ReadUnwritten,
-    /// A register holds the value written last: the first call writes a value over the one that the
-    /// second call reads.
+    /// A register holds the value written last: the first call writes a value and precedes the
+    /// second call, which reads another value that is only written before the first call or after
+    /// the second one.
     ReadOverwritten,
-    /// What is found in a set or a map was put in before: the first call finds a key that no call
-    /// puts in but after it.
+    /// What is found in a set or a map was put in before: the first call finds a key, and each call
+    /// that puts this key in comes after the first call.
     FoundUnput,
 }
 
-/// A rule that a book breaks, and the two calls by which it does.
+/// A rule that a book breaks, and the two calls by which it breaks the rule.
 #[derive(Clone, Copy, Debug, PartialEq, Eq)]
 pub struct BrokenRule {
     pub rule: Rule,
@@ -69,7 +71,7 @@ pub(crate) enum Relation {
     Apart,
     /// The first call precedes the second one.
     Before,
-    /// Another call takes what the second one takes.
+    /// Another call takes the value that the second one takes.
     TakenByAnother,
     /// The relation asks nothing.
     Any,
@@ -96,7 +98,7 @@ impl Rule {
         }
     }
 
-    /// Whether two calls with these acts may break the rule.
+    /// Whether two calls whose acts are `first` and `second` may break the rule.
     pub(crate) fn fits(self, first: Act, second: Act) -> bool
         ensures { result ≡ rules.fits self (deal_of_act first) (deal_of_act second) }
     {
@@ -124,7 +126,7 @@ impl Rule {
         }
     }
 
-    /// Whether the rule is broken by one call, which is both of its calls.
+    /// Whether the rule is broken by one call, which then stands as both of its calls.
     pub(crate) fn is_of_one_call(self) -> bool
         ensures { result ≡ rules.is_of_one_call self }
     {
@@ -134,7 +136,7 @@ impl Rule {
         )
     }
 
-    /// What the rule asks of all calls that put in.
+    /// What the rule asks of the calls that put values in, as a demand about the rule's two calls.
     pub(crate) fn puts_demand(self) -> Demand
         ensures { result ≡ rules.puts_demand self }
     {
@@ -151,7 +153,7 @@ impl Rule {
         }
     }
 
-    /// What the rule asks of all calls that take.
+    /// What the rule asks of the calls that take values, as a demand about the rule's two calls.
     pub(crate) fn takes_demand(self) -> Demand
         ensures { result ≡ rules.takes_demand self }
     {
@@ -170,7 +172,7 @@ impl Rule {
         }
     }
 
-    /// How the two calls of the rule are related.
+    /// How two calls that break the rule are related.
     pub(crate) fn relation(self) -> Relation
         ensures { result ≡ rules.relation_of self }
     {

@@ -1,4 +1,4 @@
-//! A rule that a book breaks.
+//! The search for a rule that a book breaks.
 
 ghost use Rattle.std.specs.Prelude.{◌≡◌, ℕ, ◌<◌, true, length, slice_get, Some, IfSome, IfNone};
 ghost use Rattle.book_base.specs.declared.call.Call.{Call};
@@ -30,12 +30,12 @@ const RULES: [Rule; 12] = [
     Rule::ReadOverwritten,
 ];
 
-/// A rule that a book breaks, with the two calls by which it does; none, where it breaks none of
-/// the rules of [`Rule`]. A book that breaks a rule has no legal order. A book that breaks none may
-/// have a legal order or not.
+/// A rule that a book breaks, with the two calls by which it breaks the rule; `None` where it
+/// breaks none of the rules of [`Rule`]. A book that breaks a rule has no legal order. A book that
+/// breaks none may have a legal order or not.
 ///
-/// For a rule of two calls all pairs of calls are tried, and for some of these all calls: the
-/// function is made for small books.
+/// For a rule of two calls all pairs of calls are tried, and for some pairs all calls of the book
+/// are looked at: the function is made for small books.
 pub fn broken_rule(kind: Kind, book: &Book) -> Option<BrokenRule>
     // The book breaks the rule that is answered, by the calls that are answered.
     ensures broken { IfSome result (λ broken. Breaks kind book.now broken) }
@@ -48,7 +48,7 @@ pub fn broken_rule(kind: Kind, book: &Book) -> Option<BrokenRule>
     first_broken(kind, book, &RULES)
 }
 
-// The first of some rules that a book breaks.
+// The first one of `rules` that a book breaks, with the two calls by which it breaks the rule.
 fn first_broken(kind: Kind, book: &Book, rules: &[Rule]) -> Option<BrokenRule>
     ensures broken { IfSome result (λ broken. Breaks kind book.now broken) }
     ensures none { IfNone result ((k : ℕ) (broken : BrokenRule)
@@ -63,7 +63,7 @@ fn first_broken(kind: Kind, book: &Book, rules: &[Rule]) -> Option<BrokenRule>
     None
 }
 
-// Two calls by which a book breaks a rule.
+// The rule `rule`, with two calls by which a book breaks it, if there are such calls.
 fn broken_by(kind: Kind, book: &Book, rule: Rule) -> Option<BrokenRule>
     ensures broken { IfSome result (λ broken. Breaks kind book.now broken) }
     ensures none { IfNone result ((first second : Call) → Breaks kind book.now
@@ -81,7 +81,7 @@ fn broken_by(kind: Kind, book: &Book, rule: Rule) -> Option<BrokenRule>
     None
 }
 
-// A call of a caller, and another one, by which a book breaks a rule.
+// The rule `rule`, with two calls by which a book breaks it, the first of them a call of `caller`.
 fn broken_by_caller(kind: Kind, book: &Book, rule: Rule, caller: u32) -> Option<BrokenRule>
     requires { caller < length book.now }
     ensures broken { IfSome result (λ broken. Breaks kind book.now broken) }
@@ -101,8 +101,8 @@ fn broken_by_caller(kind: Kind, book: &Book, rule: Rule, caller: u32) -> Option<
     None
 }
 
-// A call by which, with the given one, a book breaks a rule: the given one itself, where the rule
-// is of one call.
+// The rule `rule`, with two calls by which a book breaks it, the first of them `first`; where the
+// rule is of one call, `first` stands as both.
 fn broken_at(kind: Kind, book: &Book, rule: Rule, first: Call) -> Option<BrokenRule>
     requires { IsCall book.now first }
     ensures broken { IfSome result (λ broken. Breaks kind book.now broken) }
@@ -116,7 +116,8 @@ fn broken_at(kind: Kind, book: &Book, rule: Rule, first: Call) -> Option<BrokenR
     }
 }
 
-// The given call, where a book breaks a rule of one call by it.
+// The rule `rule`, which is of one call, with the call `only` as both of its calls, where a book
+// breaks the rule by this call.
 fn broken_alone(kind: Kind, book: &Book, rule: Rule, only: Call) -> Option<BrokenRule>
     requires call { IsCall book.now only }
     requires rule { is_of_one_call rule ≡ true }
@@ -136,7 +137,7 @@ fn broken_alone(kind: Kind, book: &Book, rule: Rule, only: Call) -> Option<Broke
     }
 }
 
-// A call by which, with the given one, a book breaks a rule.
+// The rule `rule`, with two calls by which a book breaks it, the first of them `first`.
 fn broken_with(kind: Kind, book: &Book, rule: Rule, first: Call) -> Option<BrokenRule>
     requires { IsCall book.now first }
     ensures broken { IfSome result (λ broken. Breaks kind book.now broken) }
@@ -152,7 +153,8 @@ fn broken_with(kind: Kind, book: &Book, rule: Rule, first: Call) -> Option<Broke
     None
 }
 
-// A call of a caller by which, with a first one, a book breaks a rule.
+// The rule `rule`, with two calls by which a book breaks it, the first of them `first`, and the
+// second one a call of `caller`.
 fn broken_with_caller(
     kind: Kind,
     book: &Book,

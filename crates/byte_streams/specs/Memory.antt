@@ -11,7 +11,7 @@ pub record SourceState : Type 0 where
   pub calls : ℕ
   pub faults : ℕ
 
--- The source's next call fails.
+-- The source's next read fails: its number is one of those that fail.
 abbrev pub ReadFails : SourceState → Type 0
 ReadFails s = Contains s.fails (next_count s.calls)
 
@@ -19,7 +19,8 @@ ReadFails s = Contains s.fails (next_count s.calls)
 abbrev pub after_failed_read : SourceState → SourceState
 after_failed_read s = record s { calls = next_count s.calls; faults = next_count s.faults }
 
--- How many bytes a read gives: as many as the piece, the most of a read and the bytes left allow.
+-- How many bytes a read gives: as many as the piece has, but at most as many as one read may give,
+-- and at most as many as are left.
 abbrev pub given_count : SourceState → ℕ → ℕ
 given_count s room = min (min room s.most) (length s.left)
 
@@ -51,8 +52,8 @@ WriteFails s piece = Contains s.fails (next_count s.calls)
 abbrev pub after_failed_write : SinkState → SinkState
 after_failed_write s = record s { calls = next_count s.calls; faults = next_count s.faults }
 
--- How many bytes a write takes: as many as the piece, the most of a write and the capacity left
--- allow.
+-- How many bytes of a piece a write takes: all of them, but at most as many as one write may take,
+-- and at most as many as the capacity that is left.
 abbrev pub taken_count : SinkState → ℕ → ℕ
 taken_count s offered = min (min offered s.most) (capacity_left s)
 

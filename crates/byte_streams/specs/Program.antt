@@ -36,9 +36,9 @@ IsOutput IsFine IsFound IsFault bytes Refused text =
     (fault : TextFault) × IsRefusedFor IsFault bytes fault × (text ≡ refusal_text fault)
 IsOutput IsFine IsFound IsFault bytes status text = ⊥
 
--- A program with these outputs has ended with a status: where a read failed or memory was wanted,
--- nothing is written; else the output of what was read is written, or a prefix of it where a write
--- failed.
+-- A program with the outputs `IsOne` has ended with this status. Either the status is `ReadFault`
+-- or `NoMemory`, and nothing is written; or the output of the bytes that were read is written with
+-- its status, or a prefix of it where a write failed.
 abbrev pub Ends : (List ℕ → Status → List ℕ → Type 0) → Status → Option (List ℕ) → Option (List ℕ)
     → Option (List ℕ)
     → Option (List ℕ) → Type 0

@@ -3,7 +3,7 @@ use Rattle.std.specs.Prelude.{ℕ}
 use Rattle.byte_streams.specs.declared.status.Status.{Status}
 use Rattle.byte_streams.specs.declared.status.Status.TheVariants.{Fine, Found, Usage, Refused, ReadFault, WriteFault, NoMemory}
 
--- The code of a status.
+-- The exit code of a status.
 abbrev pub code_of : Status → ℕ
 code_of Fine = 0
 code_of Found = 1

@@ -5,8 +5,10 @@ use Rattle.byte_streams.specs.declared.status.Status.{Status}
 use Rattle.byte_streams.specs.declared.status.Status.TheVariants.{ReadFault, WriteFault, NoMemory}
 use Rattle.byte_streams.specs.Told.{AppendsPart}
 
--- A call that writes one of these outputs, and reads nothing, has ended with a status: what it
--- wrote, after the bytes that the sink had taken.
+-- A call that writes one of the outputs `IsOne`, and reads nothing, has ended with this status.
+-- With `NoMemory` the sink has taken nothing more. With `WriteFault` it has taken a prefix of an
+-- output's text, and not all of it. With any other status it has taken the text of an output of
+-- this status.
 abbrev pub EndsWriting : (Status → List ℕ → Type 0) → Status → Option (List ℕ)
     → Option (List ℕ) → Type 0
 EndsWriting IsOne ReadFault taken taken' = ⊥

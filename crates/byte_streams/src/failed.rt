@@ -15,7 +15,7 @@ pub enum ReadAllError {
     /// A read failed.
     #[error("a read failed")]
     Fault,
-    /// Memory was wanted.
+    /// Memory was lacking.
     #[error("out of memory")]
     NoMemory,
 }

@@ -10,9 +10,9 @@ use book_base::NoMemory;
 use std::alloc::Global;
 use std::marker::Model;
 
-/// A sink in memory with a fixed capacity, which fails at the calls that it is given, and takes a
-/// limited number of bytes at a time. The capacity is taken when the sink is made, so that no write
-/// takes memory.
+/// A sink in memory with a fixed capacity. It fails at the calls whose numbers it is given, and
+/// takes a limited number of bytes at a time. Memory for its capacity is taken when the sink is
+/// made, so that no write takes memory.
 #[derive(Debug, Drop)]
 pub struct MemorySink {
     bytes: Vec<u8>,
@@ -46,8 +46,8 @@ impl MemorySink {
     ) -> Result<MemorySink, NoMemory>
         // A write may take at least one byte.
         requires { 1 ≤ most }
-        // The sink has taken nothing and counted no call and no fault, and has this capacity, these
-        // failing calls and this bound.
+        // The sink has taken nothing and counted no call and no fault, and has the capacity `room`,
+        // the failing calls `fails` and the bound `most`.
         ensures { IfOk result (λ sink. sink ≡ record {
           taken = [];
           room = room;
@@ -104,7 +104,7 @@ impl Sink for MemorySink {
         // A failed write takes nothing, and counts as a call and as a fault.
         ensures failed { OnErr result (self.new ≡ after_failed_write self.old) }
 
-        // A write takes as many bytes as the piece, the bound and the capacity left allow.
+        // A write takes as many bytes as the piece, `most` and the capacity left allow.
         ensures count { IfOk result (λ count. count ≡ taken_count self.old (length piece.now)) }
         // A write takes the first bytes of the piece, as many as are answered, and counts as a
         // call.

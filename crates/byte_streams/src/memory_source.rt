@@ -8,8 +8,8 @@ use crate::pieces::fill;
 use crate::source::Source;
 use std::marker::Model;
 
-/// A source in memory that fails at the calls that it is given, and gives a limited number of bytes
-/// at a time.
+/// A source in memory. It fails at the calls whose numbers it is given, and gives a limited number
+/// of bytes at a time.
 #[derive(Debug, Drop)]
 pub struct MemorySource {
     bytes: Vec<u8>,
@@ -37,8 +37,8 @@ impl MemorySource {
     pub fn new(bytes: Vec<u8>, fails: Vec<u64>, most: usize) -> MemorySource
         // A read may give at least one byte.
         requires { 1 ≤ most }
-        // The source has all of the bytes left, has counted no call and no fault, and has these
-        // failing calls and this bound.
+        // The source has all of `bytes` left, has counted no call and no fault, and has the failing
+        // calls `fails` and the bound `most`.
         ensures { result ≡
             record { left = bytes.items; fails = fails.items; most = most; calls = 0; faults = 0 } }
     {
@@ -61,8 +61,8 @@ impl Source for MemorySource {
     fn read(&mut self, piece: &mut [u8]) -> Result<usize, Failed>
         // A read gives no more bytes than the piece has.
         ensures bound { IfOk result (λ count. count ≤ length piece.old) }
-        // The source has lost the bytes that are given to the piece, which are none only at its end
-        // or of an empty piece; a failed read loses none.
+        // The bytes that are given to the piece are taken off the source. A read gives none only at
+        // the source's end or to an empty piece, and a failed read takes none off.
         ensures bytes { ReadConsumes (Some self.old.left) (Some self.new.left) result piece.new }
         // The source's count of faults is at least what it was before.
         ensures later { self.old.faults ≤ self.new.faults }
@@ -76,7 +76,7 @@ impl Source for MemorySource {
         // A failed read gives nothing, and counts as a call and as a fault.
         ensures failed { OnErr result (self.new ≡ after_failed_read self.old) }
 
-        // A read gives as many bytes as the piece, the bound and the bytes left allow.
+        // A read gives as many bytes as the piece, `most` and the bytes left allow.
         ensures count { IfOk result (λ count. count ≡ given_count self.old (length piece.old)) }
         // The piece begins with the bytes that are given, and is as before after them.
         ensures given { IfOk result

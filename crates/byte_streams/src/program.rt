@@ -39,10 +39,11 @@ pub trait TextProgram {
 
     /// The answer of the program to an input, or why the input is refused.
     fn answer(&self, alloc: Global, bytes: &[u8]) -> Result<ProgramAnswer, ReadFault>
-        // The text of an answer is one to this input with the answer's status.
+        // The answer's text is one that the program may answer, with the answer's status, to this
+        // input.
         ensures told { IfOk result
             (IsAnswer (is_fine self.now bytes.now) (is_found self.now bytes.now)) }
-        // A refusal has a fault that the input is refused for, or says want of memory.
+        // An error is a fault for which the input is refused, or want of memory.
         ensures refused { IfErr result (IsFaultOf (is_fault self.now bytes.now)) };
 }
 
@@ -54,9 +55,8 @@ pub fn run_program<P: TextProgram, S: Source, K: Sink>(
     source: &mut S,
     sink: &mut K,
 ) -> Status
-    // The output of what was read is written with its status, or a prefix of it where a write
-    // failed; or the status is that a read failed or that memory was wanted, and nothing is
-    // written.
+    // Either the output for the bytes that were read is written with its status, or a prefix of it
+    // where a write failed; or the status is `ReadFault` or `NoMemory`, and nothing is written.
     ensures ends { Ends
         (IsOutput (P.is_fine program.now) (P.is_found program.now) (P.is_fault program.now)) result
         (S.left source.old) (S.left source.new) (K.taken sink.old) (K.taken sink.new) }
@@ -78,7 +78,8 @@ pub fn run_program<P: TextProgram, S: Source, K: Sink>(
     }
 }
 
-// Writes the output for the bytes read, where there is memory for the output.
+// Writes the output of a program for the bytes that were read. Where memory for the output is
+// lacking, nothing is written.
 fn write_output<P: TextProgram, K: Sink>(
     program: &P,
     alloc: Global,
@@ -105,7 +106,7 @@ struct Output {
     text: Vec<u8>,
 }
 
-// The output for the bytes read.
+// The output of a program for the bytes that were read.
 fn output_for<P: TextProgram>(program: &P, alloc: Global, bytes: &[u8]) -> Result<Output, NoMemory>
     ensures { IfOk result (λ output.
         IsOutput (P.is_fine program.now) (P.is_found program.now) (P.is_fault program.now) bytes.now
@@ -128,7 +129,7 @@ fn output_for<P: TextProgram>(program: &P, alloc: Global, bytes: &[u8]) -> Resul
     }
 }
 
-// The answer to an input that isn't too long.
+// The answer of a program to an input, which is refused where it is longer than `INPUT_LIMIT`.
 fn answer_within<P: TextProgram>(
     program: &P,
     alloc: Global,

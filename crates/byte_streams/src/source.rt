@@ -17,8 +17,8 @@ pub trait Source {
     fn read(&mut self, piece: &mut [u8]) -> Result<usize, Failed>
         // A read gives no more bytes than the piece has.
         ensures bound { IfOk result (λ count. count ≤ length piece.old) }
-        // The source has lost the bytes that are given to the piece, which are none only at its end
-        // or of an empty piece; a failed read loses none.
+        // The bytes that are given to the piece are taken off the source. A read gives none only at
+        // the source's end or to an empty piece, and a failed read takes none off.
         ensures bytes { ReadConsumes (left self.old) (left self.new) result piece.new }
         // The source's count of faults is at least what it was before.
         ensures later { faults self.old ≤ faults self.new }

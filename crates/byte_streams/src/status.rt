@@ -15,14 +15,14 @@ pub enum Status {
     ReadFault,
     /// A write failed. A prefix of the output may have been written.
     WriteFault,
-    /// Memory was wanted. Nothing was written.
+    /// Memory was lacking. Nothing was written.
     NoMemory,
 }
 
 impl Status {
     ghost use Rattle.byte_streams.specs.Status.{code_of};
 
-    /// The status as the system sees it.
+    /// The exit code of the status.
     pub fn code(self) -> u8
         ensures { result ≡ code_of self }
     {

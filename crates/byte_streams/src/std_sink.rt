@@ -5,8 +5,8 @@ use crate::sink::Sink;
 use std::io;
 use std::io::{Printer, Write};
 
-/// A writer, with a count of the writes that failed. It tells its bytes where its writer tells
-/// them.
+/// A sink over a writer. It counts the writes that failed, or that took nothing of a piece that
+/// isn't empty. It tells the bytes that it has taken where the writer tells them.
 #[derive(Debug, Drop)]
 pub struct StdSink<W> {
     output: W,

@@ -4,8 +4,8 @@ use crate::failed::Failed;
 use crate::source::Source;
 use std::io::Read;
 
-/// Standard input, with a count of the reads that failed. It tells its bytes where its reader tells
-/// them.
+/// A source over standard input, which counts the reads that failed. It tells the bytes that are
+/// left where its reader tells them.
 #[derive(Debug, Drop)]
 pub struct StdSource<I> {
     input: I,

@@ -13,8 +13,8 @@ use std::alloc::Global;
 /// The greatest number of bytes that one read asks for.
 const PIECE: usize = 4096;
 
-/// Reads once, into the piece, and appends what was read. The answer is how many bytes these are: 0
-/// at the end of input.
+/// Reads once, into the piece, and appends the bytes that were read to `bytes`. The answer is how
+/// many were read: 0 only at the end of input.
 fn read_more<S: Source>(
     source: &mut S,
     bytes: &mut Vec<u8>,
@@ -40,14 +40,14 @@ fn read_more<S: Source>(
 
 /// Reads a source to its end, or until one byte more than [`INPUT_LIMIT`] was read.
 pub fn read_all<S: Source>(alloc: Global, source: &mut S) -> Result<Vec<u8>, ReadAllError>
-    // The answer is the bytes that the source had, or the first `INPUT_LIMIT` + 1 of them where it
-    // had more, and these are read.
+    // The answer is all bytes that the source had, or the first `INPUT_LIMIT` + 1 of them where it
+    // had more. The source has the other bytes left.
     ensures read { IfOk result
         (λ bytes. HasRead (S.left source.old) (S.left source.new) bytes.items) }
     // At most `INPUT_LIMIT` + 1 bytes are answered.
     ensures bound { IfOk result (λ bytes. length bytes.items ≤ INPUT_LIMIT + 1) }
 
-    // After an error, the bytes that are left are a suffix of those that were left.
+    // After an error the source has a suffix of its bytes left.
     ensures err { OnErr result
         ((given : List ℕ) × Consumes (S.left source.old) (S.left source.new) given) }
     // The source's count of faults is at least what it was before.
@@ -93,7 +93,7 @@ pub fn write_all<K: Sink>(sink: &mut K, text: &[u8]) -> Result<(), Failed>
     Ok(())
 }
 
-/// Writes a text, and answers its status where the sink took all of it.
+/// Writes a text, and answers `status` where the sink took all of it, and else `WriteFault`.
 pub fn write_text<K: Sink>(sink: &mut K, status: Status, text: &[u8]) -> Status
     // The status is answered where the sink took the whole text; `WriteFault` is answered where the
     // sink took a prefix of it, and its count of faults rose.

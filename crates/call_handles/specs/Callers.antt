@@ -1,5 +1,4 @@
--- The handle of a caller: its parts, when these belong together, and what becomes of it by its
--- calls.
+-- The handle of a caller: its parts, when it is sound, and what becomes of it by its calls.
 use Rattle.std.specs.Prelude.{◌≡◌, ℕ, ◌<◌, false, List, Option}
 use Rattle.std.specs.Arc.{arc_value}
 use Rattle.book_base.specs.declared.call.Record.{Record}
@@ -44,7 +43,7 @@ rows_of h = arc_value h.kept.rows
 abbrev pub kind_of : CallerHandle → Kind
 kind_of h = h.kept.kind
 
--- Between which of its calls a handle is.
+-- Where the caller of a handle is: between two calls, in an announced call, or halted after one.
 abbrev pub stage_of : CallerHandle → HandleStage
 stage_of h = h.stage
 
@@ -55,9 +54,9 @@ caller_in (Announced call) = caller_announced call
 caller_in (Wrong w) = w.caller
 caller_in (Unjudged c) = c
 
--- The caller of a handle in this stage is one of these rows and is as the stage says; between two
--- calls, and while a call is announced, the kept book is one that this caller gathered; and the
--- book of an error has no legal order.
+-- A handle in this stage has a caller of these rows, who is free in the stage `Idle`. In the stages
+-- `Idle` and `Announced` the kept book, if there is one, was gathered by this caller. In the stage
+-- `Wrong` the book of the error has no legal order.
 abbrev pub IsSoundAt : Rows Outside → Kind → Option Gathered → HandleStage → Type 0
 IsSoundAt r kind gathered (Idle c) = IsCallerOf every_reply r c × IsFree c
     × IsGatheredBy (local_with c) gathered
@@ -67,12 +66,13 @@ IsSoundAt r kind gathered (Wrong w) = IsCallerOf every_reply r w.caller
     × ¬ HasLegalOrder (kind_spec kind) w.book
 IsSoundAt r kind gathered (Unjudged c) = IsCallerOf every_reply r c
 
--- The kept order of a handle stands, for the handle's kind, in its kept book.
+-- The kept order of a handle stands in its kept book, judged by the handle's kind.
 abbrev pub KeepsStanding : KeptByHandle → Type 0
 KeepsStanding kept =
     OrderStandsIn (kind_spec kept.kind) kept.gathered kept.standing
 
--- The parts of a handle belong together.
+-- A caller's handle is sound: its caller is as its stage says, with the kept book, and its kept
+-- order stands in that book.
 abbrev pub IsSoundCaller : CallerHandle → Type 0
 IsSoundCaller h = IsSoundAt (rows_of h) h.kept.kind h.kept.gathered h.stage × KeepsStanding h.kept
 

@@ -5,7 +5,8 @@ use Rattle.call_handles.specs.Callers.{IsSoundCaller}
 use Rattle.call_handles.specs.Monitors.{IsSoundMonitor}
 use Rattle.call_handles.specs.Tables.{IsSoundTable}
 
--- The parts of a handle belong together: those of the table, of the caller or of the monitor.
+-- A handle is sound where the table's, the caller's or the monitor's handle in it is. A spare
+-- handle is sound.
 abbrev pub IsSound : Handle → Type 0
 IsSound Spare = Unit {0}
 IsSound (Table t) = IsSoundTable t

@@ -1,5 +1,4 @@
--- The handle of a monitor: its parts, when these belong together, and what becomes of it by its
--- rounds.
+-- The handle of a monitor: its parts, when it is sound, and what becomes of it by its rounds.
 use Rattle.std.specs.Prelude.{◌≡◌, ℕ, List, None, Some, IfSome}
 use Rattle.std.specs.Arc.{arc_value}
 use Rattle.book_base.specs.Book.{Page}
@@ -41,9 +40,8 @@ monitor_in h = h.monitor
 abbrev pub IsLegalFor : MonitorHandle → List Page → Type 0
 IsLegalFor h book = HasLegalOrder (kind_spec h.kind) book
 
--- The parts of a monitor's handle belong together: the monitor is one of its rows and of its board,
--- the kept order stands in the book that the monitor keeps, and the book of a witness has no legal
--- order.
+-- A monitor's handle is sound: the monitor belongs to the handle's rows and board, the kept order
+-- stands in the book that the monitor keeps, and the book of a witness has no legal order.
 pub record IsSoundMonitor (h : MonitorHandle) : Type 0 where
   pub of : IsMonitorOf every_reply (rows_watched h) h.monitor
   pub on : IsOn h.board h.monitor
@@ -54,11 +52,11 @@ pub record IsSoundMonitor (h : MonitorHandle) : Type 0 where
 abbrev pub IsOfSameWatch : MonitorHandle → MonitorHandle → Type 0
 IsOfSameWatch h k = (rows_watched k ≡ rows_watched h) × (kind_watched k ≡ kind_watched h)
 
--- The monitor has found no illegal round.
+-- The monitor has made no illegal round.
 abbrev pub MayJudge : MonitorHandle → Type 0
 MayJudge h = own_of h.monitor ≡ None
 
--- The monitor has found an illegal round.
+-- The monitor has made an illegal round, whose book is its witness.
 abbrev pub HasFoundWrong : MonitorHandle → Type 0
 HasFoundWrong h = (w : Witness) × (own_of h.monitor ≡ Some w)
 

@@ -7,12 +7,14 @@ use Rattle.call_handles.specs.declared.handed.HandedPass.{HandedPass}
 abbrev pub caller_of : HandedPass → ℕ
 caller_of pass = pass.caller
 
--- The call of this operation, if there is one, with the reply that was handed in.
+-- The told list of a pass for this reply: an operation with the reply, or no pair where there is no
+-- operation.
 abbrev pub pairs_for : ℕ → Option ℕ → List (ℕ × ℕ)
 pairs_for reply None = []
 pairs_for reply (Some op) = (op, reply) ∷ []
 
--- The call that was asked with a pass, if one was, with the reply that was handed in.
+-- The told list of a pass: the operation of its call with the reply that was handed in; no pair
+-- where no call was made with the pass.
 abbrev pub pairs_in : HandedPass → List (ℕ × ℕ)
 pairs_in pass = pairs_for pass.reply pass.asked
 

@@ -1,4 +1,4 @@
--- The handle of a table: its parts, when these belong together, and which callers it gives.
+-- The handle of a table: its parts, when it is sound, and which callers it gives.
 use Rattle.std.specs.Prelude.{◌≡◌, ℕ, ◌<◌, ◌≤◌, None, Some}
 use Rattle.std.specs.Arc.{arc_value}
 use Rattle.world_core.specs.declared.program.Outside.{Outside}
@@ -28,15 +28,15 @@ kind_in t = t.kind
 abbrev pub next_of : TableHandle → ℕ
 next_of t = t.next
 
--- The parts of a table's handle belong together: its bench is that of its rows, and has each caller
--- that wasn't given, as a caller is at the start.
+-- A table's handle is sound: its bench is a bench of its rows, and has each caller that wasn't
+-- given, as a caller is at the start.
 pub record IsSoundTable (t : TableHandle) : Type 0 where
   pub bench : IsBenchOf every_reply (rows_in t) t.bench
   pub few : t.next ≤ (rows_in t).callers
   pub fresh_from : (i : ℕ) → t.next ≤ i → i < (rows_in t).callers
       → (on_bench t.bench i ≡ Some fresh) × (stance_on t.bench i ≡ Some ready)
 
--- The handle u is of the table of t, and gives the caller of this number next.
+-- The handle u is t after a step: it has the rows and the kind of t, and gives caller n next.
 abbrev pub GivesNext : ℕ → TableHandle → TableHandle → Type 0
 GivesNext n t u = (rows_in u ≡ rows_in t) × (kind_in u ≡ kind_in t) × (next_of u ≡ n)
 

@@ -9,8 +9,8 @@ use std::marker::Brand;
 use std::sync::ledger::{Blank, Ledger};
 use world_core::{Outside, Program};
 
-// Announces a call of a caller that is free and has a call left. It makes a counter of steps for
-// this.
+// Announces a call of a caller that is free and has a call left. The steps are counted by a counter
+// that is made from `blank`.
 fn announce_counted<L: Ledger>(rows: &Rows, caller: Caller, op: OpWord, blank: Blank) -> Announced
     requires blank { (blank.name ≡ L.name) × (blank.parts ≡ L.parts) × (0 < blank.parts) }
     requires rows { IsCallerOf ⟦<Outside as Program>⟧.meaning rows.now caller }

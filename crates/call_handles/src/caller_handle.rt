@@ -40,18 +40,18 @@ pub enum CallAnswer {
 impl CallerHandle {
     ghost use Rattle.call_handles.specs.Callers.{every_reply, rows_of, kind_of, stage_of, caller_in, IsSoundCaller, IsOfSameTable, MayAnnounce, HasAnnounced, IsInError, HasBegun, HasEnded, HasPublished, IsWitnessOf};
 
-    /// The handle of a caller of this table, which is between two calls. Its calls are judged by
-    /// this kind.
+    /// The handle of a caller of the table `rows`, which is between two calls. Its calls are judged
+    /// by `kind`.
     pub fn new(rows: Arc<Rows, Global>, kind: Kind, caller: Caller) -> CallerHandle
-        // The caller is one of these rows.
+        // The caller is one of `rows`.
         requires caller { IsCallerOf every_reply (arc_value rows) caller }
         // The caller is between two calls.
         requires free { IsFree caller }
-        // The parts of the handle belong together.
+        // The handle is sound: its caller, stage and kept book fit one another.
         ensures sound { IsSoundCaller result }
-        // The handle is of this table and this kind.
+        // The handle has these rows and this kind.
         ensures table { (rows_of result ≡ arc_value rows) × (kind_of result ≡ kind) }
-        // The handle's caller is this one, between two calls.
+        // The handle's caller is `caller`, between two calls.
         ensures idle { stage_of result ≡ HandleStage.Idle caller }
     {
         CallerHandle {
@@ -68,7 +68,7 @@ impl CallerHandle {
     /// The caller of the handle, which may go back to its bench. A call that is announced stays
     /// unanswered, and then the caller is halted.
     pub fn into_caller(self) -> Caller
-        // The parts of the handle belong together.
+        // The handle is sound: its caller, stage and kept book fit one another.
         requires sound { IsSoundCaller self }
         // The caller is one of the table's rows.
         ensures caller { IsCallerOf every_reply (rows_of self) result }
@@ -100,11 +100,11 @@ impl CallerHandle {
     }
 
     /// Announces a call with this operation, where the caller is between two calls and has a call
-    /// left. The answer is whether it does; where it doesn't, the handle is as it was.
+    /// left. The answer is whether a call was announced; where none was, the handle is as it was.
     pub fn announce(self, op: OpWord) -> (CallerHandle, bool)
-        // The parts of the handle belong together.
+        // The handle is sound: its caller, stage and kept book fit one another.
         requires sound { IsSoundCaller self }
-        // The parts of the handle that comes back belong together.
+        // The handle that comes back is sound: its caller, stage and kept book fit one another.
         ensures sound { IsSoundCaller result.0 }
         // The handle that comes back is of this handle's table and kind.
         ensures same { IsOfSameTable self result.0 }
@@ -132,17 +132,17 @@ impl CallerHandle {
     /// Hands in the object's reply to the call that is announced, and judges the call. Where no
     /// call is announced there is no answer, and the handle is as it was.
     pub fn answered(self, alloc: Global, reply: u64) -> (CallerHandle, Option<CallAnswer>)
-        // The parts of the handle belong together.
+        // The handle is sound: its caller, stage and kept book fit one another.
         requires sound { IsSoundCaller self }
-        // The parts of the handle that comes back belong together.
+        // The handle that comes back is sound: its caller, stage and kept book fit one another.
         ensures sound { IsSoundCaller result.0 }
         // The handle that comes back is of this handle's table and kind.
         ensures same { IsOfSameTable self result.0 }
         // There is an answer exactly where the caller has announced a call.
         ensures when { IsSome result.1 ↔ HasAnnounced self }
         // With an answer the call has this reply, and the answer is right: delivered where the book
-        // at the cut that its caller has seen has a legal order, wrong where that book has none, or
-        // published and not judged.
+        // at the cut that its caller has seen has a legal order, illegal where that book has none,
+        // or unjudged where the call is published and nobody has judged it.
         ensures ended { IfSome result.1 (λ answer. HasEnded reply self answer result.0) }
         // Without an answer the handle is as it was.
         ensures unchanged { IfNone result.1 (result.0 ≡ self) }
@@ -161,9 +161,9 @@ impl CallerHandle {
     /// view, without a judgement. The answer is whether a call was announced; where none was, the
     /// handle is as it was.
     pub fn publish(self, reply: u64) -> (CallerHandle, bool)
-        // The parts of the handle belong together.
+        // The handle is sound: its caller, stage and kept book fit one another.
         requires sound { IsSoundCaller self }
-        // The parts of the handle that comes back belong together.
+        // The handle that comes back is sound: its caller, stage and kept book fit one another.
         ensures sound { IsSoundCaller result.0 }
         // The handle that comes back is of this handle's table and kind.
         ensures same { IsOfSameTable self result.0 }
@@ -185,9 +185,9 @@ impl CallerHandle {
         }
     }
 
-    /// The text of the book of the call that was an error, where the last call was one.
+    /// Where the last call was an error, the text of its book, which has no legal order.
     pub fn witness(&self, alloc: Global) -> Result<Option<Vec<u8>>, NoMemory>
-        // The parts of the handle belong together.
+        // The handle is sound: its caller, stage and kept book fit one another.
         requires sound { IsSoundCaller self.now }
         // There is a text exactly where the caller's last call was an error.
         ensures when { IfOk result (λ found. IsSome found ↔ IsInError self.now) }

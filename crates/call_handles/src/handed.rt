@@ -5,13 +5,15 @@ ghost use Rattle.drv_wrapper.specs.States.{caller_announced, op_announced, calle
 use book_base::OpWord;
 use drv_wrapper::{Announced, Answered, BlackBox, ObjectPass, ask};
 
-/// An object outside the library, which was asked outside: it answers the reply that was handed in.
+/// An object outside the library, as an object under test. The program has asked it already, and it
+/// answers the reply that the program has handed in.
 #[derive(Drop)]
 pub struct Handed {
     pub reply: u64,
 }
 
-/// The pass for the one call of an object outside the library. It tells the call.
+/// The pass for one call of an object outside the library. It has the reply that was handed in for
+/// this call, and once the call is made it tells the call's operation with that reply.
 #[derive(Drop)]
 pub struct HandedPass {
     pub caller: u32,
@@ -63,7 +65,7 @@ impl BlackBox for Handed {
     }
 }
 
-/// The announced call, with the reply that was handed in.
+/// The announced call, answered with the reply that was handed in.
 pub(crate) fn hand_in(announced: Announced, reply: u64) -> Answered
     ensures caller { IsSame (caller_announced announced) (caller_answered result) }
     ensures operation { op_answered result ≡ op_announced announced }

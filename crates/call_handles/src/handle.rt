@@ -3,8 +3,8 @@ use crate::monitor_handle::MonitorHandle;
 use crate::table_handle::TableHandle;
 
 /// What a program in another language holds: a table, one of its callers, or one of its monitors.
-/// `Spare` is in a box that has none of them yet: the box is taken before a caller leaves the
-/// table.
+/// `Spare` fills a box that has none of them yet: memory for the box is taken before a caller
+/// leaves its table.
 #[derive(Drop)]
 pub enum Handle {
     Spare,

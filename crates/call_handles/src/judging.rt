@@ -16,7 +16,8 @@ use std::alloc::Global;
 use std::marker::Brand;
 use std::sync::ledger::{Blank, Ledger};
 
-// Judges a call whose reply is handed in. It makes a counter of steps for this.
+// Judges a call whose reply is handed in. The steps are counted by a counter that is made from
+// `blank`.
 fn judge_counted<L: Ledger>(
     alloc: Global,
     kept: &mut KeptByHandle,
@@ -75,8 +76,8 @@ fn judge_counted<L: Ledger>(
     }
 }
 
-/// Judges a call whose reply is handed in. The answer is that of the judgement, with the stage of
-/// the call's caller afterwards.
+/// Judges a call whose reply is handed in. It answers the stage of the call's caller afterwards,
+/// and the answer to the call.
 pub(crate) fn judge_alone(
     alloc: Global,
     kept: &mut KeptByHandle,

@@ -5,9 +5,9 @@ use seq_objects::Kind;
 use std::alloc::Global;
 use std::sync::Arc;
 
-/// What the handle of a caller keeps from call to call: the table, the kind by which calls are
-/// judged, and for the next judgement the book that was gathered last, and what stands in it, for
-/// this kind, of the order that was found last.
+/// What the handle of a caller keeps from call to call: the table; the kind by which calls are
+/// judged; the book that the caller gathered last, from which the next one grows; and the kept
+/// order that stands in this book, after which the next search begins.
 #[derive(Drop)]
 pub struct KeptByHandle {
     pub rows: Arc<Rows, Global>,

@@ -1,5 +1,5 @@
-//! A table of callers and each of its callers as values, for objects outside the library: a call is
-//! announced, its reply is handed in, and the call is judged, by its caller or by monitors of the
+//! Handles for objects outside the library: a table, and each of its callers, as a value. A call is
+//! announced, its reply is handed in, and the call is judged, by its caller or by a monitor of the
 //! table.
 #![tactic(auto)]
 

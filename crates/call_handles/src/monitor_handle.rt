@@ -15,8 +15,8 @@ use std::sync::Arc;
 /// A caller of a table that makes no calls, with all that its rounds need: it judges what the
 /// others have published.
 ///
-/// It makes rounds by [`judge`](MonitorHandle::judge) until one is illegal, and has its witness
-/// then.
+/// It makes rounds by [`judge`](MonitorHandle::judge) until one is illegal. Then it has the book of
+/// that round as its witness, and makes no further round.
 #[derive(Drop)]
 pub struct MonitorHandle {
     pub(crate) rows: Arc<Rows, Global>,
@@ -42,18 +42,18 @@ impl MonitorHandle {
     ghost use Rattle.call_handles.specs.Callers.{every_reply};
     ghost use Rattle.call_handles.specs.Monitors.{rows_watched, kind_watched, monitor_in, IsSoundMonitor, IsOfSameWatch, MayJudge, HasFoundWrong, HasJudged, IsFoundWitness};
 
-    /// The handle of a caller of this table, which is between two calls, as a monitor. The monitor
-    /// judges by this kind, and has made no round. It takes no memory.
+    /// The handle of a caller of the table `rows`, which is between two calls, as a monitor. The
+    /// monitor judges by `kind`, and has made no round. It takes no memory.
     pub fn new(alloc: Global, rows: Arc<Rows, Global>, kind: Kind, caller: Caller) -> MonitorHandle
-        // The caller is one of these rows.
+        // The caller is one of `rows`.
         requires caller { IsCallerOf every_reply (arc_value rows) caller }
         // The caller is between two calls.
         requires free { IsFree caller }
-        // The parts of the handle belong together.
+        // The handle is sound: its monitor, board and kept order fit one another.
         ensures sound { IsSoundMonitor result }
-        // The handle is of this table and this kind.
+        // The handle has these rows and this kind.
         ensures table { (rows_watched result ≡ arc_value rows) × (kind_watched result ≡ kind) }
-        // The handle's monitor is this caller.
+        // The handle's monitor is `caller`.
         ensures caller { caller_of (monitor_in result) ≡ caller }
         // The handle's monitor has no witness.
         ensures nothing { own_of (monitor_in result) ≡ None }
@@ -80,12 +80,12 @@ impl MonitorHandle {
     }
 
     /// Makes a round, where no earlier one was illegal: scans M, and judges the book at the scan's
-    /// cut. After an illegal round there is no answer, and the handle is as it was. Where memory
-    /// was wanted, the monitor may make a further round.
+    /// cut. After an illegal round there is no answer, and the handle is as it was. After a round
+    /// that lacked memory the monitor may make a further one.
     pub fn judge(self, alloc: Global) -> (MonitorHandle, Option<Judgement>)
-        // The parts of the handle belong together.
+        // The handle is sound: its monitor, board and kept order fit one another.
         requires sound { IsSoundMonitor self }
-        // The parts of the handle that comes back belong together.
+        // The handle that comes back is sound: its monitor, board and kept order fit one another.
         ensures sound { IsSoundMonitor result.0 }
         // The handle that comes back is of this handle's table and kind.
         ensures same { IsOfSameWatch self result.0 }
@@ -104,9 +104,9 @@ impl MonitorHandle {
         (handle, Some(found))
     }
 
-    /// The text of the book of the illegal round, where there was one.
+    /// Where a round was illegal, the text of its book, which has no legal order.
     pub fn witness(&self, alloc: Global) -> Result<Option<Vec<u8>>, NoMemory>
-        // The parts of the handle belong together.
+        // The handle is sound: its monitor, board and kept order fit one another.
         requires sound { IsSoundMonitor self.now }
         // There is a text exactly where the monitor has made an illegal round.
         ensures when { IfOk result (λ found. IsSome found ↔ HasFoundWrong self.now) }

@@ -13,8 +13,8 @@ use std::marker::Brand;
 use std::sync::ledger::{Blank, Ledger};
 use world_core::{Outside, Program};
 
-/// Takes an announced call whose reply is handed in up to its judgement: takes the view, publishes
-/// the reply and the view, and sees a cut of the published records.
+/// Brings an announced call whose reply is handed in to where it is to be judged: takes the view,
+/// publishes the reply and the view, and sees a cut of the published records.
 pub(crate) fn publish_reply<L: Ledger>(
     rows: &Rows,
     announced: Announced,
@@ -32,8 +32,8 @@ pub(crate) fn publish_reply<L: Ledger>(
     seen(published, rows, steps)
 }
 
-// Publishes a call whose reply is handed in, and judges nothing. It makes a counter of steps for
-// this.
+// Publishes a call whose reply is handed in, and judges nothing. The steps are counted by a counter
+// that is made from `blank`.
 fn publish_counted<L: Ledger>(rows: &Rows, call: Announced, reply: u64, blank: Blank) -> Caller
     requires blank { (blank.name ≡ L.name) × (blank.parts ≡ L.parts) × (0 < blank.parts) }
     requires rows { IsCallerOf ⟦<Outside as Program>⟧.meaning rows.now (caller_announced call) }

@@ -9,7 +9,7 @@ use std::alloc::Global;
 use std::marker::Brand;
 use std::sync::ledger::{Blank, Ledger};
 
-// Makes a round of a monitor. It makes a counter of steps for this.
+// Makes a round of a monitor. The steps are counted by a counter that is made from `blank`.
 fn round_counted<L: Ledger>(alloc: Global, handle: &mut MonitorHandle, blank: Blank) -> Judgement
     requires blank { (blank.name ≡ L.name) × (blank.parts ≡ L.parts) × (0 < blank.parts) }
     requires sound { IsSoundMonitor handle.old }

@@ -2,7 +2,7 @@ use book_base::{Book, Cut};
 use drv_wrapper::Announced;
 use row_table::Caller;
 
-/// Between which of its calls the caller of a handle is.
+/// Where the caller of a handle is: between two calls, in an announced call, or halted after one.
 #[derive(Drop)]
 pub enum HandleStage {
     /// The caller is between two calls.
@@ -11,7 +11,7 @@ pub enum HandleStage {
     Announced(Announced),
     /// The last call was an error, and the caller is halted.
     Wrong(Wrong),
-    /// The last call wasn't judged for want of memory, and the caller is halted.
+    /// The last call was left unjudged for want of memory, and the caller is halted.
     Unjudged(Caller),
 }
 

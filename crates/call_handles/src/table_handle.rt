@@ -16,7 +16,7 @@ use world_core::Outside;
 /// A table, which gives the handles of its callers one by one, each to make calls or as a monitor.
 /// All of them judge by one kind.
 ///
-/// The table is freed with the last of these handles and its own.
+/// The table's memory is freed when its own handle and all handles that it gave are dropped.
 #[derive(Drop)]
 pub struct TableHandle {
     pub(crate) rows: Arc<Rows, Global>,
@@ -30,7 +30,8 @@ impl TableHandle {
     ghost use Rattle.call_handles.specs.Monitors.{IsSoundMonitor};
     ghost use Rattle.call_handles.specs.Tables.{rows_in, kind_in, next_of, IsSoundTable, GivesNext, IsFreshOf, IsFreshMonitorOf};
 
-    /// A table for this many callers with this many calls each.
+    /// Opens a table for `callers` callers with at most `calls` calls each, which are judged by
+    /// `kind`.
     pub fn open(
         alloc: Global,
         kind: Kind,
@@ -45,12 +46,12 @@ impl TableHandle {
         requires some_calls { 1 ≤ calls }
         // Each caller has at most 256 calls.
         requires few_calls { calls ≤ MAX_CALLS }
-        // The parts of the handle belong together.
+        // The handle is sound: its parts fit one another.
         ensures sound { IfOk result IsSoundTable }
-        // The table has this many callers, with this many calls each.
+        // The table has `callers` callers, with `calls` calls each.
         ensures sized { IfOk result (λ t.
             ((rows_in t).callers ≡ callers) × ((rows_in t).cap ≡ calls)) }
-        // The table is of this kind.
+        // The table judges by this kind.
         ensures kind { IfOk result (λ t. kind_in t ≡ kind) }
         // The table gives its first caller next.
         ensures first { IfOk result (λ t. next_of t ≡ 0) }
@@ -65,12 +66,12 @@ impl TableHandle {
         })
     }
 
-    /// The handle of the next caller, while there is one. Where memory is wanted, the table is as
-    /// it was.
+    /// The handle of the table's next caller, or `None` where the table has given all its callers.
+    /// Where memory is lacking, the table is as it was.
     pub fn caller(&mut self) -> Result<Option<CallerHandle>, NoMemory>
-        // The parts of the table belong together.
+        // The table is sound: its bench holds each caller that wasn't given, unused.
         requires sound { IsSoundTable self.old }
-        // The parts of the table still belong together.
+        // The table is still sound: its bench holds each caller that wasn't given, unused.
         ensures sound { IsSoundTable self.new }
         // There is no handle exactly where the table has given all its callers.
         ensures when { IfOk result
@@ -78,10 +79,10 @@ impl TableHandle {
         // The handle is of the table's next caller, which has made no call.
         ensures given { IfOk result
             (λ found. IfSome found (IsFreshOf self.old (next_of self.old))) }
-        // The parts of the handle belong together.
+        // The handle is sound: its parts fit one another.
         ensures given_sound { IfOk result (λ found. IfSome found IsSoundCaller) }
-        // Where a handle is answered, the table is still this one, and gives the caller after this
-        // one next.
+        // Where a handle is answered, the table has its rows and its kind as before, and the number
+        // of the caller that it gives next is one more.
         ensures next { IfOk result (λ found. IfSome found (λ _.
             GivesNext (next_of self.old + 1) self.old self.new)) }
         // Without a handle the table's handle is as it was.
@@ -97,12 +98,12 @@ impl TableHandle {
         Ok(Some(CallerHandle::new(rows, self.kind, caller)))
     }
 
-    /// The handle of the next caller as a monitor, while there is one. Where memory is wanted, the
-    /// table is as it was.
+    /// The handle of the table's next caller as a monitor, or `None` where the table has given all
+    /// its callers. Where memory is lacking, the table is as it was.
     pub fn monitor(&mut self, alloc: Global) -> Result<Option<MonitorHandle>, NoMemory>
-        // The parts of the table belong together.
+        // The table is sound: its bench holds each caller that wasn't given, unused.
         requires sound { IsSoundTable self.old }
-        // The parts of the table still belong together.
+        // The table is still sound: its bench holds each caller that wasn't given, unused.
         ensures sound { IsSoundTable self.new }
         // There is no handle exactly where the table has given all its callers.
         ensures when { IfOk result
@@ -110,10 +111,10 @@ impl TableHandle {
         // The handle is of the table's next caller as a monitor, which has made no round.
         ensures given { IfOk result
             (λ found. IfSome found (IsFreshMonitorOf self.old (next_of self.old))) }
-        // The parts of the handle belong together.
+        // The handle is sound: its parts fit one another.
         ensures given_sound { IfOk result (λ found. IfSome found IsSoundMonitor) }
-        // Where a handle is answered, the table is still this one, and gives the caller after this
-        // one next.
+        // Where a handle is answered, the table has its rows and its kind as before, and the number
+        // of the caller that it gives next is one more.
         ensures next { IfOk result (λ found. IfSome found (λ _.
             GivesNext (next_of self.old + 1) self.old self.new)) }
         // Without a handle the table's handle is as it was.

@@ -7,21 +7,23 @@ use Rattle.sketch.specs.declared.event.Event.{Event}
 use Rattle.sketch.specs.declared.event.Event.TheVariants.{Invoke, Return}
 use Rattle.call_intervals.specs.declared.interval.Interval.{Interval}
 
--- an event stands in a list, from this place on
+-- an event stands in a list, at the place `from` or later
 abbrev pub StandsFrom : List Event → ℕ → Event → Type 0
 StandsFrom events from event = (place : ℕ) × (from ≤ place) × (slice_get events place ≡ Some event)
 
--- the next call of the same caller
+-- the call that comes after a call among those of its caller
 abbrev pub next_of : Call → Call
 next_of call = record call { number = call.number + 1 }
 
--- An interval agrees with the events of a book on its call.
+-- An interval is that of its call in a list of a book's events: it begins with the call's
+-- invocation, and ends after the call's return, or, where the call is unanswered, where the next
+-- call of its caller is invoked, or after all events.
 pub record IsIntervalOf (book : List Page) (events : List Event)
     (interval : Interval) : Type 0 where
-  -- its call is one of the book's, and it begins where the call is invoked
+  -- the interval's call is a call of the book, and the interval begins where this call is invoked
   pub call : IsCall book interval.call
   pub begins : slice_get events interval.begin ≡ Some (Invoke interval.call)
-  -- it is open exactly where its call is unanswered
+  -- the interval is open exactly where its call is unanswered
   pub open_is : IsTrue interval.is_open ↔ ¬ (IsAnswered book interval.call)
   -- the interval of an answered call ends one place after the call's return
   pub returns : IsAnswered book interval.call → (place : ℕ) × (interval.end ≡ place + 1)
@@ -33,7 +35,7 @@ pub record IsIntervalOf (book : List Page) (events : List Event)
   pub goes_on : ¬ (IsAnswered book interval.call) → ¬ (IsCall book (next_of interval.call))
       → interval.end ≡ length events
 
--- The lane has the interval of each call of a caller, by number.
+-- A lane has the interval of each call of a caller, by number.
 pub record IsLaneOf (book : List Page) (events : List Event) (caller : ℕ)
     (lane : List Interval) : Type 0 where
   pub calls : (number : ℕ) → (number < length lane)
@@ -57,7 +59,7 @@ abbrev pub StandOnTheirLanes : List (List Interval) → Type 0
 StandOnTheirLanes lanes = (caller place : ℕ) (interval : Interval)
     → StandsOn lanes caller place interval → interval.call.caller ≡ caller
 
--- A call has exactly one interval.
+-- A call has exactly one interval on the lanes.
 pub record HasOneInterval (lanes : List (List Interval)) (call : Call) : Type 0 where
   pub caller : ℕ
   pub place : ℕ
@@ -67,11 +69,11 @@ pub record HasOneInterval (lanes : List (List Interval)) (call : Call) : Type 0 
   pub only : (i k : ℕ) (other : Interval) → StandsOn lanes i k other → other.call ≡ call
       → (i ≡ caller) × (k ≡ place)
 
--- Each call of a book has exactly one interval.
+-- Each call of a book has exactly one interval on the lanes.
 abbrev pub HaveOneEach : List Page → List (List Interval) → Type 0
 HaveOneEach book lanes = (call : Call) → IsCall book call → HasOneInterval lanes call
 
--- Each interval on the lanes agrees with the events of a book on its call.
+-- Each interval on the lanes begins and ends as its call does in a list of the book's events.
 abbrev pub AreTold : List Page → List Event → List (List Interval) → Type 0
 AreTold book events lanes = (caller place : ℕ) (interval : Interval)
     → StandsOn lanes caller place interval → IsIntervalOf book events interval

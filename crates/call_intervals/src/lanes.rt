@@ -30,7 +30,8 @@ pub fn call_lanes(
     // Each call of the book has exactly one interval.
     ensures once { IfOk result (λ lanes. HaveOneEach book.now (rows_of lanes.items)) }
 
-    // Each interval agrees with the sketch on where its call is invoked and returns.
+    // Each interval begins where the sketch has its call's invocation, and ends after its return
+    // or, where the call is unanswered, at the next invocation of its caller or after all events.
     ensures told { IfOk result (λ lanes. AreTold book.now events.now (rows_of lanes.items)) }
     // Each interval has at least one place, and ends no later than the events.
     ensures within { IfOk result (λ lanes. LieWithin events.now (rows_of lanes.items)) }
@@ -70,7 +71,7 @@ fn lane(
     Ok(lane)
 }
 
-// The interval of a call that is invoked at this place or later.
+// The interval of a call that is invoked at the place `from` or later.
 fn interval_from(book: &Book, events: &[Event], from: usize, call: Call) -> Interval
     requires valid { IsValid book.now }
     requires sketch { IsSketch book.now events.now }
@@ -94,7 +95,7 @@ fn interval_from(book: &Book, events: &[Event], from: usize, call: Call) -> Inte
     }
 }
 
-// Where the interval of an unanswered call ends, which is invoked at this place.
+// The end of the interval of an unanswered call that is invoked at the place `begin`.
 fn open_end(book: &Book, events: &[Event], begin: usize, call: Call) -> usize
     requires sketch { IsSketch book.now events.now }
     requires call { IsCall book.now call }

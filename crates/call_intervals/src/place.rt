@@ -3,7 +3,7 @@ ghost use Rattle.call_intervals.specs.Intervals.{StandsFrom};
 
 use sketch::Event;
 
-/// The place where an event is in a list, from this place on.
+/// The first place, from the place `from` on, at which an event stands in a list.
 pub(crate) fn place_from(events: &[Event], from: usize, event: Event) -> usize
     requires { StandsFrom events.now from event }
     ensures stands { slice_get events.now result ≡ Some event }

@@ -1,5 +1,5 @@
--- Where bytes stop being the beginning of a certificate's text: the first fault, by what texts
--- begin with.
+-- The place of the first fault of bytes that are to be a certificate's text: the first line such
+-- that no text of a certificate begins with the lines up to it.
 use Rattle.std.specs.Prelude.{◌≡◌, ◌≢◌, ◌⊎◌, ◌+◌, ℕ, List, [], ◌∷◌, ◌++◌, Some}
 use Rattle.book_base.specs.declared.call.Place.{Place}
 use Rattle.book_base.specs.declared.fault.TextFault.{TextFault}
@@ -21,8 +21,8 @@ abbrev pub BeginsNoText : List ℕ → Type 0
 BeginsNoText prefix = (kind : Kind) (book : List Page) (order : List Place) (more : List ℕ)
     → ¬ (IsCertificateText (prefix ++ more) kind book order)
 
--- After the first whole lines comes one more whole line, and no text of a certificate begins with
--- all of these lines.
+-- After `prefix` comes one more whole line, and no text of a certificate begins with `prefix` and
+-- this line; the fault is neither `Cut` nor `Rest`.
 pub record BreaksText (prefix rest : List ℕ) (what : What) : Type 0 where
   pub named : (what ≢ Cut) × (what ≢ Rest)
   pub line : List ℕ
@@ -30,7 +30,7 @@ pub record BreaksText (prefix rest : List ℕ) (what : What) : Type 0 where
   pub whole : cut_at 10 rest ≡ Some (line, suffix)
   pub none : BeginsNoText (prefix ++ (line ++ 10 ∷ []))
 
--- The first whole lines are a whole text of a certificate already, and bytes follow.
+-- `prefix` is a whole text of a certificate already, and bytes follow it; the fault is `Rest`.
 pub record GoesOn (prefix rest : List ℕ) (what : What) : Type 0 where
   pub named : what ≡ Rest
   pub kind : Kind
@@ -39,9 +39,9 @@ pub record GoesOn (prefix rest : List ℕ) (what : What) : Type 0 where
   pub text : IsCertificateText prefix kind book order
   pub more : rest ≢ []
 
--- A fault is where bytes stop being the beginning of a certificate's text: some text begins with
--- the lines before the fault's line, and none begins with these and the fault's line, or that line
--- isn't whole, or the lines before it are a whole text already.
+-- A fault is at the line where bytes stop being the beginning of a certificate's text. Some text
+-- begins with the lines before the fault's line; and either no text begins with these lines and the
+-- fault's line, or the fault's line isn't whole, or the lines before it are a whole text already.
 pub record LeavesTexts (bytes : List ℕ) (fault : TextFault) : Type 0 where
   pub count : ℕ
   pub prefix : List ℕ

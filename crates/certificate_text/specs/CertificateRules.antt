@@ -25,7 +25,7 @@ pub data CertificateDue : Type 0 where
   InPlaces : Kind → List Page → List Place → CertificateDue
   AllRead : Kind → List Page → List Place → CertificateDue
 
--- a state of reading the book, as one of reading the certificate: after the end of the book the
+-- a state of reading the book as a state of reading the certificate: after the end of the book the
 -- title of the order is due
 abbrev pub after_book : BookDue → CertificateDue
 after_book (InHead due) = InBook (InHead due)
@@ -34,12 +34,12 @@ after_book (AtEnd kind book) = OrderDue kind book
 
 -- ---- the lines of places
 
--- the line of a place
+-- the words are the line of this place
 pub record IsPlaceLine (words : List (List ℕ)) (place : Place) : Type 0 where
   pub may : IsPlace place
   pub text : words ≡ place_line place
 
--- the tests that a line after the title of the order may fail
+-- a line of these words, where a place or the end is due, fails a test
 abbrev pub PlaceFails : List (List ℕ) → What → Type 0
 -- the line isn't the end, and doesn't begin with a caller and a number
 PlaceFails words what.Place = (words ≢ end_words)
@@ -52,7 +52,8 @@ PlaceFails words _ = ⊥
 
 -- ---- the rules
 
--- the right lines of a certificate's text
+-- a line of these words is right in a state of reading a certificate's text, and leads to another
+-- state
 abbrev pub CertificatePasses : CertificateDue → List (List ℕ) → CertificateDue → Type 0
 CertificatePasses (InBook due) words after = (next : BookDue) × BookPasses Second due words next
     × (after ≡ after_book next)
@@ -64,8 +65,8 @@ CertificatePasses (InPlaces kind book order) words after =
     × (after ≡ InPlaces kind book (order ++ place ∷ [])))
 CertificatePasses (AllRead kind book order) words after = ⊥
 
--- The tests of the lines of a certificate's text: those of a book's up to its end, then the title
--- of the order, and then the places.
+-- A line of these words fails a test in a state of reading a certificate's text: one of a book's
+-- lines up to the book's end, then that of the title of the order, and then one of places.
 abbrev pub CertificateFails : CertificateDue → List (List ℕ) → What → Type 0
 CertificateFails (InBook due) words name = BookFails Second due words name
 CertificateFails (OrderDue kind book) words name = (name ≡ what.Head) × (words ≢ order_words)

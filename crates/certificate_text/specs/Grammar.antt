@@ -34,7 +34,7 @@ pub record IsNamed (call : Call) : Type 0 where
   pub caller : call.caller < 2 ^ 32
   pub number : call.number < 2 ^ 64
 
--- a place that a line can have
+-- a place that a line can say: its caller is below 2^32, its number and its reply are below 2^64
 pub record IsPlace (place : Place) : Type 0 where
   pub call : IsNamed (call_at place)
   pub reply : place.reply < 2 ^ 64

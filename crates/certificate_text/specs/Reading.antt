@@ -12,8 +12,8 @@ use Rattle.book_text.specs.Grammar.{end_words}
 use Rattle.book_text.specs.BookRules.{InCalls}
 use Rattle.certificate_text.specs.CertificateRules.{CertificateDue, InBook, OrderDue, InPlaces, AllRead, IsPlaceLine, certificate_rules, nothing_read}
 
--- the text begins with right lines of a certificate that lead from one state to another, and leaves
--- the rest unread
+-- the text begins with right lines of a certificate that lead from one state to another, and `left`
+-- is the rest of it
 abbrev pub Goes : CertificateDue → Unread → CertificateDue → Unread → Type 0
 Goes due text after left = GoesTo certificate_rules due text after left
 
@@ -27,12 +27,12 @@ Stops due text fault = StopsFor certificate_rules due text fault
 abbrev pub IsBookRead : Unread → Kind → List Page → Unread → Type 0
 IsBookRead text kind book left = Goes nothing_read text (OrderDue kind book) left
 
--- the text begins with the end of a book whose calls are read
+-- the text begins with the line 'end' of a book, which comes after the lines of its calls
 abbrev pub IsBookEnd : Unread → Unread → Type 0
 IsBookEnd text left = (kind : Kind) (book : List Page)
     → Goes (InBook (InCalls kind book [])) text (OrderDue kind book) left
 
--- the fault is the first of a text that is to begin with the end of a book whose calls are read
+-- the first fault of a text where, after the lines of a book's calls, the line 'end' is due
 abbrev pub IsNoBookEnd : Unread → TextFault → Type 0
 IsNoBookEnd text fault = (kind : Kind) (book : List Page)
     → IsFirstFault certificate_rules (InBook (InCalls kind book [])) text fault
@@ -44,7 +44,7 @@ abbrev pub IsTitle : Unread → Unread → Type 0
 IsTitle text left = (kind : Kind) (book : List Page)
     → Goes (OrderDue kind book) text (InPlaces kind book []) left
 
--- the fault is the first of a text that is to begin with the title of the order
+-- the first fault of a text where the title of the order is due
 abbrev pub IsNoTitle : Unread → TextFault → Type 0
 IsNoTitle text fault = (kind : Kind) (book : List Page)
     → IsFirstFault certificate_rules (OrderDue kind book) text fault

@@ -9,7 +9,7 @@ use book_base::{Place, ReadFault, TextFault, What};
 use std::alloc::Global;
 use text_fields::{Lines, Words};
 
-/// The title of the order.
+/// Reads the title of the order, which is the line after a book.
 pub(crate) fn read_title(lines: &mut Lines) -> Result<(), TextFault>
     ensures found { IfOk result (λ _. IsTitle lines.old lines.new) }
     ensures refused { IfErr result (IsNoTitle lines.old) }

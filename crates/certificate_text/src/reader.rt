@@ -19,8 +19,8 @@ use text_fields::Lines;
 /// The certificate that the bytes are the text of.
 ///
 /// A text fault names the first wrong line, and the first test that this line fails. The lines of
-/// the book are refused as in a book's text, and whether its calls are those that the order names
-/// is no question of the text.
+/// the book are refused as in a book's text. The order may name calls that the book doesn't have:
+/// no test of the text looks for that.
 pub fn read_certificate(alloc: Global, bytes: &[u8]) -> Result<Certificate, ReadFault>
     // A certificate that was read is the one that the bytes are the text of.
     ensures found { IfOk result (λ read.

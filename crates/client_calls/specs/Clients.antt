@@ -28,25 +28,28 @@ module _ {P T E : Type 0} where
   abbrev pub HasSpent : ℕ → Client P T E → Type 0
   HasSpent allotment c = Spent allotment (length c.sheet.lines.items) c.stand
 
-  -- A client has come to its state and its lines, with its operations.
+  -- A client's caller is one of these rows, and its lines and its local are exactly those of the
+  -- phases that it has made with its operations.
   abbrev pub IsUnderWay : (P → ℕ → ℕ → Meaning) → Rows P
       → (ℕ → Local → Record → List ℕ → LineEnd → Type 0) → Client P T E → Type 0
   IsUnderWay meaning r says c =
       HasCome meaning r says c.sheet.who c.sheet.operations.now c.stand c.sheet.lines.items
 
-  -- A client's pass fits its caller and agrees with its state and its lines, where it counts calls.
+  -- A client's pass fits its caller. Where it counts calls, it has counted those of the client's
+  -- state and lines, and may make one for each operation.
   pub record HasPass (fits : Fits T) (count : T → Option PassCount)
       (c : Client P T E) : Type 0 where
     pub fits_caller : FitsCaller fits c.pass (caller_at c.stand)
     pub counts : Counts (count c.pass) c.sheet.operations.now c.stand c.sheet.lines.items
 
-  -- A client has a row and capacity for a line for each of its operations.
+  -- For each operation of a client its caller has a row, and its list of lines has capacity for a
+  -- line.
   pub record HasCapacity (r : Rows P) (c : Client P T E) : Type 0 where
     pub rows : length c.sheet.operations.now ≤ r.cap
     pub lines : length c.sheet.operations.now ≤ vec_capacity c.sheet.lines
 
-  -- The client d is c at a later moment, with the same operations, and with at least the capacity
-  -- for lines that c has.
+  -- The client d is c at a later moment: it has the same caller and operations, and at least the
+  -- capacity for lines that c has.
   pub record IsSameClient (c d : Client P T E) : Type 0 where
     pub who : d.sheet.who ≡ c.sheet.who
     pub operations : d.sheet.operations.now ≡ c.sheet.operations.now

@@ -18,7 +18,7 @@ use Rattle.client_calls.specs.Stands.{caller_at, local_at_stand, phases_at, unde
 use Rattle.client_calls.specs.declared.stand.CallerState.{CallerState}
 use Rattle.client_calls.specs.declared.stand.CallerState.TheVariants.{Answered, Halted}
 
--- The lines end with an error, and have no other one.
+-- The last one of these lines is an error, and no other one is.
 pub record EndsInError (own : List Line) : Type 0 where
   pub before : List Line
   pub line : Line
@@ -27,14 +27,16 @@ pub record EndsInError (own : List Line) : Type 0 where
   pub error : is_error line ≡ true
 
 module _ {P : Type 0} where
-  -- A halted caller's lines end with the error that it halted at, and no other's have an error.
+  -- The lines of a caller in the state `Halted` end with its one error, and those of a caller in
+  -- any other state have no error.
   abbrev pub ErrorsFit : CallerState P → List Line → Type 0
   ErrorsFit (Halted c) own = EndsInError own
   ErrorsFit _ own = any_error own ≡ false
 
-  -- A client of this caller has come, with these operations, to this state and these lines. The
-  -- caller is one of these rows, has made exactly the phases up to this state, and can make its
-  -- next phase, unless it is halted. The lines are those of all its calls but the one under way.
+  -- A client with these operations has come to this state and these lines. Its caller has the
+  -- number `who`, is one of these rows, has made exactly the phases up to this state, and can make
+  -- its next phase, unless it is halted. The lines are those of all its calls but the one under
+  -- way.
   pub record HasCome (meaning : P → ℕ → ℕ → Meaning) (r : Rows P)
       (says : ℕ → Local → Record → List ℕ → LineEnd → Type 0) (who : ℕ) (operations : List ℕ)
       (s : CallerState P) (own : List Line) : Type 0 where
@@ -55,27 +57,28 @@ module _ {P : Type 0} where
       × (pairs ≡ prefix ++ (op_answered a, reply_answered a) ∷ [])
   EndsAnswered _ pairs = Unit {0}
 
-  -- The pairs are what an object tells of a client's calls up to this state and these lines.
+  -- The pairs, each an operation with a reply, are what an object tells of the calls of a client in
+  -- this state with these lines.
   pub record HasTold (s : CallerState P) (own : List Line) (pairs : List (ℕ × ℕ)) : Type 0 where
     pub told : IsTold (phases_at (length own) s) (calls_in (local_at_stand s)) pairs
     pub last : EndsAnswered s pairs
 
-  -- With a pass of this count and these told pairs the object was asked exactly for the calls whose
-  -- second phase was made up to this state and these lines, and the pairs, where it tells any, are
+  -- With a pass that counts `made` calls and tells `told` the object was asked exactly for the
+  -- calls of this state and these lines whose second phase was made. Where it tells pairs, they are
   -- what was asked and answered.
   pub record HasAskedFor (made : ℕ) (told : Option (List (ℕ × ℕ))) (s : CallerState P)
       (own : List Line) : Type 0 where
     pub made_is : made ≡ asked (phases_at (length own) s)
     pub told_is : IfSome told (HasTold s own)
 
-  -- A pass that counts its calls agrees with this state and these lines, and has a call for each of
-  -- these operations.
+  -- A pass with this count has counted the calls of this state and these lines, and may make one
+  -- for each of these operations.
   pub record HasCounted (operations : List ℕ) (s : CallerState P) (own : List Line)
       (count : PassCount) : Type 0 where
     pub asked : HasAskedFor count.made count.told s own
     pub has_capacity : length operations ≤ count.room
 
-  -- A pass, where it counts its calls, agrees with this state and these lines, and has a call for
-  -- each of these operations.
+  -- A pass that counts calls has counted those of this state and these lines, and may make one for
+  -- each of these operations. Nothing is said of a pass that counts none.
   abbrev pub Counts : Option PassCount → List ℕ → CallerState P → List Line → Type 0
   Counts count operations s own = IfSome count (HasCounted operations s own)

@@ -46,37 +46,37 @@ module _ {P : Type 0} where
   local_ended e = local_with (caller_ended e)
 
   -- A caller is free after a call that is no error, and is halted after an error, and where memory
-  -- was wanted.
+  -- was lacking.
   abbrev pub StandsAfter : Ended P → Type 0
   StandsAfter (GoesOn c end) = IsFree c
   StandsAfter (Halts c end) = (stance_of c).live ≡ false
   StandsAfter (WantsMemory u) = (stance_of u.caller).live ≡ false
 
-  -- The line is no error where the caller is free for its next call, and is one where the caller is
-  -- halted with it.
+  -- The end of a call's line is an error where the call halts its caller, and is no error where the
+  -- caller is free for its next call.
   abbrev pub FitsError : Ended P → Type 0
   FitsError (GoesOn c end) = (op : ℕ) → is_error (record { op = op; end = end }) ≡ false
   FitsError (Halts c end) = (op : ℕ) → is_error (record { op = op; end = end }) ≡ true
   FitsError (WantsMemory u) = Unit {0}
 
-  -- An ended call is as `says` has it for its record and its seen cut. Where memory was wanted, the
-  -- record and the seen cut are handed back, and nothing is said of them.
+  -- The end of a call's line is as `says` has it for the call's record and seen cut. Where memory
+  -- was lacking, the call has no line, and its record and seen cut are handed back.
   abbrev pub SaysOf : (Local → Record → List ℕ → LineEnd → Type 0) → Record → List ℕ
       → Ended P → Type 0
   SaysOf says r cut (GoesOn c end) = says (local_with c) r cut end
   SaysOf says r cut (Halts c end) = says (local_with c) r cut end
   SaysOf says r cut (WantsMemory u) = (record_unjudged u ≡ r) × (u.seen ≡ cut)
 
-  -- A call has ended as its line does: its caller is halted where the line is an error, and else
-  -- free for its next call.
+  -- The ended call is that of this caller with this end of its line: it halts the caller where the
+  -- end is an error, and else lets it go on.
   abbrev pub IsEndedBy : Caller P → LineEnd → Ended P → Type 0
   IsEndedBy c Pending ended = ended ≡ GoesOn c Pending
   IsEndedBy c (Unchecked r) ended = ended ≡ GoesOn c (Unchecked r)
   IsEndedBy c (Delivered r cut) ended = ended ≡ GoesOn c (Delivered r cut)
   IsEndedBy c (Error r cut) ended = ended ≡ Halts c (Error r cut)
 
-  -- The state of the caller after a call that has ended, and its lines with that of the call, where
-  -- the call has one.
+  -- What an ended call leaves: its caller idle, halted or unjudged, and the call's line after the
+  -- caller's lines `own`, unless the call is unjudged, and so has no line.
   abbrev pub IsNoted : ℕ → List Line → Ended P → List Line → CallerState P → Type 0
   IsNoted op own (GoesOn c end) own' s = (s ≡ Idle c)
       × (own' ≡ own ++ record { op = op; end = end } ∷ [])
@@ -84,8 +84,8 @@ module _ {P : Type 0} where
       × (own' ≡ own ++ record { op = op; end = end } ∷ [])
   IsNoted op own (WantsMemory u) own' s = (s ≡ Unjudged u) × (own' ≡ own)
 
-  -- A published call has ended by an ending of which `says` is true: its caller, which is one of
-  -- these rows, saw a cut, and its progress has changed by this cut alone.
+  -- A published call has ended, with a line of which `says` is true, where it has one. Its caller
+  -- is still one of these rows, saw a cut, and its progress has changed by this cut alone.
   pub record HasEnded (meaning : P → ℕ → ℕ → Meaning) (r : Rows P)
       (says : ℕ → Local → Record → List ℕ → LineEnd → Type 0) (p : Published P)
       (e : Ended P) : Type 0 where
@@ -98,7 +98,8 @@ module _ {P : Type 0} where
     pub error : FitsError e
     pub says_of : SaysOf (says r.callers) (record_published p) cut e
 
-  -- A published call has ended in some way, and its line is noted, where it has one.
+  -- A published call has ended in some way, and its line, where it has one, stands after the lines
+  -- `own` of its caller.
   abbrev pub Ends : (P → ℕ → ℕ → Meaning) → Rows P
       → (ℕ → Local → Record → List ℕ → LineEnd → Type 0) → Published P → ℕ → List Line → List Line
       → CallerState P → Type 0

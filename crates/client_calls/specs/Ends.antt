@@ -12,12 +12,13 @@ use Rattle.report_lines.specs.Phases.{HasMade}
 use Rattle.report_lines.specs.Allotments.{phases_of, KeepsTo}
 use Rattle.report_lines.specs.Workers.{IsJudgedBy}
 
--- No object: it answers 0 to everything.
+-- The sequential object of an ending that judges nothing: it replies 0 to each operation, and its
+-- list stays empty.
 abbrev pub silent : SeqSpec
 silent = record { init = []; next = λ list operation. (list, 0) }
 
--- The line of a call that was judged by a sequential object: delivered or an error, with this
--- record and this seen cut, by a book that the caller of n gathered there.
+-- The end of the line of a judged call: delivered or an error, with this record and this seen cut,
+-- by a book that a caller of n with local `l` gathered at this cut.
 abbrev pub SaysJudged : SeqSpec → ℕ → Local → Record → List ℕ → LineEnd → Type 0
 SaysJudged object n l r cut Pending = ⊥
 SaysJudged object n l r cut (Unchecked r') = ⊥
@@ -30,20 +31,20 @@ SaysJudged object n l r cut (Error r' cut') = (r' ≡ r) × (cut' ≡ cut)
 abbrev pub SaysDeferred : SeqSpec → ℕ → Local → Record → List ℕ → LineEnd → Type 0
 SaysDeferred object n l r cut end = end ≡ Unchecked r
 
--- The end of a line says how far its call has come; where the call has seen a cut, the end is as
--- `says` says of the record and the cut.
+-- The end of a line is pending for an announced call, unchecked with the record for a call that has
+-- one and no seen cut, and as `says` has it for a call with a record and a seen cut.
 abbrev pub EndsAs : (Record → List ℕ → LineEnd → Type 0) → Reached → LineEnd → Type 0
 EndsAs says Is_announced end = end ≡ Pending
 EndsAs says (Has_record r) end = end ≡ Unchecked r
 EndsAs says (Has_seen r cut) end = says r cut end
 
--- The line is that of this call.
+-- The line has the operation of this call, and an end that says how far the call has come.
 pub record IsLineOf (says : Record → List ℕ → LineEnd → Type 0) (call : Made)
     (line : Line) : Type 0 where
   pub operation : line.op ≡ call.operation
   pub end : EndsAs says call.reached line.end
 
--- The lines are one for each of these calls, in order.
+-- There is one line for each of these calls, in their order.
 abbrev pub AreLinesOfCalls : (Record → List ℕ → LineEnd → Type 0) → List Made → List Line → Type 0
 AreLinesOfCalls says calls own = AllZip (IsLineOf says) calls own
 
@@ -56,8 +57,8 @@ pub record HasLeft (says : ℕ → Local → Record → List ℕ → LineEnd →
   pub made : HasMade operations (phases_of allotment own) l
   pub keeps : KeepsTo allotment own
 
--- A client has left its caller's local and its lines with p phases made: exactly those that its
--- lines determine.
+-- A client has left a local and lines as `HasLeft` says, and has made p phases, as many as its
+-- allotment and its lines determine.
 pub record HasLeftAt (says : ℕ → Local → Record → List ℕ → LineEnd → Type 0) (n : ℕ)
     (operations : List ℕ) (allotment p : ℕ) (l : Local) (own : List Line) : Type 0 where
   pub left : HasLeft says n operations allotment l own

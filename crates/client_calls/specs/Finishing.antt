@@ -18,9 +18,9 @@ use Rattle.client_calls.specs.Clients.{Spent}
 use Rattle.client_calls.specs.declared.stand.CallerState.{CallerState}
 use Rattle.client_calls.specs.declared.stand.CallerState.TheVariants.{Idle, Announced, Answered, Viewed, Published, Halted, Unjudged}
 
--- What holds of the call under way of caller i, which has made this many phases. A call that is
--- announced and not asked has no object step yet. For a call that is asked and has no view, the
--- program allows a reply.
+-- What holds of caller i when it has made this many phases. Where its call under way is announced
+-- and not asked, the call has no object step. Where its call under way is asked and has no view,
+-- the program allows the caller some reply.
 pub record KeepsAsked (program : Meaning) (i phases : ℕ) (l : Local) : Type 0 where
   pub unasked : phases % 5 ≡ 1 → steps_now l ≡ []
   pub asked : phases % 5 ≡ 2 → (reply : ℕ) × IsTrue (program.may_reply i l reply)
@@ -41,7 +41,7 @@ module _ {P : Type 0} where
   stance_left s = record (stance_of (caller_at s)) { live = false }
 
   -- The end of the line of a call whose caller is left in this state: pending without the call's
-  -- record, and unchecked with it. There is none between two calls and where the caller is halted.
+  -- record, and unchecked with it. Between two calls and where the caller is halted, there is none.
   abbrev pub end_at : CallerState P → Option LineEnd
   end_at (Idle c) = None
   end_at (Announced a) = Some Pending
@@ -51,14 +51,14 @@ module _ {P : Type 0} where
   end_at (Halted c) = None
   end_at (Unjudged u) = None
 
-  -- A call was left unjudged for want of memory.
+  -- Whether the last call of a caller in this state was left unjudged for want of memory.
   abbrev pub is_unjudged : CallerState P → Bool
   is_unjudged (Unjudged u) = true
   is_unjudged _ = false
 
-  -- A client in this state after these lines leaves this local and its lines, whatever allotment it
-  -- has spent, and has made the phases that the lines determine. Nothing is said of lines where
-  -- memory was wanted.
+  -- A client that is left in this state after the lines `before` leaves the local `l` and the lines
+  -- `own`, as `HasLeftAt` says for each allotment that the client has spent. Nothing is said where
+  -- its last call is unjudged for want of memory.
   abbrev pub Leaves : (ℕ → Local → Record → List ℕ → LineEnd → Type 0) → ℕ → List ℕ → CallerState P
       → List Line → Local → List Line → Type 0
   Leaves says n operations s before l own =

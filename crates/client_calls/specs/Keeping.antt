@@ -3,6 +3,7 @@ use Rattle.book_base.specs.SeqSpec.{SeqSpec}
 use Rattle.enforcer.specs.Lines.{OrderStandsIn}
 use Rattle.client_calls.specs.declared.sheet.Sheet.{Sheet}
 
--- The kept order of a client's sheet stands for a sequential object in the kept book of that sheet.
+-- The kept order of a client's sheet stands in the kept book of that sheet, judged by a sequential
+-- object.
 abbrev pub KeepsStanding : {E : Type 0} → SeqSpec → Sheet E → Type 0
 KeepsStanding object sheet = OrderStandsIn object sheet.gathered sheet.standing

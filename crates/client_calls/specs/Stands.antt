@@ -28,8 +28,8 @@ module _ {P : Type 0} where
   abbrev pub local_at_stand : CallerState P → Local
   local_at_stand s = local_with (caller_at s)
 
-  -- How many phases of the call under way were made. A call that isn't judged for want of memory
-  -- has made all five.
+  -- How many phases of the call under way were made: 0 where there is none, and all five where the
+  -- call is unjudged for want of memory.
   abbrev pub place_of : CallerState P → ℕ
   place_of (Idle c) = 0
   place_of (Announced a) = 1
@@ -43,7 +43,8 @@ module _ {P : Type 0} where
   abbrev pub phases_at : ℕ → CallerState P → ℕ
   phases_at lines s = 5 * lines + place_of s
 
-  -- The call under way: none, or the one of this operation, as far as it has come.
+  -- The call under way of a caller in this state, as a list: no call, or the one of this operation,
+  -- as far as it has come.
   abbrev pub under_way : ℕ → CallerState P → List Made
   under_way op (Idle c) = []
   under_way op (Announced a) = record { operation = op; reached = Is_announced } ∷ []
@@ -60,9 +61,10 @@ module _ {P : Type 0} where
   under_way op (Unjudged u) =
       record { operation = op; reached = Has_seen (record_unjudged u) u.seen } ∷ []
 
-  -- A caller in this state can make the next phase of a call with this operation, unless it is
-  -- halted: an announced call has no object step yet, to an answered call the program allows its
-  -- reply, and a view has a count for each caller.
+  -- What a caller in this state needs for the next phase of its call with this operation. Between
+  -- two calls the caller is free; an announced call has no object step yet; the program allows the
+  -- reply of an answered call; a view has a count for each caller. Where the caller can't go on, it
+  -- is halted.
   abbrev pub MayGoOn : (P → ℕ → ℕ → Meaning) → Rows P → ℕ → CallerState P → Type 0
   MayGoOn meaning r op (Idle c) = IsFree c
   MayGoOn meaning r op (Announced a) = (op_announced a ≡ op) × (steps_now (announced_local a) ≡ [])

@@ -9,6 +9,7 @@ use Rattle.drv_wrapper.specs.Growth.{Grows}
 use Rattle.report_laws.proofs.Workers.{verdicts_stay}
 use Rattle.client_calls.specs.Ends.{SaysJudged, SaysDeferred}
 
+-- What the end of a judged line says of a caller's local `l` holds of each later local `m`.
 pub judged_stays : (object : SeqSpec) (n : ℕ) (l m : Local) (r : Record) (cut : List ℕ)
     (end : LineEnd) → Grows l m → SaysJudged object n l r cut end → SaysJudged object n m r cut end
 judged_stays object n l m r cut Pending grows says = absurd says
@@ -24,6 +25,7 @@ judged_stays object n l m r cut (Error r' cut') grows says = (
   verdicts_stay object n l m (Error r' cut') grows.peeked says.2,
 )
 
+-- What the end of an unjudged line says of a caller's local `l` holds of each later local `m`.
 pub deferred_stays : (object : SeqSpec) (n : ℕ) (l m : Local) (r : Record) (cut : List ℕ)
     (end : LineEnd) → Grows l m → SaysDeferred object n l r cut end
     → SaysDeferred object n m r cut end

@@ -10,66 +10,67 @@ ghost use Rattle.client_calls.specs.Asking.{Fits, FitsCaller, PassCount, HasCall
 use drv_wrapper::{Announced, Answered};
 use world_core::Program;
 
-/// How a client asks for the reply to an announced call: an object outside the world, or one inside
-/// it whose steps its callers make.
+/// How a client asks for the reply to an announced call: it asks an object outside the world, or
+/// one inside the world, on whose words the client's caller makes the steps itself.
 pub trait Asks {
-    /// The program of the rows' world.
+    /// The program of the world that the callers' rows are in.
     type Program: Program;
 
     /// What one caller holds to ask the object.
     type Pass;
 
-    /// The rows whose callers may ask: for an object inside the world those on which it makes its
-    /// steps.
+    /// The rows whose callers may ask the object. An object inside the world may be asked only by
+    /// the callers of the rows on which its steps are made.
     ghost serves: { Self → TheRows Self.Program → Type 0 };
 
-    /// Whom a pass fits: for how many callers and which cap, the caller's number, and the object
-    /// steps of all the caller's calls in order.
+    /// Which caller a pass fits, by the number of callers, the cap, the pass, the caller's number,
+    /// and the object steps of all its calls in order.
     ghost fits: { Self → ℕ → ℕ → Self.Pass → ℕ → List Object_step → Type 0 };
 
-    /// What a pass counts of its calls, where it counts them.
+    /// How many calls were made with a pass, how many may be, and what it tells of them; `None`
+    /// where the pass counts no calls.
     ghost count: { Self.Pass → Option PassCount } = { λ pass. None };
 
-    /// Asks once, and keeps the reply, which the program allows. The caller makes no further phase
-    /// than this one.
+    /// Asks the object once for the reply to the announced call, and keeps the reply in the
+    /// answered call. This is one phase of the caller, and no further one is made.
     fn ask(
         &self,
         announced: Announced<Self::Program>,
         pass: &mut Self::Pass,
     ) -> Answered<Self::Program>
-        // The caller is one of some table whose callers may ask the object.
+        // The caller belongs to some table whose callers may ask the object.
         requires table { (r : TheRows Self.Program) × serves self.now r
             × IsCallerOf Self.Program.meaning r (caller_announced announced) }
         // The announced call has made no object step.
         requires first { steps_now (announced_local announced) ≡ [] }
         // The pass fits the caller of the announced call.
         requires fits { FitsCaller (fits self.now) pass.old (caller_announced announced) }
-        // The pass has a call left, where it counts calls.
+        // The pass has a call left, or counts no calls.
         requires left { HasCallLeft (count pass.old) }
         // The answered call is of the announced call's caller.
         ensures who { who_of (caller_answered result) ≡ who_announced announced }
-        // The caller is still one of each table that it was one of, and whose callers may ask the
+        // The caller still belongs to each table that it belonged to, and whose callers may ask the
         // object.
         ensures rows { (r : TheRows Self.Program) → serves self.now r
             → IsCallerOf Self.Program.meaning r (caller_announced announced)
             → IsCallerOf Self.Program.meaning r (caller_answered result) }
         // The answered call has the announced operation.
         ensures operation { op_answered result ≡ op_announced announced }
-        // The program allows the caller the reply, by its local.
+        // The program allows the caller to get this reply, with the local that the caller has.
         ensures allowed { MayGet Self.Program.meaning (caller_answered result)
             (reply_answered result) }
-        // The caller's progress is as before, but for object steps.
+        // The caller's progress is as before, except for its object steps.
         ensures calls { ComesNoFurther (announced_local announced) (answered_local result) }
         // The caller's local has each look, peek and cut that it had before.
         ensures grows { Grows (announced_local announced) (answered_local result) }
         // The pass fits the caller of the answered call.
         ensures fits { FitsCaller (fits self.now) pass.new (caller_answered result) }
-        // The pass counts one call more, with this operation and this reply, where it counts calls.
+        // A pass that counts calls counts one more, with the operation and the reply of this call.
         ensures count { count pass.new
             ≡ count_after (op_announced announced) (reply_answered result) (count pass.old) };
 
-    /// What a client does before each of its phases in a run: nothing, unless an impl yields the
-    /// thread there, so that calls overlap which else would not. It is handed neither rows nor a
-    /// caller, so whatever it does, a run stays one that its contract allows.
+    /// Pauses before each phase of a client in a run. By default it does nothing; an impl may give
+    /// the thread away here, so that calls overlap which otherwise would not. It gets neither rows
+    /// nor a caller, so it can't break what the contract of a run promises.
     fn pause(&self) {}
 }

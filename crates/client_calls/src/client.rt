@@ -44,33 +44,36 @@ impl<'a, P: Program, T, E: Ending> Client<'a, P, T, E> {
         shared: &Shared<A, P>,
         steps: &mut Steps<L>,
     ) -> Client<'a, P, T, E>
-        // The client's caller is one of these rows, and its lines and its local are those of the
-        // phases that it has made.
+        // The client's caller is one of the shared rows, and its lines and its local are exactly
+        // those of the phases that it has made.
         requires course { IsUnderWay P.meaning shared.now.rows.now
             (E.says (E.object self.sheet.ending)) self }
-        // These rows are those whose callers may ask the object.
+        // The callers of the shared rows may ask the object.
         requires serves { A.serves shared.now.asks.now shared.now.rows.now }
-        // The client's pass fits its caller, and has counted its calls, where it counts them.
+        // The client's pass fits its caller. Where it counts calls, it has counted those of the
+        // client, and may make one for each operation.
         requires pass { HasPass (A.fits shared.now.asks.now) A.count self }
-        // There is a row and capacity for a line for each operation.
+        // For each operation the caller has a row, and the list of lines has capacity for a line.
         requires room { HasCapacity shared.now.rows.now self }
-        // The kept order of the sheet stands for the object in the kept book of the sheet.
+        // The sheet's kept order stands in its kept book, judged by the ending's object.
         requires standing { KeepsStanding (E.object self.sheet.ending) self.sheet }
         // The client's caller isn't halted.
         requires goes { GoesOnFrom self.stand }
-        // The client has made fewer phases than its operations have.
+        // The client has made fewer phases than five for each operation.
         requires left { phases_by self < 5 * length self.sheet.operations.now }
         // The client has made one phase more.
         ensures phase { phases_by result ≡ phases_by self.entry + 1 }
-        // The client's caller is still one of these rows, and its lines and its local are those of
-        // the phases that it has made.
+        // The client's caller is still one of the shared rows, and its lines and its local are
+        // exactly those of the phases that it has made.
         ensures course { IsUnderWay P.meaning shared.now.rows.now
             (E.says (E.object result.sheet.ending)) result }
-        // The client's pass still fits its caller, and has counted its calls, where it counts them.
+        // The client's pass still fits its caller. Where it counts calls, it has counted those of
+        // the client, and may make one for each operation.
         ensures pass { HasPass (A.fits shared.now.asks.now) A.count result }
-        // There still is a row and capacity for a line for each operation.
+        // For each operation the caller still has a row, and the list of lines has capacity for a
+        // line.
         ensures room { HasCapacity shared.now.rows.now result }
-        // The kept order of the sheet still stands for the object in the kept book of the sheet.
+        // The sheet's kept order still stands in its kept book, judged by the ending's object.
         ensures standing { KeepsStanding (E.object result.sheet.ending) result.sheet }
         // The client has the same caller and operations, and at least the capacity for lines that
         // it had.
@@ -98,43 +101,45 @@ impl<'a, P: Program, T, E: Ending> Client<'a, P, T, E> {
         Client { stand, pass, sheet }
     }
 
-    /// Makes this many further phases, or, where the caller halts before, those up to there.
+    /// Makes `count` further phases, or fewer where the caller halts within them.
     ///
-    /// There are five phases for each operation, and the operations have as many phases left as are
-    /// to be made.
+    /// Each operation has five phases. Of all of them at least `count` have to be left.
     pub fn run<A: Asks<Program = P, Pass = T>, L: Ledger>(
         self,
         shared: &Shared<A, P>,
         count: u64,
         steps: &mut Steps<L>,
     ) -> Client<'a, P, T, E>
-        // The client's caller is one of these rows, and its lines and its local are those of the
-        // phases that it has made.
+        // The client's caller is one of the shared rows, and its lines and its local are exactly
+        // those of the phases that it has made.
         requires course { IsUnderWay P.meaning shared.now.rows.now
             (E.says (E.object self.sheet.ending)) self }
-        // These rows are those whose callers may ask the object.
+        // The callers of the shared rows may ask the object.
         requires serves { A.serves shared.now.asks.now shared.now.rows.now }
-        // The client's pass fits its caller, and has counted its calls, where it counts them.
+        // The client's pass fits its caller. Where it counts calls, it has counted those of the
+        // client, and may make one for each operation.
         requires pass { HasPass (A.fits shared.now.asks.now) A.count self }
-        // There is a row and capacity for a line for each operation.
+        // For each operation the caller has a row, and the list of lines has capacity for a line.
         requires room { HasCapacity shared.now.rows.now self }
-        // The kept order of the sheet stands for the object in the kept book of the sheet.
+        // The sheet's kept order stands in its kept book, judged by the ending's object.
         requires standing { KeepsStanding (E.object self.sheet.ending) self.sheet }
         // The client's caller isn't halted.
         requires goes { GoesOnFrom self.stand }
-        // The client's operations have at least this many phases left.
+        // The client has at least `count` phases left, of five for each of its operations.
         requires left { phases_by self + count ≤ 5 * length self.sheet.operations.now }
-        // The client has made these phases, or was halted within them.
+        // The client has made `count` further phases, or its caller was halted within them.
         ensures spent { HasSpent (phases_by self.entry + count) result }
-        // The client's caller is still one of these rows, and its lines and its local are those of
-        // the phases that it has made.
+        // The client's caller is still one of the shared rows, and its lines and its local are
+        // exactly those of the phases that it has made.
         ensures course { IsUnderWay P.meaning shared.now.rows.now
             (E.says (E.object result.sheet.ending)) result }
-        // The client's pass still fits its caller, and has counted its calls, where it counts them.
+        // The client's pass still fits its caller. Where it counts calls, it has counted those of
+        // the client, and may make one for each operation.
         ensures pass { HasPass (A.fits shared.now.asks.now) A.count result }
-        // There still is a row and capacity for a line for each operation.
+        // For each operation the caller still has a row, and the list of lines has capacity for a
+        // line.
         ensures room { HasCapacity shared.now.rows.now result }
-        // The kept order of the sheet still stands for the object in the kept book of the sheet.
+        // The sheet's kept order still stands in its kept book, judged by the ending's object.
         ensures standing { KeepsStanding (E.object result.sheet.ending) result.sheet }
         // The client has the same caller and operations, and at least the capacity for lines that
         // it had.
@@ -153,42 +158,43 @@ impl<'a, P: Program, T, E: Ending> Client<'a, P, T, E> {
         client
     }
 
-    /// Stops the caller, and puts the line of a call under way after the others: pending, or
-    /// unchecked where the call has its record.
+    /// Ends the client's work. A call under way gets the last line, which is pending, or unchecked
+    /// where the call has its record, and its caller is halted.
     ///
-    /// A call that wasn't judged for want of memory has no line.
+    /// A call that was left unjudged for want of memory gets no line.
     pub fn finish(self, _rows: &Rows<P>) -> Finished<P, T, E>
-        // The client's caller is one of these rows, and its lines and its local are those of the
-        // phases that it has made.
+        // The client's caller is one of `_rows`, and its lines and its local are exactly those of
+        // the phases that it has made.
         requires course { IsUnderWay P.meaning _rows.now
             (E.says (E.object self.sheet.ending)) self }
-        // There is capacity for a line for each operation.
+        // The list of lines has capacity for a line for each operation.
         requires room { length self.sheet.operations.now ≤ vec_capacity self.sheet.lines }
-        // The caller that is left has the number and the local of the client's caller, and is of
-        // the same rows.
+        // The finished client's caller has the number and the local of this client's caller, and is
+        // one of the same rows.
         ensures caller { IsSame (caller_at self.entry.stand) result.caller }
-        // The pass that is left is the client's.
+        // The finished client has the pass of this client.
         ensures pass { result.pass ≡ self.entry.pass }
-        // The ending that is left is the client's.
+        // The finished client has the ending of this client.
         ensures ending { result.ending ≡ self.entry.sheet.ending }
-        // Memory is wanted exactly where the last call was left unjudged.
+        // `wants_memory` is true exactly where the last call was left unjudged.
         ensures wants_memory { result.wants_memory ≡ is_unjudged self.entry.stand }
-        // The caller has made exactly the phases of the client.
+        // The finished client's caller has made exactly the phases that this client has made.
         ensures made { HasMade self.entry.sheet.operations.now (phases_by self.entry)
             (local_with result.caller) }
-        // A call that was announced and not asked has no object step, and to one that was asked and
-        // has no view the program allows a reply.
+        // A call that was announced and not asked has no object step. For one that was asked and
+        // has no view, the program allows the caller some reply.
         ensures asked { KeepsAsked (shape_of P.meaning _rows.now).program self.entry.sheet.who
             (phases_by self.entry) (local_with result.caller) }
-        // Within a call the caller is halted, and where it is live it is free for its next call.
+        // A caller that is left within a call is halted, and one that is live is free for its next
+        // call.
         ensures standing { IsLeftStanding (phases_by self.entry) (local_with result.caller)
             (stance_of result.caller) }
-        // Between two calls, without an error and where memory wasn't wanted, the caller's stance
-        // is that at the start.
+        // A caller that is left between two calls has the stance of the start, unless one of its
+        // lines is an error or its last call was left unjudged.
         ensures free { is_unjudged self.entry.stand ≡ false → any_error result.lines.items ≡ false
             → phases_by self.entry % 5 ≡ 0 → stance_of result.caller ≡ fresh_stance }
-        // Where memory wasn't wanted, the lines that are left are those of the phases that the
-        // client has made.
+        // Unless the last call was left unjudged, there is a line for each call of the caller, as
+        // the ending says, and these lines determine how many phases the client has made.
         ensures leaves { Leaves (E.says (E.object result.ending)) _rows.now.callers
             self.entry.sheet.operations.now self.entry.stand self.entry.sheet.lines.items
             (local_with result.caller) result.lines.items }

@@ -5,10 +5,10 @@ use world_core::Outside;
 
 /// How a call has ended, with its caller.
 pub enum Ended<P = Outside> {
-    /// The call has this end, and its caller is free for the next one.
+    /// The line of the call has this end, and its caller is free for its next call.
     GoesOn(Caller<P>, LineEnd),
     /// The call is an error, and its caller is halted.
     Halts(Caller<P>, LineEnd),
-    /// The call wasn't judged for want of memory, and its caller is halted.
+    /// The call was left unjudged for want of memory, and its caller is halted.
     WantsMemory(Unjudged<P>),
 }

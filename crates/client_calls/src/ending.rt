@@ -23,15 +23,16 @@ pub trait Ending {
     /// The sequential object that the ending judges by, where it judges.
     ghost object: { Self → SeqSpec };
 
-    /// What the end of a line says, by the sequential object, for a number of callers: of a
-    /// caller's local, and of the record and the seen cut of the call.
+    /// What the end of a line says, by the sequential object, the number of callers, the local of
+    /// the call's caller, and the record and the seen cut of the call.
     ghost says: { SeqSpec → ℕ → Local → Record → List ℕ → LineEnd → Type 0 };
 
-    /// Ends a call for which a cut was seen. The caller's progress stays, and it is halted after an
-    /// error, and where memory is wanted.
+    /// Ends a call for which a cut was seen. The caller's progress stays. The caller is halted
+    /// after an error, and where memory is lacking.
     ///
-    /// `gathered` is the book that the caller has gathered before, or `None`, and `standing` what
-    /// stands of an order in it. Afterwards they are what is kept for its next call.
+    /// `gathered` is the book that the caller gathered last, and `standing` an order with the marks
+    /// that stand in this book; each may be `None`. Afterwards they are what is kept for the
+    /// caller's next call.
     fn end<P: Program, L: Ledger>(
         &mut self,
         rows: &Rows<P>,
@@ -40,34 +41,36 @@ pub trait Ending {
         standing: &mut Option<KeptOrder>,
         steps: &mut Steps<L>,
     ) -> Ended<P>
-        // The caller of the seen call is one of these rows.
+        // The caller of the seen call is one of `rows`.
         requires rows { IsCallerOf P.meaning rows.now (caller_seen seen) }
-        // The caller has peeked each word of the book that was gathered before, where there is one.
+        // The caller has peeked each word of the kept book, where one is kept.
         requires gathered { IsGatheredBy (local_with (caller_seen seen)) gathered.old }
-        // The kept order stands for the object in the book that was gathered before.
+        // Where both are kept, the kept order stands in the kept book, judged by the ending's
+        // object.
         requires standing { OrderStandsIn (object self.old) gathered.old standing.old }
         // The sequential object of the ending stays.
         ensures object { object self.new ≡ object self.old }
-        // The caller is still one of these rows, with the same number.
+        // The caller is still one of `rows`, with the same number.
         ensures caller { IsStill P.meaning rows.now (caller_seen seen) (caller_ended result) }
         // The caller's progress is as before.
         ensures progress { progress_of (local_ended result)
             ≡ progress_of (local_with (caller_seen seen)) }
         // The caller's local has each look, peek and cut that it had before.
         ensures grows { Grows (local_with (caller_seen seen)) (local_ended result) }
-        // The caller is free for its next call after a call that is no error, and makes no further
-        // calls after an error and where memory was wanted.
+        // The caller is free for its next call after a call that is no error, and halted after an
+        // error and where memory was lacking.
         ensures stands { StandsAfter result }
-        // The line is no error where the caller is free for its next call, and is one where the
-        // caller is halted with it.
+        // The end of the line is an error where the call halts its caller, and is no error where
+        // the caller is free for its next call.
         ensures error { FitsError result }
-        // What the ending says is said of the record, the seen cut and the line's end, and where
-        // memory was wanted the record and the cut are handed back.
+        // The end of the line is as `says` has it for the record and the seen cut of the call.
+        // Where memory was lacking, the record and the cut are handed back.
         ensures says { SaysOf (says (object self.new) rows.now.callers) (record_seen seen)
             (cut_seen seen) result }
-        // The caller has peeked each word of the book that is gathered now, where there is one.
+        // The caller has peeked each word of the book that is kept afterwards, where one is kept.
         ensures kept { IsGatheredBy (local_ended result) gathered.new }
-        // The order that is kept now stands for the object in the book that is gathered now.
+        // The order that is kept afterwards stands in the book that is kept then, judged by the
+        // ending's object.
         ensures standing { OrderStandsIn (object self.new) gathered.new standing.new };
 
     /// An ending of this kind for another caller.

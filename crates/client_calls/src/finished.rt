@@ -2,7 +2,7 @@ use report_lines::Line;
 use row_table::Caller;
 
 /// A finished client: its caller, with its local as it is, its pass, its lines and its ending; and
-/// whether its last call wasn't judged for want of memory.
+/// whether its last call was left unjudged for want of memory.
 pub struct Finished<P, T, E> {
     pub caller: Caller<P>,
     pub pass: T,

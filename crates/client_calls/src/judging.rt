@@ -20,7 +20,8 @@ pub struct Judging<'a, S> {
     pub sequential: &'a S,
 }
 
-// Ends the call of this caller with this end of its line.
+// The ended call of `caller` whose line ends with `end`: an error halts the caller, and any other
+// end lets it go on.
 fn ended_by<P: Program>(caller: Caller<P>, end: LineEnd) -> Ended<P>
     ensures { IsEndedBy caller end result }
 {

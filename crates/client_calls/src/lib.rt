@@ -1,5 +1,5 @@
-//! Callers at work, phase by phase: each asks its object, and each of its calls ends as its ending
-//! says.
+//! Clients: callers at work, phase by phase. Each asks its object, and its ending says how its
+//! calls end, judged or not.
 #![tactic(auto)]
 
 mod asks;

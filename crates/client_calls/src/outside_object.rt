@@ -35,24 +35,23 @@ impl<B: BlackBox> Asks for OutsideObject<'_, B> {
         requires left { B.Pass.made pass.old < B.Pass.cap pass.old }
         // The answered call is of the announced call's caller.
         ensures who { who_of (caller_answered result) ≡ who_announced announced }
-        // The caller is still one of each table that it was one of, and whose callers may ask the
-        // object.
+        // The caller still belongs to each table that it belonged to.
         ensures rows { (r : TheRows Outside) → Unit {0}
             → IsCallerOf ⟦<Outside as Program>⟧.meaning r (caller_announced announced)
             → IsCallerOf ⟦<Outside as Program>⟧.meaning r (caller_answered result) }
         // The answered call has the announced operation.
         ensures operation { op_answered result ≡ op_announced announced }
-        // The program allows the caller the reply, by its local.
+        // The program allows the caller to get this reply, with the local that the caller has.
         ensures allowed { MayGet ⟦<Outside as Program>⟧.meaning (caller_answered result)
             (reply_answered result) }
-        // The caller's progress is as before, but for object steps.
+        // The caller's progress is as before, except for its object steps.
         ensures calls { ComesNoFurther (announced_local announced) (answered_local result) }
         // The caller's local has each look, peek and cut that it had before.
         ensures grows { Grows (announced_local announced) (answered_local result) }
         // The pass is still one of this object's, and that of the caller.
         ensures fits { B.is_own self.now.object.now pass.new
             × (B.Pass.caller pass.new ≡ who_of (caller_answered result)) }
-        // The pass counts one call more, with this operation and this reply, where it counts calls.
+        // The pass counts one call more, with the operation and the reply of this call.
         ensures count { own_count B.Pass.made B.Pass.cap B.Pass.told pass.new
             ≡ count_after (op_announced announced) (reply_answered result)
             (own_count B.Pass.made B.Pass.cap B.Pass.told pass.old) }

@@ -17,14 +17,14 @@ use row_table::{Rows, Steps};
 use std::sync::ledger::Ledger;
 use world_core::Program;
 
-/// What a client works with: its caller, that caller's operations, a line for each call of it that
-/// has ended, with capacity for a line for each operation, and the ending by which its calls end.
+/// What a client works with: its caller's number and operations, its lines, one for each call that
+/// has ended, and the ending by which its calls end. The list of lines has capacity for one for
+/// each operation.
 ///
-/// The book that the caller gathered last is kept from call to call, and the next one grows from
-/// it; the kept order that stands in this book is kept with it. Neither is kept before the first
-/// call that is judged, after an error, and where memory was lacking. Forgetting them would cost
-/// time alone, and no clause says that they are kept; a kept book is one that the caller itself
-/// gathered (`Client`).
+/// `gathered` is the book that the caller gathered last, from which its next one grows, and
+/// `standing` is the kept order that stands in this book. Both are `None` before the first judged
+/// call, after an error, and where memory was lacking. They only save time: no clause says that
+/// they are kept.
 pub struct Sheet<'a, E> {
     pub who: u32,
     pub operations: &'a [OpWord],
@@ -34,8 +34,8 @@ pub struct Sheet<'a, E> {
     pub standing: Option<KeptOrder>,
 }
 
-// Adds the line of an ended call to the lines of its caller, unless the call is unjudged for lack
-// of memory and has no line, and answers the state of the caller.
+// Adds the line of an ended call to the lines of its caller, and answers the state of the caller. A
+// call that is unjudged for want of memory gets no line.
 fn noted<P: Program>(ended: Ended<P>, op: OpWord, lines: &mut Vec<Line>) -> CallerState<P>
     requires { vec_len lines.old < vec_capacity lines.old }
     ensures noted { IsNoted op lines.old.items ended lines.new.items result }
@@ -55,7 +55,7 @@ fn noted<P: Program>(ended: Ended<P>, op: OpWord, lines: &mut Vec<Line>) -> Call
 }
 
 impl<'a, E> Sheet<'a, E> {
-    // The operation of the next call to have a line.
+    // The operation of the caller's first call without a line.
     pub(crate) fn next_op(&self) -> OpWord
         requires { vec_len self.now.lines < length self.now.operations.now }
         ensures { result ≡ slice_index self.now.operations.now (length self.now.lines.items) }

@@ -19,7 +19,7 @@ pub enum CallerState<P = Outside> {
     Published(Published<P>),
     /// The caller is halted after an error.
     Halted(Caller<P>),
-    /// The caller is halted, and its last call isn't judged for want of memory.
+    /// The caller is halted, and its last call was left unjudged for want of memory.
     Unjudged(Unjudged<P>),
 }
 
@@ -40,15 +40,15 @@ impl<P> CallerState<P> {
         }
     }
 
-    /// Whether the last call wasn't judged for want of memory.
+    /// Whether the last call was left unjudged for want of memory.
     pub fn is_unjudged(&self) -> bool
         ensures { result ≡ is_unjudged self.now }
     {
         matches!(self, CallerState::Unjudged(_))
     }
 
-    /// The caller, with its local as it is, and how the line of its call under way ends, where it
-    /// leaves one. Between two calls it stays live, and else it is halted.
+    /// The caller, with its local as it is, and the end of the line of its call under way, where it
+    /// leaves one. A caller with a call under way is halted, and any other keeps its stance.
     pub fn stop(self) -> (Caller<P>, Option<LineEnd>)
         // The caller keeps its number and its local, and is still one of its rows.
         ensures caller { IsSame (caller_at self) result.0 }

@@ -7,24 +7,25 @@ use Rattle.seq_objects.specs.Words as words
 use Rattle.seq_objects.specs.Words.{OperationEntry, word_of}
 use Rattle.client_scripts.specs.Plans.{Plan}
 
--- the value of a caller's call, by the number of the script
+-- the value of call `k` of a caller, in the script made from `number`
 abbrev pub value_of : ℕ → ℕ → ℕ → ℕ
 value_of number caller k = (number % 2 ^ 20) * 4096 + caller * 256 + k
 
--- the operation of an entry with these arguments, of which those are 0 that the entry doesn't take
+-- the operation word of a table's entry with an argument and an extra, each given as 0 where the
+-- entry takes none
 abbrev pub operation : OperationEntry → ℕ → ℕ → ℕ
 operation entry argument extra = word_of entry.code argument extra
 
--- the first operation for even numbers, and the second one for odd ones
+-- the operation `even` where the number `k` is even, and `odd` where it is odd
 abbrev pub by_halves : ℕ → ℕ → ℕ → ℕ
 by_halves k even odd = if k % 2 == 0 then even else odd
 
--- the first, the second or the third operation, in turn by the number
+-- the operation `first`, `second` or `third`, where `k` modulo 3 is 0, 1 or 2
 abbrev pub by_thirds : ℕ → ℕ → ℕ → ℕ → ℕ
 by_thirds k first second third =
     if k % 3 == 0 then first else (if k % 3 == 1 then second else third)
 
--- the operation of a call with this number among its caller's calls, by its value
+-- the operation of the call with the value `v` that is call `k` of its caller
 abbrev pub generated_operation : Kind → ℕ → ℕ → ℕ
 generated_operation Queue v k = by_halves k (operation words.enq v 0) (operation words.deq 0 0)
 generated_operation Stack v k = by_halves k (operation words.push v 0) (operation words.pop 0 0)

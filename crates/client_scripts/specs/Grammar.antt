@@ -32,7 +32,7 @@ abbrev pub stop_line : ℕ → Option ℕ → List (List (List ℕ))
 stop_line caller None = []
 stop_line caller (Some phases) = stop_words caller phases ∷ []
 
--- the words of the turns
+-- the words of the turns line: 'turns' and the callers that take turns
 abbrev pub turns_words : List ℕ → List (List ℕ)
 turns_words turns = codes "turns" ∷ map decimal turns
 

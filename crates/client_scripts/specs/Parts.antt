@@ -27,7 +27,7 @@ IsCallRead words call text op left =
     → GoesTo (script_rules words.version) (InBody words.kind begun (call ∷ more)) text
     (InBody words.kind (with_operation begun op) more) left
 
--- the next line, which is to be that of this call, has the first fault
+-- this is the first fault of a text where the line of this call is due next
 abbrev pub IsCallFault : KindWords → Call → Unread → TextFault → Type 0
 IsCallFault words call text fault = (begun : Begun) (more : List Call)
     → IsFirstFault (script_rules words.version) (InBody words.kind begun (call ∷ more)) text fault
@@ -39,21 +39,20 @@ AreCallsRead words i count text ops left =
     → GoesTo (script_rules words.version) (InBody words.kind begun (calls_from i 0 count ++ more))
     text (InBody words.kind (with_operations begun ops) more) left
 
--- a reader stops with this fault in the next lines, which are to be those of this many calls of a
--- caller
+-- a reader stops with this fault where the lines of this many calls of a caller are due next
 abbrev pub AreCallsStopped : KindWords → ℕ → ℕ → Unread → ReadFault → Type 0
 AreCallsStopped words i count text e = (begun : Begun) (more : List Call) → StopsFor
     (script_rules words.version) (InBody words.kind begun (calls_from i 0 count ++ more)) text e
 
--- the next lines are those of all calls of these numbers, with the operations that these clients
--- hold
+-- the next lines are those of all calls, as many of each caller as `calls` says, with the
+-- operations that `clients` hold
 abbrev pub AreClientsRead : KindWords → List ℕ → Unread → List CallerScript → Unread → Type 0
 AreClientsRead words calls text clients left =
     GoesTo (script_rules words.version) (InBody words.kind (begin calls) (all_calls 0 calls)) text
     (InBody words.kind (told clients 0) []) left
 
--- a reader stops with this fault in the next lines, which are to be those of all calls of these
--- numbers
+-- a reader stops with this fault where the lines of all calls are due next, as many of each caller
+-- as `calls` says
 abbrev pub AreClientsStopped : KindWords → List ℕ → Unread → ReadFault → Type 0
 AreClientsStopped words calls text e = StopsFor (script_rules words.version)
     (InBody words.kind (begin calls) (all_calls 0 calls)) text e
@@ -70,14 +69,14 @@ abbrev pub IsTailLineRefused : Begun → List (List ℕ) → ℕ → ReadFault �
 IsTailLineRefused begun words number e = (e ≡ NoMemory) ⊎ ((what : What)
     × (e ≡ Text (record { line = number; what = what })) × IsFirstTest (TailFails begun words) what)
 
--- after the calls of the clients `before` the next lines are stops and turns: the clients `after`
--- are these clients with the stops, and the turns are these
+-- after the lines of the calls of the clients `before`, the next lines are stops and then the turns
+-- `turns`: the clients `after` are those clients with their stops
 abbrev pub IsTailRead : List CallerScript → Unread → List CallerScript → List ℕ → Unread → Type 0
 IsTailRead before text after turns left =
     (version : Version) (kind : Kind) → GoesTo (script_rules version)
     (InBody kind (told before 0) []) text (Turned (plan_in kind after turns)) left
 
--- a reader stops with this fault in the next lines, which are to be stops and turns
+-- a reader stops with this fault where stops and turns are due, after the calls of these clients
 abbrev pub IsTailStopped : List CallerScript → Unread → ReadFault → Type 0
 IsTailStopped before text e = (version : Version) (kind : Kind)
     → StopsFor (script_rules version) (InBody kind (told before 0) []) text e

@@ -31,8 +31,8 @@ IsCall plan call = call.number < length (operations_of plan call.caller)
 abbrev pub sizes : List (List ℕ) → List ℕ
 sizes operations = map (λ ops. length ops) operations
 
--- There is a stop or none for each caller with these numbers of calls, and a stop comes before the
--- phases of the caller's calls are through.
+-- For each caller, with its number of calls, there is a stop or none. A stop is a number of phases
+-- below that of all the caller's calls, each of which has `PHASES` phases.
 abbrev pub AreStops : List ℕ → List (Option ℕ) → Type 0
 AreStops [] [] = Unit {0}
 AreStops [] (stop ∷ stops) = ⊥

@@ -23,8 +23,8 @@ plan_in kind clients turns = record {
   turns = turns;
 }
 
--- what the lines say once those of all calls are read, and those of the stops of all callers before
--- this one
+-- what the lines of a script have said once the lines of all calls are read, and the stops of the
+-- callers below `least`
 abbrev pub told : List CallerScript → ℕ → Begun
 told clients least = record {
   calls = sizes (operations_in clients);

@@ -29,25 +29,25 @@ pub record Begun : Type 0 where
   pub calls : List ℕ
   -- the operations of the calls so far, one after the other
   pub operations : List ℕ
-  -- the stops so far, one place a caller
+  -- for each caller its stop, where the lines so far give one
   pub stops : List (Option ℕ)
   -- stops are given by rising callers: the callers from this one on may have a further stop
   pub least : ℕ
 
--- what the lines say before those of calls
+-- what the head says of calls, with no operation and no stop yet
 abbrev pub begin : List ℕ → Begun
 begin calls =
     record { calls = calls; operations = []; stops = replicate (length calls) None; least = 0 }
 
--- what the lines say, with the operation of one more call
+-- what the lines of a script say so far, with the operation of one more call
 abbrev pub with_operation : Begun → ℕ → Begun
 with_operation begun op = record begun { operations = begun.operations ++ op ∷ [] }
 
--- what the lines say, with the operations of further calls
+-- what the lines of a script say so far, with the operations of further calls
 abbrev pub with_operations : Begun → List ℕ → Begun
 with_operations begun ops = record begun { operations = begun.operations ++ ops }
 
--- what the lines say, with one more stop
+-- what the lines of a script say so far, with one more stop
 abbrev pub with_stop : Begun → ℕ → ℕ → Begun
 with_stop begun caller phases =
     record begun { stops = slice_set begun.stops caller (Some phases); least = caller + 1 }
@@ -77,7 +77,8 @@ pub data ScriptDue : Type 0 where
   Turned : Plan → ScriptDue
   AtEnd : Plan → ScriptDue
 
--- a state of reading the head, as one of reading the script: after the whole head the calls are due
+-- a state of reading the head as a state of reading the script: after the whole head the calls are
+-- due
 abbrev pub after_head : HeadDue → ScriptDue
 after_head TitleDue = InHead TitleDue
 after_head ObjectDue = InHead ObjectDue
@@ -98,7 +99,7 @@ pub record IsCallLine (version : Version) (kind : Kind) (call : Call) (words : L
   pub has : op < word_limit version
   pub text : words ≡ call_words kind call op
 
--- the tests of the line of a call
+-- a line of these words, where this call is due, fails a test
 abbrev pub CallFails : Version → Kind → Call → List (List ℕ) → What → Type 0
 -- the line doesn't begin with the caller and the number that are due
 CallFails version kind call words what.Place = (suffix : List (List ℕ))
@@ -111,19 +112,20 @@ CallFails version kind call words _ = ⊥
 
 -- ---- the lines of stops and of turns
 
--- a stop may be given here: callers rise, and the caller has more phases than it makes
+-- this stop may come next: its caller isn't below `least` and is one of the script's, and the
+-- caller's calls have more phases than it makes before the stop
 pub record IsStop (begun : Begun) (caller phases : ℕ) : Type 0 where
   pub rising : begun.least ≤ caller
   pub inside : caller < length begun.calls
   pub early : phases < PHASES * slice_index begun.calls caller
   pub numbers : AreNumbers (caller ∷ phases ∷ [])
 
--- the turns are of this many callers, as texts can have them
+-- each of the turns names one of `n` callers, by a number that texts can have
 pub record AreTurns (n : ℕ) (turns : List ℕ) : Type 0 where
   pub callers : AllByRecursion (λ caller. caller < n) turns
   pub numbers : AreNumbers turns
 
--- the line is that of a stop that may be given here
+-- the line is that of a stop which may come next
 pub record IsStopLine (begun : Begun) (words : List (List ℕ)) (caller phases : ℕ) : Type 0 where
   pub may : IsStop begun caller phases
   pub text : words ≡ stop_words caller phases
@@ -137,7 +139,8 @@ pub record IsTurnsLine (n : ℕ) (words : List (List ℕ)) (turns : List ℕ) : 
 abbrev pub BeginsAsStop : List (List ℕ) → List (List ℕ) → Type 0
 BeginsAsStop words suffix = words ≡ codes "stop" ∷ suffix
 
--- the right lines after the calls: a stop, or the turns
+-- a line of these words is right after the lines of calls, as a stop or as the turns, and leads to
+-- a state of reading
 abbrev pub TailPasses : Kind → Begun → List (List ℕ) → ScriptDue → Type 0
 TailPasses kind begun words after =
     ((caller : ℕ) × (phases : ℕ) × IsStopLine begun words caller phases
@@ -145,7 +148,7 @@ TailPasses kind begun words after =
     ⊎ ((turns : List ℕ) × IsTurnsLine (length begun.calls) words turns
     × (after ≡ Turned (plan_with kind begun turns)))
 
--- the tests of the lines after the calls
+-- a line of these words fails a test, where a stop or the turns are due
 abbrev pub TailFails : Begun → List (List ℕ) → What → Type 0
 -- the line begins with the word 'stop', and is no line of a stop
 TailFails begun words what.Stop = (suffix : List (List ℕ)) × BeginsAsStop words suffix
@@ -157,7 +160,7 @@ TailFails begun words _ = ⊥
 
 -- ---- the rules
 
--- the right lines of a script's text
+-- a line of these words is right in a state of reading a script's text, and leads to another state
 abbrev pub ScriptPasses : Version → ScriptDue → List (List ℕ) → ScriptDue → Type 0
 ScriptPasses version (InHead due) words after = (next : HeadDue)
     × HeadPasses version (codes "script") due words next × (after ≡ after_head next)
@@ -167,7 +170,7 @@ ScriptPasses version (InBody kind begun (call ∷ calls)) words after = (op : �
 ScriptPasses version (Turned plan) words after = (words ≡ end_words) × (after ≡ AtEnd plan)
 ScriptPasses version (AtEnd plan) words after = ⊥
 
--- the tests that the lines of a script's text may fail
+-- a line of these words fails a test in a state of reading a script's text
 abbrev pub ScriptFails : Version → ScriptDue → List (List ℕ) → What → Type 0
 ScriptFails version (InHead due) words name = HeadFails version (codes "script") due words name
 ScriptFails version (InBody kind begun []) words name = TailFails begun words name
@@ -193,7 +196,7 @@ abbrev pub IsFirstScriptFault : Version → List ℕ → TextFault → Type 0
 IsFirstScriptFault version bytes fault =
     IsFirstFault (script_rules version) (InHead TitleDue) (whole_text bytes) fault
 
--- The bytes are the text of the script that says this: right lines from the title to the end of the
+-- The bytes are the text of the script with this plan: right lines from the title to the end of the
 -- bytes.
 abbrev pub IsScriptText : Version → List ℕ → Plan → Type 0
 IsScriptText version bytes plan = (left : Unread)

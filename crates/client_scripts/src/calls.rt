@@ -32,7 +32,7 @@ pub(crate) fn read_clients(
     Ok(clients)
 }
 
-/// The operations of a caller's calls, of which there are this many.
+/// The operations of the `count` calls of a caller, whose lines are next.
 fn read_operations(
     alloc: Global,
     lines: &mut Lines,

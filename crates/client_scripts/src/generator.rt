@@ -29,6 +29,7 @@ pub fn make_script(
     requires few { callers ≤ TEXT_CALLERS }
     // Each caller has at most as many calls as texts may have.
     requires calls { calls ≤ TEXT_CALLS }
+    // The answer is the script that is made from the number.
     ensures { IfOk result (λ script. script ≡ generated number callers calls kind) }
 {
     let mut clients = Vec::new(alloc);
@@ -41,7 +42,7 @@ pub fn make_script(
     Ok(Script::from_parts(kind, clients, Vec::new(alloc)))
 }
 
-/// The operations of a caller.
+/// The operations of a caller, in the script made from `number`.
 fn make_operations(
     alloc: Global,
     number: u64,
@@ -62,7 +63,7 @@ fn make_operations(
     Ok(ops)
 }
 
-/// The operation of a call with this value and this number among its caller's calls.
+/// The operation of the call with this value that is call `k` of its caller.
 fn operation(kind: Kind, value: u64, k: u64) -> OpWord
     requires { value < 2 ^ 32 }
     ensures { result ≡ generated_operation kind value k }
@@ -93,14 +94,14 @@ fn word(code: u64, argument: u64, extra: u64) -> OpWord
     join(code * (1 << 32) + argument, extra)
 }
 
-/// The first operation for even numbers, and the second one for odd ones.
+/// The operation `even` where the number `k` is even, and `odd` where it is odd.
 fn by_halves(k: u64, even: OpWord, odd: OpWord) -> OpWord
     ensures { result ≡ by_halves k even odd }
 {
     if k % 2 == 0 { even } else { odd }
 }
 
-/// The first, the second or the third operation, in turn by the number.
+/// The operation `first`, `second` or `third`, where `k` modulo 3 is 0, 1 or 2.
 fn by_thirds(k: u64, first: OpWord, second: OpWord, third: OpWord) -> OpWord
     ensures { result ≡ by_thirds k first second third }
 {

@@ -14,7 +14,7 @@ pub fn one_script_per_text()
         → IsScriptText version bytes a → IsScriptText version bytes b → a ≡ b }
 {}
 
-/// A script has one text in a version.
+/// A script has one text at most in each version.
 pub fn one_text_per_script()
     ensures { (version : Version) (a b : List ℕ) (plan : Plan)
         → IsScriptText version a plan → IsScriptText version b plan → a ≡ b }

@@ -73,6 +73,7 @@ impl Script {
     pub fn calls(&self, i: u32) -> u64
         // The caller is one of the script's.
         requires { i < length self.now.operations }
+        // The answer is how many operations the script has for the caller.
         ensures { result ≡ length (operations_of self.now i) }
     {
         self.clients[i as usize].operations.len() as u64
@@ -82,6 +83,7 @@ impl Script {
     pub fn operations(&self, i: u32) -> &[OpWord]
         // The caller is one of the script's.
         requires { i < length self.now.operations }
+        // The answer has the caller's operation words in the order of its calls.
         ensures { result.now ≡ operations_of self.now i }
     {
         &self.clients[i as usize].operations
@@ -91,6 +93,7 @@ impl Script {
     pub fn op(&self, call: Call) -> OpWord
         // The call is one of the script's.
         requires { IsCall self.now call }
+        // The answer is the operation word that the script has for the call.
         ensures { slice_get (operations_of self.now call.caller) call.number ≡ Some result }
     {
         self.clients[call.caller as usize].operations[call.number as usize]
@@ -100,6 +103,7 @@ impl Script {
     pub fn stop(&self, i: u32) -> Option<u64>
         // The caller is one of the script's.
         requires { i < length self.now.operations }
+        // The answer is the caller's stop in the script.
         ensures { result ≡ slice_index_or self.now.stops i None }
     {
         self.clients[i as usize].stop

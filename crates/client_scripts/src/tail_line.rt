@@ -21,8 +21,7 @@ pub(crate) enum TailLine {
     Turns(Vec<u32>),
 }
 
-/// What the line with this number says, where the callers from the least one on may still have a
-/// stop.
+/// What the line with this number says, where the callers from `least` on may still have a stop.
 pub(crate) fn read_tail_line(
     alloc: Global,
     line: &[u8],

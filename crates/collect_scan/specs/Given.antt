@@ -10,8 +10,8 @@ use Rattle.world_core.specs.Calls.{IsLocalOf}
 use Rattle.row_table.specs.Progress.{work_of}
 use Rattle.collect_scan.specs.Scanned.{scan_with, HasScanned}
 
--- The entry that a scan of a region which began on the local `before` and ended with this cut adds
--- to the cuts that its caller was given.
+-- What a scan of a region adds to its caller's list of given cuts, where the scan began on the
+-- local `before` and ended with this cut.
 abbrev pub given_with : Local → Region → List ℕ → Given
 given_with before region cut = record { region = region; cut = cut; since = length before.looked }
 
@@ -48,8 +48,8 @@ CutsAreFew =
     → IsLocalOf s i after → HasScanned s.callers region opening cut before after
     → (j : ℕ) → slice_index cut j ≤ s.cap
 
--- What the cut of a scan of this region serves that begins on the local `before` with this opening:
--- the row under way, the view, the seen cut, or nothing.
+-- What the cut of a scan serves, where the scan is one of this region and begins on the local
+-- `before` with this opening: the row under way, the view, the seen cut, or nothing.
 abbrev pub purpose_with : Local → Region → Opening → Purpose
 purpose_with before region opening =
     let l : Local = opened before region opening in
@@ -63,8 +63,8 @@ OwnEntriesAreCounts =
     → IsLocalOf s i after → HasScanned s.callers region opening cut before after
     → purpose_with before region opening ≢ For_nothing → slice_index cut i ≡ own_count after region
 
--- No count of the region that a caller with this local has looked at is above the cut's entry for
--- the caller whose count it is.
+-- The cut's entry for each caller is at least each count of that caller in the region that the
+-- caller with the local `l` has looked at.
 abbrev pub HoldsLooks : Region → List ℕ → Local → Type 0
 HoldsLooks region cut l = (p : ℕ) (look : Looked) → slice_get l.looked p ≡ Some look
     → look.region ≡ region → look.count ≤ slice_index cut look.caller
@@ -77,7 +77,8 @@ CutsHoldGiven =
     → HasScanned s.callers region opening cut before after
     → slice_get before.cuts p ≡ Some given → given.region ≡ region → IsWithin given.cut cut
 
--- A scan's cut contains each count of its region that the caller had looked at before the scan.
+-- The entries of a scan's cut are at least the counts of its region that the caller had looked at
+-- before the scan.
 abbrev pub CutsHoldLooks : Type 0
 CutsHoldLooks =
     (s : Shape) (i : ℕ) (region : Region) (opening : Opening) (cut : List ℕ) (before after : Local)

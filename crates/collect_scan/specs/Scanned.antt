@@ -82,9 +82,9 @@ local_after_scan n before region opening taken cut =
     went_on (local_in_scan n before region opening taken)
     (scan_with before region opening taken) (Done cut)
 
--- A caller's local after a scan that began on the local `before` with this opening took these
--- words: that of a scan under way where the scan needs a further word, and that after the scan
--- where it is done.
+-- A caller's local once a scan, which began on the local `before` with this opening, has taken
+-- these words: the local during the scan where it needs a further word, and the local after the
+-- scan where it is done.
 abbrev pub local_stood : ℕ → Local → Region → Opening → List ℕ → Local
 local_stood n before region opening taken =
     went_on (local_in_scan n before region opening taken) (scan_with before region opening taken)

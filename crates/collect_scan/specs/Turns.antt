@@ -35,10 +35,10 @@ pub record IsScanning (n : ℕ) (region : Region) (l : Local) : Type 0 where
   pub is : l ≡ local_in_scan n before region opening taken
   pub goes : is_done (wanted n taken) ≡ false
 
--- What a turn of a scan has done that began on the local `before` and had taken these words. Where
--- the turn answers no cut, the scan is under way, has taken one word more, and has taken fewer than
--- the most words that a scan of n callers may take; where the turn answers a cut, the local `now`
--- is `before`, changed by one whole scan that ended with this cut.
+-- What one turn has done of a scan that began on the local `before` and had taken these words.
+-- Where the turn answers no cut, the scan is under way, has taken one word more, and has taken
+-- fewer than the most words that a scan of n callers may take; where the turn answers a cut, the
+-- local `now` is `before`, changed by one whole scan that ended with this cut.
 abbrev pub HasTurned : ℕ → Region → event.Opening → List ℕ → Option (List ℕ) → Local
     → Local → Type 0
 HasTurned n region opening taken None before now =

@@ -34,12 +34,13 @@ pub fn cuts_are_of_counts()
 {}
 
 /// The cuts of a caller rise: a scan's cut contains each cut of its region that its caller was
-/// given before the scan, and each count of that region that the caller had looked at before the
-/// scan.
+/// given before the scan, and its entries are at least the counts of that region that the caller
+/// had looked at before the scan.
 pub fn cuts_rise()
     // A scan's cut contains each cut of its region that the caller was given before the scan.
     ensures given { CutsHoldGiven }
-    // A scan's cut contains each count of its region that the caller had looked at before the scan.
+    // The entries of a scan's cut are at least the counts of its region that the caller had looked
+    // at before the scan.
     ensures looked { CutsHoldLooks }
 {}
 
@@ -65,9 +66,9 @@ pub fn few_words_in_numbers()
     ensures sixteen { most_words 16 ≡ 288 }
 {}
 
-/// In each phase but the view's, a caller may begin a scan that carries no reply.
+/// In each phase but the phase view, a caller may begin a scan that carries no reply.
 pub fn plain_scan_may_begin<P: Program>(rows: &Rows<P>, caller: &Caller<P>, region: Region)
-    // The caller is one of these rows.
+    // The caller belongs to this table.
     requires caller { IsCallerOf P.meaning rows.now caller.now }
     // The caller isn't in the phase view.
     requires phase { (local_with caller.now).phase ≢ Viewing }

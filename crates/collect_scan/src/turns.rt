@@ -52,18 +52,18 @@ impl<P: Program> Scan<P> {
         caller: &mut Caller<P>,
         steps: &mut Steps<L>,
     ) -> Option<Cut>
-        // The caller is one of these rows.
+        // The caller belongs to this table.
         requires caller { IsCallerOf P.meaning rows.now caller.old }
         // The scan is this caller's, and the caller may make its next turn.
         requires turn { MayTurn P.meaning rows.now caller.old self.old }
-        // The caller is still one of these rows, with the same number.
+        // The caller still belongs to this table, and keeps its number.
         ensures caller { IsStill P.meaning rows.now caller.old caller.new }
         // After the first turn the caller means to begin no scan any more, and where the region is
         // N it has handed over the reply that it kept, if there was one; a later turn keeps the
         // caller's stance.
         ensures stance { stance_of caller.new
             ≡ stance_turned (has_begun self.old) (stance_of caller.old) (region_of self.old) }
-        // The scan keeps its caller and its region, and has now made its first turn.
+        // The scan keeps its caller and its region, and has made its first turn.
         ensures scan { (scanner_of self.new ≡ scanner_of self.old)
             × (region_of self.new ≡ region_of self.old) × (has_begun self.new ≡ true) }
         // After a first turn that answers no cut, the caller's local is the one before the turn

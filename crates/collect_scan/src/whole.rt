@@ -11,7 +11,8 @@ use std::sync::ledger::Ledger;
 use world_core::{Program, Region};
 
 /// Scans a region, and answers the cut: the counts that the region had at one moment during the
-/// scan. The cut contains each count of the region that the caller had looked at before the scan.
+/// scan. Its entries are at least the counts of the region that the caller had looked at before the
+/// scan.
 ///
 /// Two equal collects in a row end the scan. Where a caller has moved twice since the first
 /// collect, the scan ends with the cut that this caller's latest counted row embeds (Afek and
@@ -25,14 +26,14 @@ pub fn scan<P: Program, L: Ledger>(
     region: Region,
     steps: &mut Steps<L>,
 ) -> Cut
-    // The caller is one of these rows.
+    // The caller belongs to this table.
     requires caller { IsCallerOf P.meaning rows.now caller.old }
     // The caller may begin a scan of this region.
     requires begins { MayScan P.meaning rows.now caller.old region }
-    // The caller is still one of these rows, with the same number.
+    // The caller still belongs to this table, and keeps its number.
     ensures caller { IsStill P.meaning rows.now caller.old caller.new }
     // After the scan the caller means to begin no scan any more, and where the region is N it has
-    // handed over the reply that it kept, if there was one; its stance is else the one before.
+    // handed over the reply that it kept, if there was one; nothing else of its stance changes.
     ensures stance { stance_of caller.new ≡ stance_scanned (stance_of caller.old) region }
     // The caller's local is the one that it had before, changed by one scan of the region and no
     // other event of the caller; the scan ended with the answered cut.
@@ -41,8 +42,8 @@ pub fn scan<P: Program, L: Ledger>(
     // The counter of steps has risen by the number of words that this scan took.
     ensures exact { HasTicked rows.now.callers region (opening_at caller.old region) result
         (local_with caller.old) (local_with caller.new) steps.old steps.new }
-    // The answered cut contains each count of the region that the caller had looked at before the
-    // scan.
+    // The entries of the answered cut are at least the counts of the region that the caller had
+    // looked at before the scan.
     ensures looked { HoldsLooks region result (local_with caller.old) }
     // The answered cut has one count for each caller.
     ensures wide { length result ≡ rows.now.callers }

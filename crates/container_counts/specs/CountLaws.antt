@@ -17,9 +17,10 @@ abbrev pub TakesFollowPuts : Type 0
 TakesFollowPuts = (reading : Reading) (book : List Page) (table : Table) (values : List ℕ) (m : ℕ)
     → m < NEVER → TakesAhead table values m m → ContainerHasNoOrder reading table book
 
--- Where a take finds nothing and no view up to a moment holds it, and by that moment more puts of
--- some values have taken effect than takes may have taken out by the moment of the take's own view,
--- or by a later one, no container that begins empty has a legal order of a book with this table.
+-- A take finds nothing, and no view up to the moment `m` holds it. Where more puts of some values
+-- have taken effect by `m` than takes may have taken out by the moment `n`, which is that of the
+-- take's own view or later, no container that begins empty has a legal order of a book with this
+-- table.
 abbrev pub FindsLeaveNothing : Type 0
 FindsLeaveNothing = (reading : Reading) (book : List Page) (table : Table) (find : Call)
     (r : Record) (values : List ℕ) (m n : ℕ) → deal_of reading book find ≡ deals.FoundNothing

@@ -13,7 +13,7 @@ use Rattle.queue_pairs.specs.Tables.{rows_of, IsTable}
 use Rattle.container_counts.specs.declared.counts.Counted.{Counted}
 use Rattle.container_counts.specs.declared.counts.Counted.TheVariants as counted
 
--- Whether a value is among these values.
+-- Whether a value is in a list of values.
 abbrev pub listed : List ℕ → ℕ → Bool
 listed values v = list_any (λ w. nat_eq w v) values
 
@@ -42,10 +42,10 @@ may_take_one test did.FoundNothing = false
 may_take_one test did.OpenTake = true
 may_take_one test did.Other = false
 
--- Whether a call is counted, of these values and up to a moment: a put of one of them, or a take
--- that shows one, is due where the last moment of its span is no later than this one, and early
--- where the first moment of its span is no later; an unanswered take is early where the first
--- moment of its span is no later.
+-- Whether a call is counted, for a list of values and up to a moment `m`. A put of one of the
+-- values, or a take that shows one, is due where the last moment of its span is no later than `m`,
+-- and early where the first moment of its span is no later than `m`. An unanswered take is early
+-- where the first moment of its span is no later than `m`.
 abbrev pub is_counted : Counted → List ℕ → ℕ → TimedCall → Bool
 is_counted counted.DuePuts values m t =
     if puts_one (listed values) t.deal then nat_le t.span.last m else false
@@ -60,14 +60,14 @@ is_counted counted.EarlyTakes values m t =
 abbrev pub count_in : (TimedCall → Bool) → Table → ℕ
 count_in test table = sum_by (count_by test) (rows_of table)
 
--- More puts of these values have taken effect by the first moment than takes that show one of them,
--- or are unanswered, may have taken effect by the second one.
+-- More puts of some values have taken effect by the moment `m` than takes that show one of the
+-- values, or are unanswered, may have taken effect by the moment `n`.
 abbrev pub PutsAhead : Table → List ℕ → ℕ → ℕ → Type 0
 PutsAhead table values m n = count_in (is_counted counted.EarlyTakes values n) table
     < count_in (is_counted counted.DuePuts values m) table
 
--- More takes that show one of these values have taken effect by the second moment than puts of them
--- may have taken effect by the first one.
+-- More takes that show one of some values have taken effect by the moment `n` than puts of the
+-- values may have taken effect by the moment `m`.
 abbrev pub TakesAhead : Table → List ℕ → ℕ → ℕ → Type 0
 TakesAhead table values m n = count_in (is_counted counted.EarlyPuts values m) table
     < count_in (is_counted counted.DueTakes values n) table

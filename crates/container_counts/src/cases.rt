@@ -8,26 +8,27 @@ ghost use Rattle.queue_pairs.specs.Tables.{IsTable};
 ghost use Rattle.container_counts.specs.Counts.{IsRefuted, PutsAhead, TakesAhead};
 ghost use Rattle.container_counts.specs.Cases.{bag, bag_next, bag_spec, put_and_taken, taken_unput};
 
-/// A value is taken out that nobody put in.
+/// A book of a bag in which a value is taken out that nobody put in is refuted by counts.
 pub fn what_is_taken_was_put_in()
-    // By the view of the take more ones have been taken out than put in.
+    // By the moment of the take's view more ones have been taken out than put in.
     ensures ahead { (table : Table) → IsTable bag taken_unput table
         → TakesAhead table (1 ∷ []) 1 1 }
-    // No twos have.
+    // By the moment of the take's view no more twos have been taken out than put in.
     ensures other { (table : Table) → IsTable bag taken_unput table
         → ¬ TakesAhead table (2 ∷ []) 1 1 }
-    // So the book's table is refuted, and a refuted table's book has no legal order of the bag.
+    // The book's table is refuted, and the bag has no legal order of the book.
     ensures refuted { (table : Table) → IsTable bag taken_unput table
         → IsRefuted table × ¬ HasLegalOrder bag_spec taken_unput }
 {}
 
-/// A take finds nothing after a put, although nothing was taken out.
+/// A book of a bag in which a take finds nothing after a put, although nothing was taken out, has
+/// no legal order.
 pub fn what_is_left_is_found()
     // One 1 has been put in before any view holds the take that finds nothing, and none may have
     // been taken out by its view.
     ensures ahead { (table : Table) → IsTable bag (put_and_taken 0) table
         → PutsAhead table (1 ∷ []) 1 2 }
-    // So the bag has no legal order of the book.
+    // The bag has no legal order of the book in which the take finds nothing after the put.
     ensures none { (table : Table) → IsTable bag (put_and_taken 0) table
         → ¬ HasLegalOrder bag_spec (put_and_taken 0) }
 {}
@@ -38,6 +39,6 @@ pub fn legal_books_are_not_refuted()
     ensures bag { IsContainer bag bag_next }
     // The bag has a legal order of the book in which the 1 is put in and taken out.
     ensures legal { HasLegalOrder bag_spec (put_and_taken 2) }
-    // The table of this book isn't refuted.
+    // The table of the book in which the 1 is put in and taken out isn't refuted.
     ensures kept { (table : Table) → IsTable bag (put_and_taken 2) table → ¬ IsRefuted table }
 {}

@@ -4,7 +4,7 @@ ghost use Rattle.container_counts.specs.Counts.{listed, is_counted, count_in, Pu
 
 use queue_pairs::{QueueDeal, Table, TimedCall};
 
-/// Which calls of some values are counted, up to a moment.
+/// Which calls of a table are counted, for some values and up to a moment.
 #[derive(Clone, Copy)]
 pub enum Counted {
     /// The puts that have taken effect by the moment: their own view is no later than it.
@@ -20,11 +20,11 @@ pub enum Counted {
     EarlyTakes,
 }
 
-/// Whether more puts of these values have taken effect by the first moment than takes may have
-/// taken out by the second one. `false` is answered too where there are too many calls to count.
+/// Whether more puts of some values have taken effect by `put_moment` than takes may have taken out
+/// by `take_moment`. The answer is `false` too where there are too many calls to count.
 pub fn puts_are_ahead(table: &Table, values: &[u64], put_moment: u64, take_moment: u64) -> bool
-    // `true` is answered only where more puts of these values have taken effect by the first moment
-    // than takes may have taken out by the second one.
+    // The answer is `true` only where more puts of the values have taken effect by `put_moment`
+    // than takes may have taken out by `take_moment`.
     ensures { IsTrue result → PutsAhead table.now values.now put_moment take_moment }
 {
     is_less(
@@ -33,11 +33,11 @@ pub fn puts_are_ahead(table: &Table, values: &[u64], put_moment: u64, take_momen
     )
 }
 
-/// Whether more takes of these values have taken effect by the second moment than puts of them may
-/// have by the first one. `false` is answered too where there are too many calls to count.
+/// Whether more takes of some values have taken effect by `take_moment` than puts of them may have
+/// by `put_moment`. The answer is `false` too where there are too many calls to count.
 pub fn takes_are_ahead(table: &Table, values: &[u64], put_moment: u64, take_moment: u64) -> bool
-    // `true` is answered only where more takes of these values have taken effect by the second
-    // moment than puts of them may have by the first one.
+    // The answer is `true` only where more takes of the values have taken effect by `take_moment`
+    // than puts of them may have by `put_moment`.
     ensures { IsTrue result → TakesAhead table.now values.now put_moment take_moment }
 {
     is_less(
@@ -57,7 +57,8 @@ fn is_less(one: Option<usize>, other: Option<usize>) -> bool
     }
 }
 
-// How many calls of a table are counted, or `None` where the number is too great.
+// How many calls of a table are counted for some values up to a moment, or `None` where the number
+// is too great.
 fn count(table: &Table, what: Counted, values: &[u64], moment: u64) -> Option<usize>
     ensures { IfSome result (λ all. all ≡ count_in (is_counted what values.now moment) table.now) }
 {
@@ -69,7 +70,7 @@ fn count(table: &Table, what: Counted, values: &[u64], moment: u64) -> Option<us
     Some(all)
 }
 
-// How many calls of a caller are counted.
+// How many calls of a caller are counted for some values up to a moment.
 fn count_of(table: &Table, caller: usize, what: Counted, values: &[u64], moment: u64) -> usize
     ensures { result ≡ count_by (is_counted what values.now moment)
         (slice_index_or (rows_of table.now) caller []) }
@@ -80,7 +81,7 @@ fn count_of(table: &Table, caller: usize, what: Counted, values: &[u64], moment:
     }
 }
 
-// How many of these calls are counted.
+// How many calls of a row are counted for some values up to a moment.
 fn count_row(row: &[TimedCall], what: Counted, values: &[u64], moment: u64) -> usize
     ensures { result ≡ count_by (is_counted what values.now moment) row.now }
 {
@@ -93,7 +94,7 @@ fn count_row(row: &[TimedCall], what: Counted, values: &[u64], moment: u64) -> u
     all
 }
 
-// Whether a call is counted.
+// Whether a call is counted for some values up to a moment.
 fn is_counted(timed: TimedCall, what: Counted, values: &[u64], moment: u64) -> bool
     ensures { result ≡ is_counted what values.now moment timed }
 {
@@ -115,7 +116,7 @@ fn is_counted(timed: TimedCall, what: Counted, values: &[u64], moment: u64) -> b
     }
 }
 
-// Whether a value is among these.
+// Whether a value is among `values`.
 fn listed(values: &[u64], value: u64) -> bool
     ensures { result ≡ listed values.now value }
 {

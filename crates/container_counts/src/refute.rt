@@ -9,11 +9,11 @@ use std::alloc::Global;
 // How many different values are looked at, at most, where a take finds nothing.
 const MOST_VALUES: usize = 64;
 
-/// Moments of those calls of a table that some view holds, each with the call's value, in order: in
-/// `due_puts` and `due_takes` the moments of the own views of the answered puts, and of the takes
-/// that show a value; in the others the moments of the first views that hold the calls, in
-/// `early_puts` of all puts, in `early_takes` of the takes that show a value, in `open_takes` of
-/// the unanswered takes, with the value 0. And `values` has values of answered puts, each once.
+/// Moments of those calls of a table that some view holds, each with the call's value, each list in
+/// order. `due_puts` and `due_takes` have the moments of the own views of the answered puts, and of
+/// the takes that show a value. The other lists have the moments of the first views that hold the
+/// calls: `early_puts` of all puts, `early_takes` of the takes that show a value, and `open_takes`
+/// of the unanswered takes, with the value 0. `values` has values of answered puts, each once.
 #[derive(Drop)]
 struct TableMoments {
     due_puts: Vec<(u64, u64)>,
@@ -31,7 +31,8 @@ struct TableMoments {
 /// The moments and the values to count are found by lists of moments, which aren't trusted: the
 /// calls are counted once more.
 pub fn refute_by_counts(alloc: Global, table: &Table) -> Result<bool, NoMemory>
-    // `true` is answered only where no container has a legal order of a book with this table.
+    // The answer is `true` only where no container that begins empty has a legal order of a book
+    // with this table.
     ensures refuted { IfOk result (λ refuted. IsTrue refuted → IsRefuted table.now) }
 {
     let moments = moments_of(alloc, table)?;
@@ -43,8 +44,8 @@ pub fn refute_by_counts(alloc: Global, table: &Table) -> Result<bool, NoMemory>
     finds_refute(alloc, table, &moments)
 }
 
-// Whether more takes of these values have taken effect by a moment than puts of them may have by
-// then.
+// Whether more takes of some values have taken effect by a moment than puts of them may have by
+// this moment.
 fn takes_refute(table: &Table, values: &[u64], moment: u64) -> bool
     ensures { IsTrue result → IsRefuted table.now }
 {
@@ -67,8 +68,8 @@ fn finds_refute(alloc: Global, table: &Table, moments: &TableMoments) -> Result<
     Ok(false)
 }
 
-// Whether more puts of these values have taken effect before any view holds this take, which finds
-// nothing, than takes may have taken out by the take's own view.
+// Whether more puts of some values have taken effect before any view holds a take that finds
+// nothing, entry `place` of the table's, than takes may have taken out by this take's own view.
 fn find_refutes(table: &Table, values: &[u64], place: usize) -> bool
     ensures { IsTrue result → IsRefuted table.now }
 {
@@ -108,9 +109,9 @@ fn overtaken(moments: &TableMoments) -> Option<(u64, u64)> {
     None
 }
 
-// The values of which more puts have taken effect before this span than answered takes may have
-// taken out by its end. No value is answered where the unanswered takes that may have taken effect
-// by its end are enough for all that is left of these values.
+// The values of which more puts have taken effect before a take's span than answered takes may have
+// taken out by the end of the span. There are none where the unanswered takes that may have taken
+// effect by this end are enough for all that is left of the values.
 fn values_left(alloc: Global, moments: &TableMoments, span: Span) -> Result<Vec<u64>, NoMemory> {
     let mut left = Vec::new(alloc);
     let mut all: usize = 0;
@@ -128,7 +129,7 @@ fn values_left(alloc: Global, moments: &TableMoments, span: Span) -> Result<Vec<
     Ok(left)
 }
 
-// How many of these moments of a value, which are in order, are no later than the given one.
+// How many moments of a value, in a list in order, are no later than `moment`.
 fn up_to(moments: &[(u64, u64)], value: u64, moment: u64) -> usize {
     let before = moments.partition_point(|other| other.0 < value);
     let through = moments.partition_point(|other| other.0 < value

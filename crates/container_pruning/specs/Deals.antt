@@ -20,7 +20,7 @@ abbrev pub shown_deal : Option ℕ → Deal
 shown_deal None = deals.FoundNothing
 shown_deal (Some v) = deals.Took v
 
--- what a take did, by its record, where it has one
+-- what a take did, by its record; without a record it is an unanswered take
 abbrev pub recorded_deal : Reading → Option Record → Deal
 recorded_deal reading None = deals.OpenTake
 recorded_deal reading (Some r) = shown_deal (reading.shown r.reply)
@@ -35,7 +35,7 @@ deal_by_deed reading book call (Puts v) = deals.Put v
 deal_by_deed reading book call Takes = take_of reading book call
 deal_by_deed reading book call Neither = deals.Other
 
--- what a call with this operation did, where it has one
+-- what a call with this operation word did: where it has no word, it is neither a put nor a take
 abbrev pub deal_by_operation : Reading → List Page → Call → Option ℕ → Deal
 deal_by_operation reading book call None = deals.Other
 deal_by_operation reading book call (Some op) = deal_by_deed reading book call (reading.deed op)

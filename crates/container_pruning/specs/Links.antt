@@ -1,4 +1,4 @@
--- Links: what a call of a book says of the puts of values that other calls take or keep.
+-- Links: what a call of a book says of the puts of other values, whether calls take them or not.
 use Rattle.std.specs.Prelude.{◌≡◌, ℕ, ◌+◌, ◌⊎◌, ◌==◌, nat_lt, Bool, true, false, List, [], length, map, Option, Some, None, slice_index_or, sum, if◌then◌else◌}
 use Rattle.book_base.specs.declared.call.Call.{Call}
 use Rattle.book_base.specs.declared.call.Record.{Record}
@@ -55,13 +55,13 @@ reach_by (Some r) = sum r.view + 1
 abbrev pub reach_of : List Page → Call → ℕ
 reach_of book call = reach_by (record_of book call)
 
--- the reach that a link has by the object's discipline: of a queue always 0
+-- the reach that a link has by the object's discipline: in a queue 0, in a stack the call's reach
 abbrev pub reach_for : Discipline → ℕ → ℕ
 reach_for Queue reach = 0
 reach_for Stack reach = reach
 
--- the call that a take's link names as one that comes before the puts of what is taken later: in a
--- queue the only put of what the take itself takes, in a stack none
+-- the call that the link of a take names as one that comes before the puts of values that are taken
+-- later: in a queue the only put of the value that the take takes, in a stack none
 abbrev pub before_for : Discipline → Option Call → Option Call
 before_for Queue put = put
 before_for Stack put = None
@@ -81,20 +81,21 @@ link_by uses discipline call reach deals.FoundNothing =
 link_by uses discipline call reach deals.OpenTake = record no_link { reach = reach }
 link_by uses discipline call reach deals.Other = record no_link { reach = reach }
 
--- the link of a call of a book that did this, by the uses of values and the discipline of the
+-- the link of a call of a book with this deal, by the uses of values and the discipline of the
 -- object
 abbrev pub link_of : List Page → Uses → Discipline → Call → Deal → Link
 link_of book uses discipline call deal =
     link_by uses discipline call (reach_for discipline (reach_of book call)) deal
 
--- The call `first` comes before the puts of all that is taken after a call: it is that call itself,
--- where this found nothing, or, in a queue, the only put of what the call takes.
+-- The call `first` comes before the put of each value whose take `call` precedes: `first` is `call`
+-- itself, where this found nothing, or, in a queue, the only put of the value that `call` takes.
 abbrev pub Leads : Reading → List Page → Discipline → Call → Call → Type 0
 Leads reading book discipline call first =
     (FindsNothing reading book call × (first ≡ call)) ⊎ ((discipline ≡ Queue)
     × ((x : ℕ) × TakesOut reading book call x × PutsInAlone reading book first x))
 
--- A link is right for a call of the book.
+-- A link is right for a call of the book: the calls that it names, the reach and the kept value are
+-- as the book has them, where the link says anything of them.
 pub record IsLink (reading : Reading) (book : List Page) (discipline : Discipline) (call : Call)
     (link : Link) : Type 0 where
   pub before : (first : Call) → link.before ≡ Some first → Leads reading book discipline call first
@@ -109,7 +110,8 @@ abbrev pub HasNoneOfAny : Reading → List Page → Type 0
 HasNoneOfAny reading book = (spec : SeqSpec)
     → IsContainer reading spec.next → reading.values spec.init ≡ [] → ¬ HasLegalOrder spec book
 
--- Links are right for a book.
+-- Links are right for a book: the link of each call is right, and where the links refuse the book,
+-- it has no legal order for any container that begins empty.
 pub record AreLinks (reading : Reading) (book : List Page) (discipline : Discipline)
     (links : Links) : Type 0 where
   pub each : (call : Call) → IsLink reading book discipline call (link_at links call)

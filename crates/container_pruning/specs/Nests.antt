@@ -15,8 +15,8 @@ Outlasts book links open_from first take =
     ((later : Call) × ((link_at links later).after ≡ Some first) × Precedes book take later)
     ⊎ (((link_at links first).is_kept ≡ true) × IsEarly book open_from take)
 
--- A put that precedes a take, and whose value outlasts the take, comes before the put of what is
--- taken.
+-- A put that precedes a take, and whose value outlasts the take, comes before the put of the value
+-- that the take takes.
 abbrev pub AreNested : SeqSpec → List Page → Links → List ℕ → Type 0
 AreNested spec book links open_from = (take put first : Call)
     → (link_at links take).after ≡ Some put → Precedes book first take

@@ -19,9 +19,9 @@ raised_to predecessor_bound (Some first) =
 abbrev pub last_held : List ℕ → ℕ → Call
 last_held predecessor_bound i = record { caller = i; number = slice_index predecessor_bound i - 1 }
 
--- A past comes from the calls that were passed: the last call of each caller in the predecessor
--- bound is the one that the link of some passed call names, and the limit is the reach of some
--- passed call.
+-- A past is made from the links of passed calls, those of which `passed` holds: the last call of
+-- each caller in its predecessor bound is one that such a link names, and its limit is 0 or the
+-- reach in such a link.
 pub record IsPast (passed : Call → Type 0) (book : List Page) (links : Links)
     (past : Past) : Type 0 where
   pub wide : length past.predecessor_bound ≡ length book

@@ -5,8 +5,8 @@ use Rattle.book_base.specs.Cut.{Holds}
 use Rattle.book_base.specs.Book.{Page, Precedes}
 use Rattle.book_base.specs.PruningRules.{Known, call_bound_of, IsBelow}
 
--- A call is blocked after a cut: the cut lacks a call of its predecessor bound, or one that
--- precedes it.
+-- A call is blocked after a cut: the cut lacks a call of the call's predecessor bound, or another
+-- call that precedes it.
 abbrev pub IsBlocked : List Page → Known → List ℕ → Call → Type 0
 IsBlocked book known cut call = IsBelow cut (call_bound_of known call).predecessor_bound
     ⊎ ((a : Call) × Precedes book a call × (¬ Holds cut a))

@@ -15,17 +15,17 @@ use Rattle.container_pruning.specs.declared.uses.Use.{Use}
 use Rattle.container_pruning.specs.declared.uses.Uses.{Uses}
 use Rattle.container_pruning.specs.Deals.{deal_of}
 
--- the call is among those read so far: all calls of the callers before one, and the first calls of
--- this one
+-- a call is among those read so far: it is a call of a caller before `caller`, or one of `caller`
+-- with a number below `number`
 abbrev pub IsReadTo : ℕ → ℕ → Call → Type 0
 IsReadTo caller number call = (call.caller < caller)
     ⊎ ((call.caller ≡ caller) × (call.number < number))
 
--- no call uses the value
+-- the use of a value that no call puts in or takes out
 abbrev pub no_use : Use
 no_use = record { puts = 0; put = record { caller = 0; number = 0 }; takes = 0 }
 
--- the uses of a value
+-- how often calls put a value in and take it out, as `uses` has it
 abbrev pub use_of : List (ℕ × Use) → ℕ → Use
 use_of uses v = unwrap_or (lookup (is_at (nat_cmp v)) uses) no_use
 
@@ -38,9 +38,10 @@ pub record IsCounted (deal : Call → Deal) (read : Call → Type 0) (v : ℕ) (
   pub puts : length putters ≡ used.puts
   pub all_putters : (call : Call) → read call → deal call ≡ deals.Put v → (k : ℕ)
       × (slice_get putters k ≡ Some call)
-  -- the put that the use names is one of the calls that put the value in
+  -- the put that the use names is one of the calls that put the value in, where it counts any
   pub put : 1 ≤ used.puts → deal used.put ≡ deals.Put v
-  -- the calls read so far that take the value out, each once
+  -- a list, of the length that the use counts, of the calls read so far that take the value out,
+  -- each once
   pub takers : List Call
   pub takes : length takers ≡ used.takes
   pub all_takers : (call : Call) → read call → deal call ≡ deals.Took v → (k : ℕ)
@@ -49,7 +50,8 @@ pub record IsCounted (deal : Call → Deal) (read : Call → Type 0) (v : ℕ) (
       × (deal call ≡ deals.Took v)
   pub different : AreDifferent takers
 
--- The uses are those of the calls read so far.
+-- The uses are right for the calls of a book that were read so far: all calls of the callers before
+-- `caller`, and those of `caller` with a number below `number`.
 pub record AreUsesOf (reading : Reading) (book : List Page) (caller number : ℕ)
     (uses : Uses) : Type 0 where
   pub each : (v : ℕ)

@@ -5,7 +5,8 @@ ghost use Rattle.container_pruning.specs.Deals.{deal_of, take_of};
 use crate::reader::{Reader, Role};
 use book_base::{Book, Call};
 
-/// What a call of a book did.
+/// What a call of a book did to what the object holds: it put a value in, took one out, found
+/// nothing, is an unanswered take, or did neither.
 #[derive(Clone, Copy)]
 pub enum Deal {
     Put(u64),
@@ -15,7 +16,7 @@ pub enum Deal {
     Other,
 }
 
-/// What a call of a book did.
+/// What a call of a book did, read off its operation and its reply.
 pub fn deal_of<R: Reader>(reader: &R, book: &Book, call: Call) -> Deal
     requires { IsCall book.now call }
     ensures { result ≡ deal_of (R.reading reader.now) book.now call }
@@ -27,7 +28,7 @@ pub fn deal_of<R: Reader>(reader: &R, book: &Book, call: Call) -> Deal
     }
 }
 
-// What a call that takes did.
+// What a call whose operation takes did: it took a value, found nothing, or is unanswered.
 fn take_of<R: Reader>(reader: &R, book: &Book, call: Call) -> Deal
     requires { IsCall book.now call }
     ensures { result ≡ take_of (R.reading reader.now) book.now call }

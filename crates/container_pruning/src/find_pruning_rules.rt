@@ -13,18 +13,22 @@ use crate::uses::Uses;
 use book_base::{Book, NoMemory, PruningRules};
 use std::alloc::Global;
 
-/// The pruning rules of a queue's book (after Henzinger, Sezgin and Vafeiadis 2013): where the take
-/// of x precedes the take of v, x is put in before v; a take that finds nothing and precedes the
-/// take of v comes before the put of v; what no answered call takes is put in after whatever is
-/// taken by takes that precede each unanswered take, and after such takes that find nothing; and no
-/// value is taken more often than it is put in.
+/// The pruning rules of a queue's book (after Henzinger, Sezgin and Vafeiadis 2013).
+///
+/// - Where the take of x precedes the take of v, x is put in before v.
+/// - A take that finds nothing and precedes the take of v comes before the put of v.
+/// - A value that no answered call takes is put in after each value whose take precedes each
+///   unanswered take, and after each take that finds nothing and precedes each unanswered take.
+/// - No value is taken more often than it is put in.
+///
+/// The first three rules speak of taken values that are put in once.
 pub fn queue_pruning_rules<R: Reader>(
     alloc: Global,
     reader: &R,
     book: &Book,
 ) -> Result<PruningRules, NoMemory>
-    // For each object that reads as a queue and begins empty, each call that the answer forbids is
-    // infeasible there.
+    // For each object that reads as a queue and begins empty, each call that the answer forbids
+    // next, after a cut and at a list, is infeasible there.
     ensures { IfOk result (λ known. (spec : SeqSpec) → IsQueue (R.reading reader.now) spec.next
         → (R.reading reader.now).values spec.init ≡ [] → ArePruningRules spec book.now known) }
 {
@@ -35,18 +39,25 @@ pub fn queue_pruning_rules<R: Reader>(
     Ok(known)
 }
 
-/// The pruning rules of a stack's book: where the take of x precedes the take of v, v isn't put on
-/// x, so that a put of v which precedes the take of x comes before the put of x; a take that finds
-/// nothing and precedes the take of v comes before the put of v; what no answered call takes is put
-/// on nothing that is taken by takes that precede each unanswered take, and after such takes that
-/// find nothing; and no value is taken more often than it is put in.
+/// The pruning rules of a stack's book.
+///
+/// - Where the take of x precedes the take of v, v isn't put in while the stack holds x. So a put
+///   of v that precedes the take of x comes before the put of x.
+/// - A take that finds nothing and precedes the take of v comes before the put of v.
+/// - A value that no answered call takes isn't put in while the stack holds a value whose take
+///   precedes each unanswered take, and is put in after each take that finds nothing and precedes
+///   each unanswered take.
+/// - No value is taken more often than it is put in.
+///
+/// The first three rules speak of taken values that are put in once.
 pub fn stack_pruning_rules<R: Reader>(
     alloc: Global,
     reader: &R,
     book: &Book,
 ) -> Result<PruningRules, NoMemory>
-    // For each object that reads as a stack, holds its words and begins empty, each call that the
-    // answer forbids is infeasible there.
+    // For each object that reads as a stack, whose lists hold each of their words that a reply may
+    // show, and that begins empty, each call that the answer forbids next, after a cut and at a
+    // list, is infeasible there.
     ensures { IfOk result (λ known. (spec : SeqSpec) → IsStack (R.reading reader.now) spec.next
         → HoldsItsWords (R.reading reader.now)
         → (R.reading reader.now).values spec.init ≡ [] → ArePruningRules spec book.now known) }

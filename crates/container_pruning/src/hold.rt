@@ -15,8 +15,9 @@ use crate::stuck::is_stuck;
 use crate::uses::Uses;
 use book_base::{Book, Call, PruningRules};
 
-/// Holds back puts as the links of a book say, and each call of a book that links refuse or that is
-/// stuck.
+/// Holds back each put as the links of a book say: until after the calls that come before it, and
+/// at each list with a word of a rank below a limit. Where the links refuse the book, or the book
+/// is stuck, each of its calls is forbidden.
 pub fn hold(book: &Book, links: &Links, uses: &Uses, known: &mut PruningRules)
     requires links { AreLinksOf book.now links.now }
     requires call_bounds { (c : Call) → IsCall book.now c → HasCallBound known.old c }
@@ -37,7 +38,7 @@ pub fn hold(book: &Book, links: &Links, uses: &Uses, known: &mut PruningRules)
     }
 }
 
-// Holds back each put of what is taken, as the links of the calls that precede the take say.
+// Holds back each put whose value is taken, by the links of the calls that precede the take.
 fn follow(book: &Book, links: &Links, known: &mut PruningRules)
     requires links { AreLinksOf book.now links.now }
     requires call_bounds { (c : Call) → IsCall book.now c → HasCallBound known.old c }
@@ -52,7 +53,8 @@ fn follow(book: &Book, links: &Links, known: &mut PruningRules)
     }
 }
 
-// Holds back the puts of what a caller takes.
+// Holds back the puts of the values that a caller takes, by the links of the calls that precede the
+// takes.
 fn follow_caller(book: &Book, links: &Links, known: &mut PruningRules, caller: u32)
     requires links { AreLinksOf book.now links.now }
     requires call_bounds { (c : Call) → IsCall book.now c → HasCallBound known.old c }
@@ -75,8 +77,8 @@ fn follow_caller(book: &Book, links: &Links, known: &mut PruningRules, caller: u
     }
 }
 
-// Holds back the puts of what no answered call takes, as the links of the calls that precede each
-// unanswered take say.
+// Holds back the puts whose values no answered call takes, by the links of the calls that precede
+// each unanswered take.
 fn keep(book: &Book, links: &Links, uses: &Uses, known: &mut PruningRules)
     requires links { AreLinksOf book.now links.now }
     requires call_bounds { (c : Call) → IsCall book.now c → HasCallBound known.old c }
@@ -118,7 +120,7 @@ fn keep_caller(
     }
 }
 
-// Holds back each call of a book after itself, so that the book has no legal order.
+// Forbids each call of a book, by holding it back until after itself.
 fn refuse(book: &Book, known: &mut PruningRules)
     requires call_bounds { (c : Call) → IsCall book.now c → HasCallBound known.old c }
 {
@@ -127,7 +129,7 @@ fn refuse(book: &Book, known: &mut PruningRules)
     }
 }
 
-// Holds back each call of a caller after itself.
+// Forbids each call of a caller, by holding it back until after itself.
 fn refuse_caller(book: &Book, known: &mut PruningRules, caller: u32)
     requires call_bounds { (c : Call) → IsCall book.now c → HasCallBound known.old c }
     requires small { IsSmall book.now }

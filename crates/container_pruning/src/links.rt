@@ -28,7 +28,8 @@ pub struct Link {
     pub before: Option<Call>,
     /// The only put of the value that this call takes.
     pub after: Option<Call>,
-    /// The reach of this call, one more than the number of calls that its view counts; or 0.
+    /// The reach of this call, one more than the number of calls that its view counts; or 0, which
+    /// says nothing.
     pub reach: u64,
     /// Whether this call puts in a value that no answered call takes.
     pub is_kept: bool,

@@ -54,9 +54,9 @@ impl Takers {
     }
 }
 
-/// The puts of each caller that precede a take and may outlast it, the last one last, and how many
-/// of the caller's calls were looked at. No clause says which puts they are, since each use of them
-/// is checked.
+/// The puts of each caller that precede a take and whose values may outlast it, the last one last,
+/// and how many of the caller's calls were looked at. No clause says which puts they are, since
+/// each use of them is checked.
 #[derive(Drop)]
 struct Nests {
     passed: Vec<u64>,
@@ -163,7 +163,8 @@ fn nest_caller(
     Ok(())
 }
 
-// Holds back the put of what a call takes, after the last put of each caller that outlasts it.
+// Holds back the put of the value that a take takes, after each caller's last put that precedes the
+// take and whose value outlasts it.
 fn nest_take(
     book: &Book,
     links: &Links,
@@ -228,7 +229,8 @@ fn last_outlasting(
     Ok(None)
 }
 
-// Whether a put precedes a take, and its value is taken later, or by no answered call.
+// Whether a put precedes a take, and its value is taken by a call that the take precedes, or by no
+// answered call.
 fn outlasts(
     book: &Book,
     links: &Links,
@@ -252,7 +254,7 @@ fn outlasts(
     }
 }
 
-// Whether a later call takes what a put puts in, after a take.
+// Whether the call `later` takes the value that `first` puts in, and the take `take` precedes it.
 fn is_taken_later(book: &Book, links: &Links, first: Call, take: Call, later: Call) -> bool
     requires { IsCall book.now take }
     ensures { IsTrue result → ((link_at links.now later).after ≡ Some first)

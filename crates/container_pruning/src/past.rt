@@ -9,8 +9,8 @@ use crate::links::{Link, Links};
 use crate::uses::Uses;
 use book_base::{Book, Call, Cut};
 
-/// What the links of the calls that were passed say of a put: which calls must come before it, as a
-/// predecessor bound, and the greatest reach of these links.
+/// What the links of some calls say of a put: which calls must come before it, as a predecessor
+/// bound, and the greatest reach of these links. A call is passed where its link was added.
 #[derive(Clone, Copy)]
 pub struct Past {
     /// How many first calls of each caller `pass_preceding` has passed.
@@ -36,7 +36,7 @@ impl Past {
         }
     }
 
-    /// The past that has passed the calls of a book that precede each unanswered take.
+    /// The past with the links of the calls of a book that precede each unanswered take.
     pub fn early(book: &Book, links: &Links, uses: &Uses) -> Past
         requires { AreLinksOf book.now links.now }
         ensures { IsPast (IsEarly book.now uses.now.open_from) book.now links.now result }
@@ -48,7 +48,7 @@ impl Past {
         past
     }
 
-    // Passes the calls of a caller that precede each unanswered take.
+    // Adds the links of the calls of a caller that precede each unanswered take.
     fn pass_early_of(&mut self, book: &Book, links: &Links, uses: &Uses, caller: u32)
         requires small { IsSmall book.now }
         requires links { AreLinksOf book.now links.now }
@@ -64,7 +64,7 @@ impl Past {
         }
     }
 
-    /// Passes the calls that precede a call and weren't passed before.
+    /// Adds the links of the calls that precede a call and weren't passed before.
     pub fn pass_preceding(&mut self, book: &Book, links: &Links, call: Call)
         requires valid { IsValid book.now }
         requires small { IsSmall book.now }
@@ -78,7 +78,7 @@ impl Past {
         }
     }
 
-    // Passes the calls of a caller that precede a call.
+    // Adds the links of the calls of one caller that precede a call and weren't passed before.
     fn pass_preceding_of(&mut self, book: &Book, links: &Links, call: Call, caller: u32)
         requires valid { IsValid book.now }
         requires small { IsSmall book.now }
@@ -98,7 +98,8 @@ impl Past {
         }
     }
 
-    // Passes a call with this link.
+    // Adds a link: raises the predecessor bound so that it holds the call that the link names as
+    // coming before puts, and the limit to the link's reach where that is greater.
     fn pass(&mut self, link: Link)
         requires { IfSome link.before
             (λ first. (first.caller < length self.old.predecessor_bound)

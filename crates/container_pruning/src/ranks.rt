@@ -31,7 +31,7 @@ pub fn rank_takes<R: Reader>(
     Ok(())
 }
 
-// Ranks what a caller takes.
+// Gives a rank to each value that a caller's calls take and one call puts in.
 fn rank_caller<R: Reader>(
     reader: &R,
     book: &Book,
@@ -51,7 +51,7 @@ fn rank_caller<R: Reader>(
     Ok(())
 }
 
-// Ranks what a call takes.
+// Gives a rank to the value that a call takes, where one call puts it in.
 fn rank_call<R: Reader>(
     reader: &R,
     book: &Book,

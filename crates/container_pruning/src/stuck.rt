@@ -10,9 +10,9 @@ ghost use Rattle.container_pruning.specs.Stuck.{IsBlocked};
 
 use book_base::{Book, Call, Cut, MAX_CALLERS, MAX_CALLS, PruningRules};
 
-/// Whether a book is stuck: the calls that predecessor bounds and precedence allow, one after
-/// another, don't include all answered ones. This refuses, before any search, a book that has puts
-/// of which each must come before the other.
+/// Whether a book is stuck: adding calls one after another, as predecessor bounds and precedence
+/// allow, doesn't reach all answered calls. Such a book has no legal order. An example is one with
+/// puts each of which must come before the other.
 pub fn is_stuck(book: &Book, known: &PruningRules) -> bool
     ensures { (spec : SeqSpec) → ArePruningRules spec book.now known.now → IsTrue result
         → ¬ HasLegalOrder spec book.now }
@@ -54,7 +54,7 @@ fn grow_once(book: &Book, known: &PruningRules, cut: &mut Cut) -> bool
 }
 
 // Whether a call is blocked after a cut: the cut lacks a call of its predecessor bound, or an
-// answered one that precedes it. Of each caller only the first call outside the cut is looked at,
+// answered call that precedes it. Of each caller only the first call outside the cut is looked at,
 // since its view is within those of the caller's later calls.
 fn is_blocked(book: &Book, known: &PruningRules, cut: &Cut, call: Call) -> bool
     requires wide { length cut.now ≡ length book.now }

@@ -19,8 +19,8 @@ pub struct Use {
     pub takes: u64,
 }
 
-/// How often each value of a book is put in and taken out, and for each caller the number from
-/// which on its takes may be unanswered, in `open_from`.
+/// How often each value of a book is put in and taken out, and in `open_from` for each caller the
+/// number of its first unanswered take: the greatest number where it has none.
 #[derive(Drop)]
 pub struct Uses {
     pub by_value: BTreeMap<u64, Use>,
@@ -28,7 +28,7 @@ pub struct Uses {
 }
 
 impl Uses {
-    /// The uses of a book's values.
+    /// How often each value of a book is put in and taken out.
     pub fn of<R: Reader>(alloc: Global, reader: &R, book: &Book) -> Result<Uses, NoMemory>
         ensures { IfOk result (AreUsesOf (R.reading reader.now) book.now (length book.now) 0) }
     {
@@ -82,8 +82,8 @@ impl Uses {
         }
     }
 
-    // Lowers the number of a caller from which on takes may be unanswered to that of an unanswered
-    // take.
+    // Lowers the number that `open_from` has for a caller to that of an unanswered take, where this
+    // is less.
     fn open_at(&mut self, call: Call)
         requires { call.caller < MAX_CALLERS }
         ensures lowered { self.new.open_from ≡ slice_set self.old.open_from call.caller
@@ -125,7 +125,7 @@ impl Uses {
         Ok(())
     }
 
-    /// The uses of a value.
+    /// How often a value is put in and taken out.
     pub fn use_of(&self, value: u64) -> Use
         ensures { result ≡ use_of self.now.by_value.entries value }
     {
@@ -142,8 +142,8 @@ impl Uses {
         }
     }
 
-    /// Whether an answered call precedes each unanswered take. No clause says that each such call
-    /// is found, since one that isn't found costs time alone.
+    /// Whether an answered call precedes each unanswered take. The answer `true` is always right. A
+    /// wrong `false` costs time alone, so that no clause excludes it.
     pub fn is_early(&self, book: &Book, call: Call) -> bool
         requires { IsAnswered book.now call }
         ensures { IsTrue result → IsEarly book.now self.now.open_from call }

@@ -1,5 +1,5 @@
--- A call of a log under way: which object steps it has made, and what its caller knows of the log
--- by its steps.
+-- An announced call of a log: which object steps it has made, and what its caller knows of the log
+-- by the steps of all its calls.
 use Rattle.std.specs.Prelude.{◌≡◌, ℕ, ◌+◌, ◌*◌, ◌<◌, ◌≤◌, List, ◌++◌, Option, Some, None, length, slice_get}
 use Rattle.book_base.specs.OperationWord.{low_of, high_of}
 use Rattle.world_core.specs.Shape.{Meaning}
@@ -13,15 +13,16 @@ use Rattle.drv_wrapper.specs.States.{caller_announced, who_announced, number_ann
 use Rattle.log_program.specs.LogWords.{number_of, low_place, high_place, ticket_place, ticket_of, known, placed_at, known_operation, known_log}
 use Rattle.core_objects.specs.CoreObjects.{with_steps, after_steps}
 
--- The tickets are those of the first places of a log, as some steps show, and the steps show
--- nothing of the places after them.
+-- A caller's object steps show that these tickets stand in the first places of a log with `total`
+-- places, and the steps show nothing of the places after them.
 pub record KnowsTickets (total : ℕ) (tickets : List ℕ) (steps : List Object_step) : Type 0 where
   pub few : length tickets ≤ total
   pub filled : (q ticket : ℕ) → slice_get tickets q ≡ Some ticket
       → (known (ticket_place total q) steps ≡ Some ticket) × (0 < ticket)
   pub free : (q : ℕ) → length tickets ≤ q → known (ticket_place total q) steps ≡ None
 
--- The operations are those of the first tickets of a log, as some steps show.
+-- A caller's object steps show the operations of the calls whose tickets stand in the first places
+-- of a log: the operations `log`, in order.
 abbrev pub KnowsOperations : ℕ → List ℕ → List Object_step → Type 0
 KnowsOperations total log steps = known_log total steps (length log) ≡ Some log
 
@@ -30,16 +31,17 @@ module _ {P : Type 0} where
   abbrev pub places_on : Rows P → ℕ
   places_on r = r.callers * r.cap
 
-  -- The number of an announced call in the log on some rows.
+  -- The number of an announced call among the calls of all callers of the rows: its ticket in the
+  -- log is this number plus 1.
   abbrev pub number_on : Rows P → Announced P → ℕ
   number_on r a = number_of r.cap (who_announced a) (number_announced a)
 
-  -- The object words of some rows are those of a log.
+  -- The rows have as many object words as a log needs: three for each of its places.
   abbrev pub HasLogWords : Rows P → Type 0
   HasLogWords r = r.objects ≡ 3 * places_on r
 
-  -- The announced call b is the announced call a after some more object steps of its caller, and no
-  -- other event.
+  -- The announced call `b` is the announced call `a` after some further object steps of its caller
+  -- and no other event.
   pub record HasMade (meaning : P → ℕ → ℕ → Meaning) (r : Rows P) (a b : Announced P) : Type 0 where
     pub steps : List Object_step
     pub still : IsStill meaning r (caller_announced a) (caller_announced b)
@@ -49,7 +51,8 @@ module _ {P : Type 0} where
     pub progress : progress_of (announced_local b)
         ≡ after_steps steps (progress_of (announced_local a))
 
-  -- The announced call has stored both words of its operation.
+  -- The announced call has stored the low and the high word of its operation in the log's object
+  -- words.
   pub record HasStored (r : Rows P) (a : Announced P) : Type 0 where
     pub low_now : known (low_place (number_on r a)) (steps_now (announced_local a))
         ≡ Some (low_of (op_announced a))
@@ -64,23 +67,26 @@ module _ {P : Type 0} where
   abbrev pub place_on : Rows P → Announced P → Option ℕ
   place_on r a = placed_at (places_on r) (ticket_of (number_on r a)) (steps_now (announced_local a))
 
-  -- The caller of the announced call knows these tickets of the first places of the log.
+  -- The caller of the announced call knows that `tickets` stand in the first places of the log, and
+  -- knows nothing of the places after them.
   abbrev pub KnowsPlaces : Rows P → Announced P → List ℕ → Type 0
   KnowsPlaces r a tickets = KnowsTickets (places_on r) tickets (all_steps_of (announced_local a))
 
-  -- The caller of the announced call knows these operations of the first tickets of the log.
+  -- The caller of the announced call knows the operations of the calls whose tickets stand in the
+  -- first places of the log: the operations `log`, in order.
   abbrev pub KnowsLog : Rows P → Announced P → List ℕ → Type 0
   KnowsLog r a log = KnowsOperations (places_on r) log (all_steps_of (announced_local a))
 
-  -- The announced call has placed its ticket at the last of these places.
+  -- The announced call has placed its ticket in the log, and this ticket is the last one of
+  -- `tickets`, the tickets from the first place of the log on.
   pub record HasPlaced (r : Rows P) (a : Announced P) (tickets : List ℕ) : Type 0 where
     pub place : ℕ
     pub last : length tickets ≡ place + 1
     pub placed : place_on r a ≡ Some place
     pub ticket : slice_get tickets place ≡ Some (ticket_of (number_on r a))
 
-  -- The announced call has placed its ticket after that of the call with this number, of which its
-  -- caller knows.
+  -- The announced call has placed its ticket in the log, and its caller knows that the ticket of
+  -- the call with the number `named` stands at an earlier place.
   pub record MayLoad (r : Rows P) (a : Announced P) (named : ℕ) : Type 0 where
     pub own : ℕ
     pub placed : place_on r a ≡ Some own
@@ -90,7 +96,8 @@ module _ {P : Type 0} where
     pub ticket : known (ticket_place (places_on r) place) (all_steps_of (announced_local a))
         ≡ Some (ticket_of named)
 
-  -- The caller of the announced call knows the operation of the call with this number.
+  -- The caller of the announced call knows that the call with the number `named` has the operation
+  -- `operation`.
   abbrev pub KnowsOperation : Announced P → ℕ → ℕ → Type 0
   KnowsOperation a named operation =
       known_operation (Some (ticket_of named)) (all_steps_of (announced_local a)) ≡ Some operation

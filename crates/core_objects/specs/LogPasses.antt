@@ -1,4 +1,4 @@
--- The passes of the log: whose they are, and what they know of it.
+-- The passes of a log: for which caller a pass was made, and what it knows of the log.
 use Rattle.std.specs.Prelude.{◌≡◌, ℕ, ◌+◌, ◌*◌, ◌≤◌, List, length, vec_capacity}
 use Rattle.book_base.specs.SeqSpec.{SeqSpec}
 use Rattle.world_core.specs.Local.{Object_step}
@@ -12,8 +12,8 @@ abbrev pub object_of : {S : Type 0} → CoreLog S → S
 object_of log = log.object
 
 -- A pass of the log of a sequential object fits a caller, n callers, a cap and some object steps:
--- it is the pass of this caller for them, has capacity for the whole log, and knows just the
--- tickets and the operations that these steps show. Its state is the object's list after these
+-- it was made for this caller, this n and this cap, has capacity for the whole log, and knows just
+-- the tickets and the operations that these steps show. Its state is the object's list after these
 -- operations.
 pub record FitsLog (spec : SeqSpec) (pass : CorePass) (caller n cap : ℕ)
     (steps : List Object_step) : Type 0 where

@@ -46,7 +46,7 @@ pub struct CoreCell {
 }
 
 impl CoreCell {
-    /// The cell, and a pass for each of `n` callers with `cap` calls each, in order.
+    /// Opens the cell, with a pass for each of `n` callers with `cap` calls each, in order.
     pub fn open(alloc: Global, n: u32, cap: u64) -> Result<(CoreCell, Vec<CoreCellPass>), NoMemory>
         // There is at least one caller.
         requires some_callers { 1 ≤ n }

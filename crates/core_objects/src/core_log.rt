@@ -16,8 +16,8 @@ use std::alloc::Global;
 use world_core::{InWorld, Program};
 
 /// The program of the log of a sequential object: a call stores its operation, places its ticket in
-/// the log, loads the operations of the tickets below it, and gets the reply of the object after
-/// these.
+/// the log, loads the operations of the tickets before its own one, and gets the reply that the
+/// sequential object gives after these operations.
 #[derive(Clone, Copy)]
 pub struct LogProgram<S> {
     /// The sequential object.
@@ -37,7 +37,7 @@ impl<S: SeqObject + Copy> Program for LogProgram<S> {
 impl<S: SeqObject + Copy> InWorld for LogProgram<S> {}
 
 /// The object history of every run of the log of a sequential object is linearizable for this
-/// object, whatever the callers and the cap.
+/// sequential object, whatever the number of callers and the cap.
 pub fn runs_of_log<S: SeqObject + Copy>(_program: &LogProgram<S>)
     ensures { (n cap : ℕ) (steps : List Step)
         → IsRun (shape_with (⟦<LogProgram<S> as Program>⟧.meaning _program.now) n cap) steps
@@ -52,8 +52,8 @@ pub struct CoreLog<S> {
 }
 
 impl<S: SeqObject + Copy> CoreLog<S> {
-    /// The log of an object, and a pass for each of `n` callers with `cap` calls each, in order. It
-    /// takes all the memory that their calls need.
+    /// Opens the log of a sequential object, with a pass for each of `n` callers with `cap` calls
+    /// each, in order. All the memory that their calls need is taken here.
     pub fn open(
         alloc: Global,
         object: S,
@@ -68,10 +68,10 @@ impl<S: SeqObject + Copy> CoreLog<S> {
         requires some_calls { 1 ≤ cap }
         // Each caller has at most `MAX_CALLS` calls.
         requires few_calls { cap ≤ MAX_CALLS }
-        // The log is that of this object.
+        // The sequential object of the log is `object`.
         ensures object { IfOk result (λ r. object_of r.0 ≡ object) }
         // There is one pass for each caller, in order, which fits the caller, the number of callers
-        // and the cap, and knows no entry.
+        // and the cap, and knows no entry of the log.
         ensures passes { IfOk result
             (λ r. ArePassesFor (FitsLog (S.spec (object_of r.0))) n cap r.1.items) }
     {
@@ -79,8 +79,9 @@ impl<S: SeqObject + Copy> CoreLog<S> {
         Ok((CoreLog { object }, passes))
     }
 
-    // The reply to an operation after those of a log, where the state is the list after the first
-    // `made` operations of the log. It makes only the operations after these, and then this one.
+    // The reply to the operation `op` after the operations of `log`, where the state is the list
+    // after the first `made` operations of the log. Applies only the operations of the log from
+    // there on, and then `op`.
     fn reply_after(&self, state: &mut State, log: &[OpWord], made: usize, op: OpWord) -> u64
         requires made { made ≤ length log.now }
         requires state { state.old.words ≡ list_of (S.spec self.now.object).next

@@ -34,8 +34,8 @@ pub trait CoreObject {
     /// The program of this core object, with which the rows are opened.
     ghost program_of: { Self → Self.P };
 
-    /// The pass is this object's for a caller, for `n` callers and a cap, and knows what these
-    /// object steps of all the caller's calls show.
+    /// Whether a pass of this object fits a caller, a number of callers, a cap, and the object
+    /// steps of all the caller's calls: it was made for them, and knows what these steps show.
     ghost fits: { Self → Self.Pass → ℕ → ℕ → ℕ → List Object_step → Type 0 };
 
     /// The sequential object of this core object.
@@ -46,8 +46,8 @@ pub trait CoreObject {
     fn program(&self) -> Self::P
         ensures { result ≡ program_of self.now };
 
-    /// Makes the announced call, by object steps of its caller, and answers the reply that the
-    /// program then allows. It takes no memory.
+    /// Makes the announced call, by object steps of its caller, and returns the reply that the
+    /// program then allows. Takes no memory.
     fn reply(
         &self,
         rows: &Rows<Self::P>,
@@ -56,21 +56,21 @@ pub trait CoreObject {
     ) -> u64
         // The rows were opened with the program of this object.
         requires program { AreOpenedWith Self.P.meaning (program_of self.now) rows.now }
-        // The caller of the announced call is one of these rows.
+        // The caller of the announced call belongs to these rows.
         requires caller { IsCallerOf Self.P.meaning rows.now (caller_announced announced.old) }
         // The announced call has made no object step.
         requires first { steps_now (announced_local announced.old) ≡ [] }
-        // The pass fits the caller and all object steps that it has made.
+        // The pass fits the caller and all object steps that the caller has made.
         requires fits { fits self.now pass.old (who_announced announced.old) rows.now.callers
             rows.now.cap (all_steps_of (announced_local announced.old)) }
-        // The caller has made some object steps and no other event, its program now allows it this
-        // reply, and the pass fits it still.
+        // The caller has made some object steps and no other event, the program allows it the
+        // returned reply, and the pass fits the caller with these further steps.
         ensures made { (made : HasReplied Self.P.meaning rows.now announced.old
             announced.new result)
             × fits self.now pass.new (who_announced announced.old) rows.now.callers rows.now.cap
             (all_steps_of (announced_local announced.old) ++ made.steps) };
 
-    /// Makes the announced call, which has no object step yet, and keeps its reply. It takes no
+    /// Makes the announced call, which has no object step yet, and keeps its reply. Takes no
     /// memory.
     final fn ask(
         &self,
@@ -80,21 +80,22 @@ pub trait CoreObject {
     ) -> Answered<Self::P>
         // The rows were opened with the program of this object.
         requires program { AreOpenedWith Self.P.meaning (program_of self.now) rows.now }
-        // The caller of the announced call is one of these rows.
+        // The caller of the announced call belongs to these rows.
         requires caller { IsCallerOf Self.P.meaning rows.now (caller_announced announced) }
         // The announced call has made no object step.
         requires first { steps_now (announced_local announced) ≡ [] }
-        // The pass fits the caller and all object steps that it has made.
+        // The pass fits the caller and all object steps that the caller has made.
         requires fits { fits self.now pass.old (who_announced announced) rows.now.callers
             rows.now.cap (all_steps_of (announced_local announced)) }
-        // The caller is still one of these rows, with the same number.
+        // The caller still belongs to these rows, with the same number.
         ensures caller { IsStill Self.P.meaning rows.now (caller_announced announced)
             (caller_answered result) }
         // The answered call has the announced operation.
         ensures operation { op_answered result ≡ op_announced announced }
         // The program allows the caller the reply, by its local.
         ensures allowed { MayGet Self.P.meaning (caller_answered result) (reply_answered result) }
-        // The caller has made some object steps and no other event, and the pass fits it still.
+        // The caller has made some object steps and no other event, its progress has grown by these
+        // steps alone, and the pass fits the caller with these further steps.
         ensures made { (steps : List Object_step)
             × (answered_local result ≡ with_steps (announced_local announced) steps)
             × (progress_of (answered_local result)

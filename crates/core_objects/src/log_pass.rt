@@ -6,21 +6,23 @@ ghost use Rattle.core_objects.specs.LogPasses.{FitsLog};
 use book_base::{MAX_CALLERS, MAX_CALLS, NoMemory, OpWord, SeqObject, State};
 use std::alloc::Global;
 
-/// What one caller holds to ask the log: whose it is, for how many callers and calls, and what the
-/// caller knows of the log.
+/// What one caller holds to ask the log: the number of this caller, the number of callers and the
+/// cap, and what the caller knows of the log.
 #[derive(Drop)]
 pub struct CorePass {
     pub(crate) caller: u32,
     pub(crate) callers: u32,
     pub(crate) cap: u64,
-    // The tickets of the first places, and the operations that they name.
+    // The tickets in the first places of the log, as far as the caller knows them, and the
+    // operations of the calls that they stand for.
     pub(crate) tickets: Vec<u64>,
     pub(crate) log: Vec<OpWord>,
-    // The list of the sequential object after these operations.
+    // The list of the sequential object after the operations of `log`.
     pub(crate) state: State,
 }
 
-// The pass of a caller of the log of an object, for `n` callers, that knows nothing of the log.
+// The pass of a caller for the log of a sequential object, with `n` callers and `cap` calls each.
+// It knows nothing of the log yet.
 fn pass_for<S: SeqObject>(
     alloc: Global,
     object: &S,
@@ -47,7 +49,7 @@ fn pass_for<S: SeqObject>(
     })
 }
 
-// A pass for each of `n` callers, in order.
+// A pass of the log for each of `n` callers with `cap` calls each, in order.
 pub(crate) fn log_passes_for<S: SeqObject>(
     alloc: Global,
     object: &S,

@@ -13,7 +13,8 @@ use drv_wrapper::Announced;
 use row_table::Rows;
 use world_core::Program;
 
-// Stores both words of the operation at the places of the call with this number.
+// Stores both words of the announced operation in the two object words of the call with the number
+// `number`.
 pub(crate) fn store_operation<S: SeqObject + Copy>(
     rows: &Rows<LogProgram<S>>,
     announced: &mut Announced<LogProgram<S>>,
@@ -36,8 +37,8 @@ pub(crate) fn store_operation<S: SeqObject + Copy>(
     announced.object_store(rows, 2 * number + 1, high(op));
 }
 
-// Exchanges 0 for the ticket of the call at the first place that isn't known to be filled. It
-// answers the ticket that the place has then.
+// Exchanges 0 for the ticket of the call at the first place of the log that isn't known to be
+// filled, where that place is empty. Returns the ticket that the place has then.
 fn try_place<S: SeqObject + Copy>(
     rows: &Rows<LogProgram<S>>,
     announced: &mut Announced<LogProgram<S>>,
@@ -66,8 +67,8 @@ fn try_place<S: SeqObject + Copy>(
     }
 }
 
-// Places the ticket of the call in the log, place by place from the first that isn't known to be
-// filled. The tickets of these places, up to its own, are added to those that are known.
+// Places the ticket of the call in the log: tries place by place, from the first that isn't known
+// to be filled. The tickets that it finds, and at last its own, are added to `tickets`.
 pub(crate) fn place_ticket<S: SeqObject + Copy>(
     rows: &Rows<LogProgram<S>>,
     announced: &mut Announced<LogProgram<S>>,
@@ -99,11 +100,13 @@ pub(crate) fn place_ticket<S: SeqObject + Copy>(
             return;
         }
     }
-    // The log has as many places as there are calls, and this call has none yet.
+    // The log has as many places as the callers have calls, and this call's ticket isn't in it yet,
+    // so some place is empty.
     unreachable!()
 }
 
-// Loads the operation of the call with this number, whose ticket is known to be before the own one.
+// Loads the operation of the call with the number `named`, whose ticket is known to stand before
+// the announced call's own ticket.
 fn load_operation<S: SeqObject + Copy>(
     rows: &Rows<LogProgram<S>>,
     announced: &mut Announced<LogProgram<S>>,
@@ -124,7 +127,8 @@ fn load_operation<S: SeqObject + Copy>(
     join(low, high)
 }
 
-// Loads the operations of the tickets before the own one that aren't known yet.
+// Loads the operations that `log` lacks, of the calls whose tickets stand before the announced
+// call's own ticket, and adds them to `log`.
 pub(crate) fn load_operations<S: SeqObject + Copy>(
     rows: &Rows<LogProgram<S>>,
     announced: &mut Announced<LogProgram<S>>,

@@ -5,8 +5,8 @@ ghost use Rattle.core_objects.specs.OneWordPasses.{FitsOneWord};
 use book_base::NoMemory;
 use std::alloc::Global;
 
-/// What one caller holds to ask an object of one word: whose it is, and for how many callers and
-/// calls.
+/// What one caller holds to ask an object of one word: the number of this caller, the number of
+/// callers, and the cap.
 #[derive(Drop)]
 pub struct OneWordPass {
     caller: u32,

@@ -42,7 +42,7 @@ pub struct CoreTally {
 }
 
 impl CoreTally {
-    /// The tally, and a pass for each of `n` callers with `cap` calls each, in order.
+    /// Opens the tally, with a pass for each of `n` callers with `cap` calls each, in order.
     pub fn open(
         alloc: Global,
         n: u32,
@@ -64,7 +64,7 @@ impl CoreTally {
         Ok((CoreTally { counter: Counter }, passes))
     }
 
-    // Whether a call of this operation makes a step.
+    // Whether a call of the tally with this operation makes a step on its word.
     fn makes_step(&self, op: OpWord) -> bool
         ensures { result ≡ is_operation_of op words.inc }
     {

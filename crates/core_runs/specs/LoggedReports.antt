@@ -23,8 +23,8 @@ phases_in allotments findings i = phases_of (slice_index allotments i) (lines_at
 abbrev pub calls_of_lines : Findings → ℕ → List Made
 calls_of_lines findings i = map made_of (lines_at findings.lines i)
 
--- The calls of a report over the log of a sequential object are in one log, and its answers are
--- that object's, whatever the calls are judged by.
+-- The calls of a report over the log of a sequential object are in one log, whose answers are that
+-- object's, whatever object judged the calls.
 abbrev pub ReportsOfLogsAreLogged : Type 0
 ReportsOfLogsAreLogged =
     (spec judge : SeqSpec) (n cap : ℕ) (locals : List Local) (plan : Plan)

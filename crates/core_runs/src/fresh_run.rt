@@ -25,8 +25,8 @@ use std::thread::Threads;
 /// one can be had, and answers their report, which is lawful and has no error line. The table of
 /// rows is opened for the run, with this cap: how many calls each caller may make.
 ///
-/// Each caller has its pass, with which the object wasn't asked yet. Want of memory is answered
-/// before the first call, or where a judgement wanted it.
+/// Each caller has its pass, with which the object wasn't asked yet. `NoMemory` is answered before
+/// the first call, or where a call was left unjudged for want of memory.
 pub fn run_core_fresh<R: Threads + Sync, O: CoreObject + Sync>(
     rt: &R,
     alloc: Global,
@@ -45,13 +45,13 @@ where
     requires few_calls { cap ≤ MAX_CALLS }
     // No caller of the script has more operations than the cap.
     requires calls { AreAtMost cap (sizes script.now.operations) }
-    // There is one pass for each caller of the script, in order, which fits the caller, the number
-    // of callers, the cap, and no object steps.
+    // There is one pass for each caller of the script, in order. It fits the caller before its
+    // first object step, with this number of callers and this cap.
     requires passes { ArePassesFor (O.fits object.now)
         (length script.now.operations) cap passes.old.items }
-    // A report is of the script's kind, and its lines are those of the locals of some reachable
-    // world of the object's program; they are lawful, and each caller has made just the phases that
-    // its lines tell of.
+    // A report is of the script's kind and lawful. Its lines are those of the locals of some
+    // reachable world of the object's program, and each caller has made just the phases that its
+    // lines determine.
     ensures report { IfOk result (λ report. (locals : List Local) × IsReportOf
         (O.S.spec (O.sequential_of object.now)) (shape_with (O.P.meaning (O.program_of object.now))
         (length script.now.operations) cap) locals script.now (run_allotments script.now) report) }

@@ -30,8 +30,8 @@ impl<O: CoreObject> Asks for InsideObject<'_, O> {
     ghost fits = { λ asks. fits_inside (O.fits asks.object.now) };
 
     fn ask(&self, announced: Announced<O::P>, pass: &mut O::Pass) -> Answered<O::P>
-        // The caller is one of some table of rows that this object serves, which was opened with
-        // its program.
+        // The caller is one of the rows on which the object makes its steps, and these rows were
+        // opened with the object's program.
         requires table { (r : TheRows O.P)
             × Serves O.P.meaning (O.program_of self.now.object.now) self.now.rows.now r
             × IsCallerOf O.P.meaning r (caller_announced announced) }
@@ -42,16 +42,16 @@ impl<O: CoreObject> Asks for InsideObject<'_, O> {
             (caller_announced announced) }
         // The answered call is of the announced call's caller.
         ensures who { who_of (caller_answered result) ≡ who_announced announced }
-        // The caller is still one of each table that it was one of, and that this object serves.
+        // Where the caller is one of the rows on which the object makes its steps, it still is.
         ensures rows { (r : TheRows O.P)
             → Serves O.P.meaning (O.program_of self.now.object.now) self.now.rows.now r
             → IsCallerOf O.P.meaning r (caller_announced announced)
             → IsCallerOf O.P.meaning r (caller_answered result) }
         // The answered call has the announced operation.
         ensures operation { op_answered result ≡ op_announced announced }
-        // The program allows the caller the reply, by its local.
+        // The program allows the caller to get this reply, with the local that the caller has.
         ensures allowed { MayGet O.P.meaning (caller_answered result) (reply_answered result) }
-        // The caller's progress is as before, but for object steps.
+        // The caller's progress is as before, except for its object steps.
         ensures calls { ComesNoFurther (announced_local announced) (answered_local result) }
         // The caller's local has each look, peek and cut that it had before.
         ensures grows { Grows (announced_local announced) (answered_local result) }

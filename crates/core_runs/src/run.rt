@@ -28,8 +28,8 @@ use std::thread::Threads;
 /// Whatever the answer, the bench holds all callers again, the passes are in their order and fit
 /// the object steps that their callers have made, and each caller has made a prefix of its phases.
 /// Where a report is answered, each caller has made all of its phases, and one that stopped between
-/// two calls, or made all of its calls, is free for its next call. Want of memory is answered
-/// before the first call, or where a judgement wanted it.
+/// two calls, or made all of its calls, is free for its next call. `NoMemory` is answered before
+/// the first call, or where a call was left unjudged for want of memory.
 pub fn run_core<R: Threads + Sync, O: CoreObject + Sync>(
     rt: &R,
     alloc: Global,
@@ -45,32 +45,31 @@ where
     O::Pass: Send,
     // The rows were opened with the program of this object.
     requires program { AreOpenedWith O.P.meaning (O.program_of object.now) rows.now }
-    // The rows have just the script's callers, and capacity for their calls; the bench is that of
-    // the rows and holds each of these callers, ready and idle, without a call.
+    // The rows have just the script's callers, and capacity for their calls. The bench is a bench
+    // of the rows, and holds each of these callers, live and idle, without a call.
     requires begins { MayBegin O.P.meaning script.now 0 rows.now bench.old }
-    // There is one pass for each caller of the rows, in order, which fits the caller, the number of
-    // callers, the cap, and no object steps.
+    // There is one pass for each caller of the rows, in order. It fits the caller before its first
+    // object step, with the number of callers and the cap of the rows.
     requires passes { ArePassesFor (O.fits object.now) rows.now.callers rows.now.cap
         passes.old.items }
-    // Whatever the answer, the bench is still one of these rows, and holds all their callers.
+    // Whatever the answer, the bench is still a bench of `rows`, and holds each of their callers.
     ensures bench { IsBenchOf O.P.meaning rows.now bench.new × HoldsAll bench.new }
     // There is one pass for each caller of the script.
     ensures all_passes { vec_len passes.new ≡ length script.now.operations }
     // Each caller of the script is back on the bench with its pass, which fits the object steps
-    // that it has made, and has made a prefix of its phases: at most as many as the script gives
-    // it.
+    // that it has made. It has made a prefix of its phases: at most as many as the script gives it.
     ensures back { (i : ℕ) → i < length script.now.operations → IsBackOn O.P.meaning rows.now
         (fits_inside (O.fits object.now)) (λ pass. None) script.now.operations
         (run_allotments script.now)
         bench.new passes.new.items i }
-    // A report that is answered is of the script's kind, and its lines are those of the locals on
-    // the bench, which are of one reachable world; they are lawful, and each caller has made just
-    // the phases that its lines determine.
+    // A report that is answered is of the script's kind and lawful. Its lines are those of the
+    // locals on the bench, which are of one reachable world, and each caller has made just the
+    // phases that its lines determine.
     ensures report { IfOk result
         (λ report. IsReportOf (O.S.spec (O.sequential_of object.now)) (shape_of O.P.meaning
         rows.now) (locals_on bench.new) script.now (run_allotments script.now) report) }
-    // Where a report is answered, each caller that by its lines has no error and stopped between
-    // two calls, or made all of them, is free for its next call.
+    // Where a report is answered, each caller that has no error line and by its lines stopped
+    // between two calls, or made all of them, is free for its next call.
     ensures free { IfOk result (λ report. (i : ℕ) → i < length script.now.operations
         → IsFreeAgain bench.new (run_allotments script.now) report i) }
     // No line of a report is an error.

@@ -1,4 +1,5 @@
--- The local of a caller in the midst of its call, whose number is its count of published records.
+-- What the local of a caller is during one of its calls; the call's number is the caller's count of
+-- published records.
 use Rattle.std.specs.Prelude.{◌≡◌, ℕ, ◌+◌, Bool, true, false, List, [], slice_index, slice_index_or}
 use Rattle.world_core.specs.Local.{Local, Phase, Publishing}
 use Rattle.world_core.specs.Event.{is_asking, is_unstaged, is_view_under_way}
@@ -8,8 +9,8 @@ abbrev pub is_publishing : Phase → Bool
 is_publishing Publishing = true
 is_publishing _ = false
 
--- The caller has announced this operation, and the object is asked for the reply. No word is
--- staged, and the view's scan isn't under way.
+-- The caller has announced a call of this operation, and no look has carried its reply yet. No word
+-- is staged, and the view's scan isn't under way.
 pub record IsAsked (op : ℕ) (l : Local) : Type 0 where
   pub asking : is_asking l.phase ≡ true
   pub unstaged : is_unstaged l.staged ≡ true
@@ -17,8 +18,8 @@ pub record IsAsked (op : ℕ) (l : Local) : Type 0 where
   pub operation : slice_index l.operations l.published ≡ op
   pub scan : is_view_under_way l.scan ≡ false
 
--- The caller has announced this operation, and its record, which isn't published yet and of which
--- no word is staged, is this reply with this view.
+-- The caller has announced a call of this operation, whose record has this reply and this view. The
+-- record isn't published yet, and none of its words is staged.
 pub record IsRecorded (op reply : ℕ) (view : List ℕ) (l : Local) : Type 0 where
   pub publishing : is_publishing l.phase ≡ true
   pub unstaged : is_unstaged l.staged ≡ true

@@ -1,5 +1,5 @@
--- Which events of its caller announcing and viewing are, and what they leave of the lists of its
--- local.
+-- Which events the announcement of a call and the taking of its view are, and what they add to the
+-- lists of the caller's local.
 use Rattle.std.specs.Prelude.{◌≡◌, ℕ, List, [], ◌∷◌, ◌++◌}
 use Rattle.world_core.specs.declared.region.Region.TheVariants.{N}
 use Rattle.world_core.specs.Local.{Local}
@@ -8,9 +8,10 @@ use Rattle.collect_scan.specs.Scanned.{HasScanned}
 use Rattle.collect_scan.specs.Given.{given_with, HoldsLooks}
 use Rattle.row_table.specs.Staging.{local_announced}
 
--- A scan of N, then the row of this operation, and no other event, lead one of n callers from the
--- one local to the other. The row embeds the cut that this scan gave, which contains each count of
--- N that was looked at before, and the call has no object step yet.
+-- The local `after` is the local `before` of one of n callers, changed by a scan of N, then by the
+-- staging and the announcement of a row with this operation, and by no other event. The row embeds
+-- the scan's cut, whose entries are at least the counts of N that the caller had looked at before;
+-- and the call has no object step yet.
 pub record HasAnnounced (n op : ℕ) (before after : Local) : Type 0 where
   pub cut : List ℕ
   pub scanned : Local
@@ -21,9 +22,10 @@ pub record HasAnnounced (n op : ℕ) (before after : Local) : Type 0 where
   pub looked : HoldsLooks N cut before
   pub object_steps : after.object_steps ≡ before.object_steps ++ [] ∷ []
 
--- A scan of N which began with this reply and gave this cut, and no other event, leads one of n
--- callers from the one local to the other. The cut is the last that was given, contains each count
--- of N that was looked at before, and is the last view. No object step is added.
+-- The local `after` is the local `before` of one of n callers, changed by a scan of N that began
+-- with this reply and gave this view, and by no other event. The view is the local's last view and
+-- last given cut; its entries are at least the counts of N that the caller had looked at before;
+-- and no object step is added.
 pub record HasViewed (n reply : ℕ) (view : List ℕ) (before after : Local) : Type 0 where
   pub scan : HasScanned n N (Begins_view reply) view before after
   pub replies : after.replies ≡ before.replies ++ reply ∷ []

@@ -2,8 +2,8 @@
 use Rattle.std.specs.Prelude.{◌≡◌, ℕ, Some, Contains, slice_get}
 use Rattle.world_core.specs.Local.{Local, Given, Looked, Peeked}
 
--- The second local has each look, each peek and each cut that the first one has, and the cuts at
--- the places that they have there, as the local of a caller at a later moment has.
+-- The local `m` has all looks and all peeks of the local `l`, and all its given cuts, each at its
+-- place, as the local of the same caller at a later moment has.
 pub record Grows (l m : Local) : Type 0 where
   pub looked : (x : Looked) → Contains l.looked x → Contains m.looked x
   pub peeked : (x : Peeked) → Contains l.peeked x → Contains m.peeked x

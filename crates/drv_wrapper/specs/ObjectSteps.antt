@@ -11,9 +11,9 @@ use Rattle.drv_wrapper.specs.declared.announced.Announced.{Announced}
 use Rattle.drv_wrapper.specs.States.{caller_announced, number_announced, op_announced, announced_local}
 use Rattle.drv_wrapper.specs.Growth.{Grows}
 
--- The announced call b is the announced call a after this object step of its caller, and no other
--- event. The step is one of this call, and the last of all steps of its caller. The caller has come
--- no further with its calls.
+-- The announced call `b` is the announced call `a` after this object step of its caller and no
+-- other event. The step is the last one of this call and the last one of all the caller's calls,
+-- and none of these calls has come further by it.
 pub record HasStepped {P : Type 0} (meaning : P → ℕ → ℕ → Meaning) (r : Rows P) (a b : Announced P)
     (step : Object_step) : Type 0 where
   pub still : IsStill meaning r (caller_announced a) (caller_announced b)

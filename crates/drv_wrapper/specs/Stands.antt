@@ -15,13 +15,15 @@ abbrev pub replied : ℕ → Stance
 replied reply = record fresh_stance { reply = Some reply }
 
 module _ {P : Type 0} where
-  -- The caller d is c: it has the same number and the same local, and is of the same rows.
+  -- Caller `d` has the number and the local of caller `c`, and belongs to each table to which `c`
+  -- belongs.
   pub record IsSame (c d : Caller P) : Type 0 where
     pub who : who_of d ≡ who_of c
     pub local : local_with d ≡ local_with c
     pub rows : StaysWith c d
 
-  -- The caller d is c, halted, with its local as it is.
+  -- Caller `d` is caller `c` after it was halted: it makes no more calls; its number, its local and
+  -- the rest of its stance are those of `c`; and it belongs to each table to which `c` belongs.
   pub record IsStopped (c d : Caller P) : Type 0 where
     pub same : IsSame c d
     pub stance : stance_of d ≡ record (stance_of c) { live = false }

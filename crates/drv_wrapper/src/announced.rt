@@ -47,8 +47,8 @@ impl<P> Announced<P> {
     /// The caller, halted, with its local as it is: the call stays announced, and nobody answers
     /// it.
     pub fn stop(self) -> Caller<P>
-        // The caller keeps its number and its local, makes no further calls, and is still one of
-        // its rows.
+        // The caller keeps its number and its local, makes no further calls, and still belongs to
+        // its table.
         ensures { IsStopped (caller_announced self) result }
     {
         let Announced { caller, op: _ } = self;

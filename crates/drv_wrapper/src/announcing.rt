@@ -17,17 +17,18 @@ use std::sync::ledger::Ledger;
 use world_core::{Program, Region};
 
 /// Announces a call of a caller: scans N, stages the operation with the cut of this scan in the
-/// caller's row of N, and raises the caller's count there. From then on every view that is taken
+/// caller's row of N, and raises the caller's count there. Each view whose scan begins after that
 /// holds the call.
 ///
-/// The caller is live and idle, and has a call left. It ticks at most as often as one scan.
+/// The caller is live and idle, and has a call left. The counter of steps rises by at most the
+/// steps of one scan.
 pub fn announce<P: Program, L: Ledger>(
     mut caller: Caller<P>,
     rows: &Rows<P>,
     op: OpWord,
     steps: &mut Steps<L>,
 ) -> Announced<P>
-    // The caller is one of these rows.
+    // The caller belongs to this table.
     requires rows { IsCallerOf P.meaning rows.now caller }
     // The caller is idle.
     requires idle { IsIdle (local_with caller) }
@@ -35,12 +36,12 @@ pub fn announce<P: Program, L: Ledger>(
     requires left { (local_with caller).announced < rows.now.cap }
     // The caller makes calls, means to begin no scan, and keeps no reply.
     requires stands { stance_of caller ≡ ready }
-    // The caller is still one of these rows, with the same number.
+    // The caller still belongs to this table, and keeps its number.
     ensures caller { IsStill P.meaning rows.now caller (caller_announced result) }
     // The announced call has this operation.
     ensures operation { op_announced result ≡ op }
-    // The caller's local is the one before, changed by a scan of N, then by the row of this
-    // operation, and by no other event.
+    // The caller's local is the one before, changed by a scan of N, then by the staging and the
+    // announcement of a row with this operation, and by no other event.
     ensures announced { HasAnnounced rows.now.callers op (local_with caller)
         (announced_local result) }
     // The caller's calls are those before with the announced one at the end, and its published
@@ -49,7 +50,7 @@ pub fn announce<P: Program, L: Ledger>(
         ≡ after_announcing op (progress_of (local_with caller)) }
     // The caller's local has each look, peek and cut that it had before.
     ensures grows { Grows (local_with caller) (announced_local result) }
-    // The counter of steps has risen by at most the most words that a scan takes.
+    // The counter of steps has risen by at most n * (n + 1) + n for n callers.
     ensures ticks { (steps.old ≤ steps.new)
         × (steps.new ≤ steps.old + most_words rows.now.callers) }
 {

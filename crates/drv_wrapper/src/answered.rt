@@ -35,8 +35,8 @@ impl<P> Answered<P> {
     /// The caller, halted, with its local as it is: the call stays announced, and its reply is in
     /// no word of the table.
     pub fn stop(self) -> Caller<P>
-        // The caller keeps its number and its local, makes no further calls, and is still one of
-        // its rows.
+        // The caller keeps its number and its local, makes no further calls, and still belongs to
+        // its table.
         ensures { IsStopped (caller_answered self) result }
     {
         let Answered {

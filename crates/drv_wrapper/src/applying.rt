@@ -19,8 +19,8 @@ use row_table::{Caller, Rows, Steps};
 use std::sync::ledger::Ledger;
 use world_core::{Outside, Program};
 
-/// Announces a call, asks the object, and takes the view, under the conditions of these three. It
-/// ticks at most as often as two scans.
+/// Announces a call, asks the object once, and takes the view, as `announce`, `ask` and `view` do.
+/// The counter of steps rises by at most the steps of two scans.
 pub fn apply<B: BlackBox, L: Ledger>(
     caller: Caller,
     rows: &Rows,
@@ -29,7 +29,7 @@ pub fn apply<B: BlackBox, L: Ledger>(
     pass: &mut B::Pass,
     steps: &mut Steps<L>,
 ) -> Viewed
-    // The caller is one of these rows.
+    // The caller belongs to this table.
     requires rows { IsCallerOf ⟦<Outside as Program>⟧.meaning rows.now caller }
     // The caller is idle.
     requires idle { IsIdle (local_with caller) }
@@ -43,7 +43,7 @@ pub fn apply<B: BlackBox, L: Ledger>(
     requires pass { B.Pass.caller pass.old ≡ who_of caller }
     // The pass has made fewer calls than it may make.
     requires left { B.Pass.made pass.old < B.Pass.cap pass.old }
-    // The caller is still one of these rows, with the same number.
+    // The caller still belongs to this table, and keeps its number.
     ensures caller { IsStill ⟦<Outside as Program>⟧.meaning rows.now caller (caller_viewed result) }
     // The call has this operation.
     ensures operation { op_viewed result ≡ op }
@@ -68,7 +68,7 @@ pub fn apply<B: BlackBox, L: Ledger>(
     // that tells none still tells none.
     ensures told { B.Pass.told pass.new
         ≡ told_after op (reply_viewed result) (B.Pass.told pass.old) }
-    // The counter of steps has risen by at most twice the most words that a scan takes.
+    // The counter of steps has risen by at most twice n * (n + 1) + n for n callers.
     ensures ticks { (steps.old ≤ steps.new)
         × (steps.new ≤ steps.old + (most_words rows.now.callers + most_words rows.now.callers)) }
 {

@@ -26,7 +26,7 @@ pub fn ask<B: BlackBox>(announced: Announced, object: &B, pass: &mut B::Pass) ->
     // that tells none still tells none.
     ensures told { B.Pass.told pass.new
         ≡ told_after (op_announced announced) (reply_answered result) (B.Pass.told pass.old) }
-    // The caller keeps its number and its local, and is still one of its rows.
+    // The caller keeps its number and its local, and still belongs to its table.
     ensures caller { IsSame (caller_announced announced) (caller_answered result) }
     // The answered call has the operation of the announced one.
     ensures operation { op_answered result ≡ op_announced announced }

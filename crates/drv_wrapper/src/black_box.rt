@@ -57,14 +57,14 @@ use crate::object_pass::ObjectPass;
 /// is the operation, [`Announced::caller`] the caller and [`Announced::number`] the number of the
 /// call among that caller's. Operations and replies are words. Which ones there are, and which
 /// reply is right, is said by the sequential object that the replies are checked against
-/// (`SeqObject` in `book_base`), and an object is free to answer any word whatever: a wrong one is
-/// what the check is there to find.
+/// (`SeqObject` in `book_base`). An object may answer any word; to find wrong replies is what the
+/// check is for.
 ///
 /// What you owe, which the check of your crate proves of `call`:
 ///
 /// - It returns, and is safe beside calls of other callers: it takes `&self`, and one pass.
 /// - The pass counts: `made` is one more, and its caller and its cap are as before. So an object
-///   can be asked neither twice for one announcement, nor not at all.
+///   is asked exactly once for each announcement.
 /// - The pass stays one of the object's own. `is_own` is yours to choose, as the condition that
 ///   `call` needs of a pass, such as that it comes from this object's `open`. An object that leaves
 ///   it out takes any pass.
@@ -72,8 +72,8 @@ use crate::object_pass::ObjectPass;
 ///   as there were calls (`tells_each`). A pass that leaves `told` out owes nothing here.
 ///
 /// What you may take for granted in `call`: the pass is the object's own and the announced
-/// caller's, and `made < cap`. Nobody has to prove that the object is linearizable: that is what
-/// its runs show.
+/// caller's, and `made < cap`. Nobody has to prove that the object is linearizable: its replies are
+/// checked while they come.
 ///
 /// To share an object among threads it has to be `Sync`, and its passes `Send`.
 ///
@@ -87,7 +87,7 @@ pub trait BlackBox {
     /// What one caller holds to call the object.
     type Pass: ObjectPass;
 
-    /// Which passes are the object's own: left out, all of them.
+    /// Which passes are the object's own: all passes, where an object leaves this out.
     ghost is_own: { Self → Self.Pass → Type 0 } = { λ object pass. Unit {0} };
 
     /// Makes the announced call, once, and answers the object's reply to it.

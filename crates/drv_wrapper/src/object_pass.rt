@@ -16,8 +16,8 @@ pub trait ObjectPass {
     /// How many calls may be made with the pass in all.
     ghost cap: { Self → ℕ };
 
-    /// The calls that were made with the pass, the first one first: of each its operation and its
-    /// reply.
+    /// The operation and the reply of each call that was made with the pass, in order; `None` where
+    /// the pass doesn't tell its calls.
     ghost told: { Self → Option (List (ℕ × ℕ)) } = { λ pass. None };
 
     /// The number of the pass's caller.

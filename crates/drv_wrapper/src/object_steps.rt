@@ -17,14 +17,14 @@ use world_core::InWorld;
 impl<P: InWorld> Announced<P> {
     /// Loads an object word, which is one object step that doesn't change the word.
     ///
-    /// Like `object_store`, `object_add` and `object_exchange` it has the condition that the
-    /// program allows the step for every word that may be found.
+    /// The program has to allow the caller this step whatever word is found.
     pub fn object_load(&mut self, rows: &Rows<P>, place: u64) -> u64
-        // The caller is one of these rows.
+        // The caller belongs to this table.
         requires rows { IsCallerOf P.meaning rows.now (caller_announced self.old) }
         // The table has an object word at this place.
         requires place { place < rows.now.objects }
-        // The program allows the caller a step that leaves whichever word it finds there unchanged.
+        // The program allows the caller a step that leaves the word at this place as it is,
+        // whatever word it finds.
         requires program { MayStep P.meaning rows.now (caller_announced self.old) place (λ x. x) }
         // The announced call has made one object step more, which found the answered word and left
         // it there.
@@ -34,14 +34,15 @@ impl<P: InWorld> Announced<P> {
         rows.object_load(&mut self.caller, place)
     }
 
-    /// Stores a word into an object word, which is one object step.
+    /// Stores a word into an object word, which is one object step. The word that was found isn't
+    /// answered.
     pub fn object_store(&mut self, rows: &Rows<P>, place: u64, word: u64)
-        // The caller is one of these rows.
+        // The caller belongs to this table.
         requires rows { IsCallerOf P.meaning rows.now (caller_announced self.old) }
         // The table has an object word at this place.
         requires place { place < rows.now.objects }
-        // The program allows the caller a step that stores this word over whichever word it finds
-        // there.
+        // The program allows the caller a step that stores this word at this place, whatever word
+        // it finds.
         requires program { MayStep P.meaning rows.now (caller_announced self.old) place
             (λ _. word) }
         // The announced call has made one object step more, which found some word and left the
@@ -55,12 +56,12 @@ impl<P: InWorld> Announced<P> {
     /// Adds to an object word, modulo 2^64, which is one object step. It answers the word that it
     /// found.
     pub fn object_add(&mut self, rows: &Rows<P>, place: u64, add: u64) -> u64
-        // The caller is one of these rows.
+        // The caller belongs to this table.
         requires rows { IsCallerOf P.meaning rows.now (caller_announced self.old) }
         // The table has an object word at this place.
         requires place { place < rows.now.objects }
-        // The program allows the caller a step that adds this number, modulo 2^64, to whichever
-        // word it finds there.
+        // The program allows the caller a step that adds this number, modulo 2^64, to the word at
+        // this place, whatever word it finds.
         requires program { MayStep P.meaning rows.now (caller_announced self.old) place
             (λ x. (x + add) % 2 ^ 64) }
         // The announced call has made one object step more, which found the answered word and left
@@ -80,16 +81,16 @@ impl<P: InWorld> Announced<P> {
         old: u64,
         new: u64,
     ) -> Result<u64, u64>
-        // The caller is one of these rows.
+        // The caller belongs to this table.
         requires rows { IsCallerOf P.meaning rows.now (caller_announced self.old) }
         // The table has an object word at this place.
         requires place { place < rows.now.objects }
-        // The program allows the caller a step that puts `new` over `old`, and leaves each other
-        // word.
+        // The program allows the caller a step that puts `new` over `old` at this place, and leaves
+        // any other word that it finds as it is.
         requires program { MayStep P.meaning rows.now (caller_announced self.old) place
             (λ x. either (x == old) new x) }
-        // The announced call has made one object step more, which found the answered word, and left
-        // `new` exactly where that was `old`.
+        // The announced call has made one object step more, which found the answered word; it left
+        // `new` where that word is `old`, and otherwise the found word.
         ensures stepped { HasStepped P.meaning rows.now self.old self.new (record {
           place = place;
           old = found_by result;
@@ -103,12 +104,13 @@ impl<P: InWorld> Announced<P> {
         rows.object_exchange(&mut self.caller, place, old, new)
     }
 
-    /// Keeps a reply that the caller found by its object steps, and that the program allows it by
-    /// its local. The program still allows it when [`view`](crate::view) hands it over.
+    /// Answers the call with a reply that the caller found by its object steps. The program has to
+    /// allow the caller this reply, by its local, and still allows it when [`view`](crate::view)
+    /// hands it over.
     pub fn answer(self, reply: u64) -> Answered<P>
         // The program allows the caller this reply, by its local.
         requires allowed { MayGet P.meaning (caller_announced self) reply }
-        // The caller keeps its number and its local, and is still one of its rows.
+        // The caller keeps its number and its local, and still belongs to its table.
         ensures caller { IsSame (caller_announced self) (caller_answered result) }
         // The answered call has the operation of the announced one.
         ensures operation { op_answered result ≡ op_announced self }

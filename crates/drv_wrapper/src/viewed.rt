@@ -7,9 +7,9 @@ use book_base::{Cut, OpWord};
 use row_table::Caller;
 use world_core::Outside;
 
-/// A call that has its record, a reply and a view, which is not published yet.
+/// A call that has its record, of a reply and a view, and whose record isn't published yet.
 ///
-/// The state has to be spent: by a publication, which is made of its caller, or by `stop`.
+/// The state has to be used up: by the publication of the record, or by `stop`.
 pub struct Viewed<P = Outside> {
     pub(crate) caller: Caller<P>,
     pub(crate) op: OpWord,
@@ -41,7 +41,7 @@ impl<P> Viewed<P> {
 
     /// The call's caller, live, with its local as it is.
     pub fn into_caller(self) -> Caller<P>
-        // The caller keeps its number and its local, and is still one of its rows.
+        // The caller keeps its number and its local, and still belongs to its table.
         ensures caller { IsSame (caller_viewed self) result }
         // The caller's stance stays.
         ensures stance { stance_of result ≡ stance_of (caller_viewed self) }
@@ -57,8 +57,8 @@ impl<P> Viewed<P> {
 
     /// The caller, halted, with its local as it is: the call's record is not published.
     pub fn stop(self) -> Caller<P>
-        // The caller keeps its number and its local, makes no further calls, and is still one of
-        // its rows.
+        // The caller keeps its number and its local, makes no further calls, and still belongs to
+        // its table.
         ensures { IsStopped (caller_viewed self) result }
     {
         let Viewed {

@@ -19,18 +19,18 @@ use world_core::{Program, Region};
 /// caller's own among them, and none that is announced after the scan (Castañeda and Rodríguez
 /// 2023).
 ///
-/// The program allows the reply: one whose object is outside the world allows every reply. It ticks
-/// at most as often as one scan.
+/// The program has to allow the reply; a program of objects outside the world allows every reply.
+/// The counter of steps rises by at most the steps of one scan.
 pub fn view<P: Program, L: Ledger>(
     answered: Answered<P>,
     rows: &Rows<P>,
     steps: &mut Steps<L>,
 ) -> Viewed<P>
-    // The caller is one of these rows.
+    // The caller belongs to this table.
     requires rows { IsCallerOf P.meaning rows.now (caller_answered answered) }
     // The program allows the caller the reply of the answered call, by its local.
     requires allowed { MayGet P.meaning (caller_answered answered) (reply_answered answered) }
-    // The caller is still one of these rows, with the same number.
+    // The caller still belongs to this table, and keeps its number.
     ensures caller { IsStill P.meaning rows.now (caller_answered answered) (caller_viewed result) }
     // The viewed call has the operation and the reply of the answered one.
     ensures call { (op_viewed result ≡ op_answered answered)
@@ -41,13 +41,13 @@ pub fn view<P: Program, L: Ledger>(
     // gave the view, and by no other event.
     ensures viewed { HasViewed rows.now.callers (reply_viewed result) (view_viewed result)
         (answered_local answered) (viewed_local result) }
-    // The caller's last call has its record, of the reply and the view, and its progress is as
-    // before besides.
+    // The caller's last call has its record, of the reply and the view, and nothing else of its
+    // progress changes.
     ensures progress { progress_of (viewed_local result)
         ≡ after_viewing (record_viewed result) (progress_of (answered_local answered)) }
     // The caller's local has each look, peek and cut that it had before.
     ensures grows { Grows (answered_local answered) (viewed_local result) }
-    // The counter of steps has risen by at most the most words that a scan takes.
+    // The counter of steps has risen by at most n * (n + 1) + n for n callers.
     ensures ticks { (steps.old ≤ steps.new)
         × (steps.new ≤ steps.old + most_words rows.now.callers) }
 {

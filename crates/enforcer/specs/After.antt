@@ -1,4 +1,5 @@
--- What a judgement says whose order isn't part of it: that order is kept beside it, with marks.
+-- What a judgement (`Judged`) says of its call. The legal order that was found isn't part of a
+-- judgement: it is kept apart, with its marks.
 use Rattle.std.specs.Prelude.{◌≡◌, ◌+◌, ◌*◌, ◌≤◌, ℕ, false, List, Option, Some, None, Result, Ok, Err, IfSome, IsSomeAnd, length}
 use Rattle.book_base.specs.declared.call.Record.{Record}
 use Rattle.frontier_check.specs.declared.kept_order.KeptOrder.{KeptOrder}
@@ -38,7 +39,8 @@ outcome_of (Delivered reply view seen) None = None
 outcome_of (Delivered reply view seen) (Some s) = Some (outcome.Delivered reply view seen s.order)
 outcome_of (Illegal reply view seen book) standing = Some (outcome.Illegal reply view seen book)
 
--- The judgement and the kept order make an outcome together, and `holds` is true of it.
+-- The judgement and the kept order make an outcome together, as `outcome_of` says, and `holds` is
+-- true of this outcome.
 abbrev pub IsOutcome : Judged → Option KeptOrder → (Outcome → Type 0) → Type 0
 IsOutcome judged standing holds = IsSomeAnd (outcome_of judged standing) holds
 
@@ -49,8 +51,9 @@ IsKeptAfter n (Delivered reply view seen) gathered =
     IsSomeAnd gathered (λ g. (length g.book ≡ n) × (g.cut ≡ seen))
 IsKeptAfter n (Illegal reply view seen book) gathered = gathered ≡ None
 
--- The book that was judged, with its cut: after `Delivered` the book that is now kept, where one
--- is; and after `Illegal` the book that the judgement carries, with its seen cut.
+-- The book that was judged, with its cut: after `Delivered` the book `gathered` that is kept after
+-- the call, where one is; and after `Illegal` the book that the judgement carries, with its seen
+-- cut.
 abbrev pub judged_book : Judged → Option Gathered → Option Gathered
 judged_book (Delivered reply view seen) gathered = gathered
 judged_book (Illegal reply view seen book) gathered = Some (record { book = book; cut = seen })
@@ -60,14 +63,16 @@ abbrev pub reply_after : {P : Type 0} → Result (Caller P × Judged) (Unjudged 
 reply_after (Ok r) = (record_judged r.1).reply
 reply_after (Err u) = u.reply
 
--- Where there is a judged book, the counter has risen from `before` to `after` by the number of
--- words that this book has and the book kept before lacks, as `TicksForNew` says.
+-- Where the judged book is at hand (`judged_book`), the counter of steps has risen from `before` to
+-- `after` by the number of words of the judged book that the book kept before lacks, as
+-- `TicksForNew` says.
 abbrev pub TicksForJudged : ℕ → Option Gathered → Judged → Option Gathered → ℕ → ℕ → Type 0
 TicksForJudged n kept judged gathered before after =
     IfSome (judged_book judged gathered) (λ g. TicksForNew n kept g before after)
 
--- The counter has risen from `before` to some number by at most the most words that four scans may
--- take, and from there to `after` for the judged book, as `TicksForJudged` says.
+-- The counter of steps has risen from `before` to `after` in two parts: by at most the words that
+-- four scans may take, and then by the words of the judged book that the book kept before lacks, as
+-- `TicksForJudged` says.
 abbrev pub TicksForCallAfter : ℕ → Option Gathered → Judged → Option Gathered → ℕ → ℕ → Type 0
 TicksForCallAfter n kept judged gathered before after =
     (scanned : ℕ) × (before ≤ scanned) × (scanned ≤ before + 4 * most_words n)

@@ -35,24 +35,26 @@ abbrev pub reply_of : {P : Type 0} → Result (Caller P × Outcome) (Unjudged P)
 reply_of (Ok r) = (record_in r.1).reply
 reply_of (Err u) = u.reply
 
--- The counter has risen from `before` to some number by at most the most words that four scans may
--- take, and from there to `after` by the number of words that the call's book has and the book kept
--- before lacks, as `TicksForNewAfter` says.
+-- The counter of steps has risen from `before` to `after` in two parts: by at most the words that
+-- four scans may take, and then by the words of the call's book that the book kept before lacks, as
+-- `TicksForNewAfter` says.
 abbrev pub TicksForWholeCall : ℕ → Option Gathered → Outcome → Option Gathered → ℕ → ℕ → Type 0
 TicksForWholeCall n kept outcome gathered before after =
     (scanned : ℕ) × (before ≤ scanned) × (scanned ≤ before + 4 * most_words n)
     × TicksForNewAfter n kept outcome gathered scanned after
 
--- An outcome that is right by what its caller has peeked makes a right end of its call's line:
--- where that is `Delivered`, a book that the caller has gathered at the seen cut has a legal order;
--- and where it is `Error`, such a book has no legal order.
+-- Where an outcome is right for a book that its caller has gathered, the end of the call's line
+-- that it makes is right too: where the line ends with `Delivered`, a book that the caller has
+-- gathered at the seen cut has a legal order; where it ends with `Error`, a book that the caller
+-- has gathered at the seen cut has no legal order.
 abbrev pub OutcomesAreVerdicts : Type 0
 OutcomesAreVerdicts =
     (spec : SeqSpec) (n : ℕ) (l : Local) (outcome : Outcome)
     → IsRightByPeeks spec n l outcome → IsJudgedBy spec n l (end_of outcome)
 
--- An error is final: where the book of all callers' calls has no legal order at the cut `lower`,
--- each outcome that is right at a cut which contains `lower` is an error.
+-- An error is final: where the book at the cut `lower`, taken from the book of all callers' calls,
+-- has no legal order, an outcome that is right for the book at a cut which contains `lower` is an
+-- error.
 abbrev pub ErrorsAreFinal : Type 0
 ErrorsAreFinal =
     (spec : SeqSpec) (s : Shape) (locals : List Local)

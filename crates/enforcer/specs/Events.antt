@@ -1,5 +1,5 @@
--- Which events of its caller the publication of a record is, and which the scan that sees a cut,
--- and what they add to the lists of the caller's local.
+-- By which events a caller publishes a record, and by which it sees a cut afterwards; and what
+-- these events add to the lists of the caller's local.
 use Rattle.std.specs.Prelude.{◌≡◌, ℕ, List, [], ◌∷◌, ◌++◌}
 use Rattle.world_core.specs.declared.region.Region.TheVariants.{M}
 use Rattle.world_core.specs.Local.{Local}
@@ -9,8 +9,9 @@ use Rattle.collect_scan.specs.Given.{given_with, HoldsLooks}
 
 -- The local `after` is the local `before` of one of n callers, changed by a scan of M, the
 -- publication of the row that was staged, and no other event but stages. The row embeds the cut
--- that this scan gave, which is the last cut that was given, and which contains each count of M
--- that the caller had looked at before the scan.
+-- that this scan gave. This cut is the last one that was given to the caller, and no count of M
+-- that the caller had looked at before the scan is above the cut's entry for the caller whose count
+-- it is.
 pub record IsPublication (n : ℕ) (before after : Local) : Type 0 where
   pub cut : List ℕ
   pub scanned : Local
@@ -22,7 +23,8 @@ pub record IsPublication (n : ℕ) (before after : Local) : Type 0 where
 
 -- The local `after` is the local `before` of one of n callers, changed by a scan of M that ended
 -- with this cut, and no other event. The cut is the last one that was given and the last seen cut,
--- and it contains each count of M that the caller had looked at before the scan.
+-- and no count of M that the caller had looked at before the scan is above the cut's entry for the
+-- caller whose count it is.
 pub record IsSight (n : ℕ) (cut : List ℕ) (before after : Local) : Type 0 where
   pub scan : HasScanned n M Begins_scan cut before after
   pub given : after.cuts ≡ before.cuts ++ given_with before M cut ∷ []

@@ -18,12 +18,12 @@ use Rattle.drv_wrapper.specs.Stands.{ready}
 use Rattle.enforcer.specs.declared.outcome.Outcome.{Outcome}
 use Rattle.enforcer.specs.declared.outcome.Outcome.TheVariants.{Delivered, Illegal}
 
--- The record of the call that an outcome is of.
+-- The record of the call that has this outcome.
 abbrev pub record_in : Outcome → Record
 record_in (Delivered reply view seen order) = record { reply = reply; view = view }
 record_in (Illegal reply view seen book) = record { reply = reply; view = view }
 
--- The seen cut of the call that an outcome is of.
+-- The seen cut of the call that has this outcome.
 abbrev pub cut_in : Outcome → List ℕ
 cut_in (Delivered reply view seen order) = seen
 cut_in (Illegal reply view seen book) = seen
@@ -58,21 +58,21 @@ IsRightFor spec book (Delivered reply view seen order) =
 IsRightFor spec book (Illegal reply view seen carried) = (carried ≡ book)
     × ¬ HasLegalOrder spec book
 
--- The outcome is right for a book at its seen cut which a caller of n with this local has gathered,
--- by peeking each of its words.
+-- The outcome is right for a book that one of n callers, with the local `l`, has gathered at the
+-- seen cut, by peeking each of the book's words.
 abbrev pub IsRightByPeeks : SeqSpec → ℕ → Local → Outcome → Type 0
 IsRightByPeeks spec n l outcome = (book : List Page) × IsGathered n l (cut_in outcome) book
     × IsRightFor spec book outcome
 
--- In each reachable world in which caller `i` has this local, the outcome is right for the book at
--- its seen cut of the book of all callers' calls.
+-- In each reachable world in which caller `i` has the local `l`, the outcome is right for the book
+-- at its seen cut, taken from the book of all callers' calls.
 abbrev pub IsRightInWorlds : SeqSpec → Shape → ℕ → Local → Outcome → Type 0
 IsRightInWorlds spec s i l outcome =
     (locals : List Local) → AreTogether s locals → local_at locals i ≡ l
     → IsRightFor spec (book_at (cut_in outcome) (book_in locals)) outcome
 
--- In each reachable world of these rows in which this caller has its local, the outcome is right
--- for the book at its seen cut of the book of all callers' calls.
+-- In each reachable world of the rows `r` in which the caller `c` has its local, the outcome is
+-- right for the book at its seen cut, taken from the book of all callers' calls.
 abbrev pub IsRightOf : {P : Type 0} → (spec : SeqSpec) → (P → ℕ → ℕ → Meaning) → Rows P → Caller P
     → Outcome → Type 0
 IsRightOf spec meaning r c outcome =

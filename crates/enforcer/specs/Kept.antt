@@ -13,9 +13,10 @@ IsKeptAfterOutcome n (Delivered reply view seen order) gathered =
     IsSomeAnd gathered (λ g. (length g.book ≡ n) × (g.cut ≡ seen))
 IsKeptAfterOutcome n (Illegal reply view seen book) gathered = gathered ≡ None
 
--- The counter has risen from `before` to `after` by the number of words that the judged book has
--- and the book kept before lacks, as `TicksForNew` says. After `Delivered` the judged book is the
--- one that is now kept, where one is, and after `Illegal` the one that the outcome carries.
+-- The counter of steps has risen from `before` to `after` by the number of words of the judged book
+-- that the book `kept` before the call lacks, as `TicksForNew` says. After `Delivered` the judged
+-- book is the one that is kept after the call, where one is, and after `Illegal` the one that the
+-- outcome carries.
 abbrev pub TicksForNewAfter : ℕ → Option Gathered → Outcome → Option Gathered → ℕ → ℕ → Type 0
 TicksForNewAfter n kept (Delivered reply view seen order) gathered before after =
     IfSome gathered (λ g. TicksForNew n kept g before after)

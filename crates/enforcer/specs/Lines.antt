@@ -12,9 +12,9 @@ use Rattle.row_table.specs.declared.stance.Stance.{Stance}
 use Rattle.row_gather.specs.declared.gathered.Gathered.{Gathered}
 use Rattle.drv_wrapper.specs.Stands.{ready}
 
--- Where a book and an order are kept, each mark of the order is a mark, for this object, in that
--- book: the places up to the mark followed one another in the book, or in one from which the book
--- has grown.
+-- Where a book and an order are kept, the order stands in the book: for this object, the order's
+-- places up to each of its marks follow one another in that book, or in an earlier one from which
+-- that book has grown.
 abbrev pub OrderStandsIn : SeqSpec → Option Gathered → Option KeptOrder → Type 0
 OrderStandsIn spec gathered None = Unit {0}
 OrderStandsIn spec None (Some s) = Unit {0}
@@ -28,8 +28,8 @@ IsGatheredWithin n gathered cut = IsSomeAnd gathered (λ g. (length g.book ≡ n
 abbrev pub IsVerdictOn : Record → List ℕ → LineEnd → Type 0
 IsVerdictOn r cut end = (end ≡ Delivered r cut) ⊎ (end ≡ Error r cut)
 
--- The stance of a caller after the line of its call ended so: halted after `Error`, and ready for
--- its next call after any other end.
+-- The stance of a caller after the line of its call has this end: halted after `Error`, and ready
+-- for its next call after any other end.
 abbrev pub stance_after_line : LineEnd → Stance
 stance_after_line (Error r cut) = record ready { live = false }
 stance_after_line _ = ready

@@ -8,12 +8,12 @@ use Rattle.world_core.specs.Event.{is_unstaged}
 use Rattle.row_table.specs.declared.caller.Caller.{Caller}
 use Rattle.row_table.specs.Callers.{who_of, local_with}
 
--- The phase is judge.
+-- Whether the phase is judge, the last one of a call.
 abbrev pub is_judging : Phase → Bool
 is_judging Judging = true
 is_judging _ = false
 
--- The phase is announce.
+-- Whether the phase is announce, the first one of a call.
 abbrev pub is_announcing : Phase → Bool
 is_announcing Announcing = true
 is_announcing _ = false
@@ -42,8 +42,8 @@ abbrev pub cut_of_M : Region → List ℕ → Option (List ℕ)
 cut_of_M N cut = None
 cut_of_M M cut = Some cut
 
--- The last one of these given cuts, where it is one of M; where it is one of N, or no cut was
--- given, no cut.
+-- The last one of these given cuts, where a scan of M gave it; no cut where a scan of N gave it, or
+-- where the list is empty.
 abbrev pub last_of_M : List Given → Option (List ℕ)
 last_of_M [] = None
 last_of_M (given ∷ []) = cut_of_M given.region given.cut

@@ -49,7 +49,8 @@ use world_core::{Outside, Program};
 ///     guide: &mut Guide,
 ///     steps: &mut Steps<L>,
 /// ) -> (Caller, Found)
-///     requires caller { IsCallerOf ⟦<Outside as Program>⟧.meaning rows.now caller × (rows.now.callers ≡ 2) }
+///     requires caller { IsCallerOf ⟦<Outside as Program>⟧.meaning rows.now caller
+///         × (rows.now.callers ≡ 2) }
 ///     requires fresh { (local_with caller ≡ local.fresh) × (stance_of caller ≡ ready) }
 ///     ensures caller { IsStill ⟦<Outside as Program>⟧.meaning rows.now caller result.0 }
 /// {
@@ -171,7 +172,7 @@ pub fn enforce<S: SeqObject, B: BlackBox, L: Ledger>(
     guide: &mut Guide,
     steps: &mut Steps<L>,
 ) -> Result<(Caller, Outcome), Unjudged>
-    // The caller is one of these rows.
+    // The caller belongs to these rows.
     requires rows { IsCallerOf ⟦<Outside as Program>⟧.meaning rows.now caller }
     // The caller is idle.
     requires idle { IsIdle (local_with caller) }
@@ -179,16 +180,16 @@ pub fn enforce<S: SeqObject, B: BlackBox, L: Ledger>(
     requires row { (local_with caller).announced < rows.now.cap }
     // The caller is live, means to begin no scan, and keeps no reply.
     requires stands { stance_of caller ≡ ready }
-    // The pass is one of this object's.
+    // The pass belongs to this object.
     requires own { B.is_own object.now pass.old }
     // The pass is this caller's.
     requires pass { B.Pass.caller pass.old ≡ who_of caller }
     // The pass has made fewer calls than it may make.
     requires left { B.Pass.made pass.old < B.Pass.cap pass.old }
-    // Where a book is kept, it is one at the cut that is kept with it, and the caller has peeked
+    // Where a book is kept, the caller has gathered it at the cut that is kept with it, by peeking
     // each of its words.
     requires gathered { IsGatheredBy (local_with caller) gathered.old }
-    // With an outcome the caller is still one of these rows, with the same number.
+    // With an outcome the caller still belongs to these rows, with the same number.
     ensures caller { IfOk result (λ r. IsStill ⟦<Outside as Program>⟧.meaning rows.now caller r.0) }
     // With an outcome the caller is idle.
     ensures idle { IfOk result (λ r. IsIdle (local_with r.0)) }
@@ -206,30 +207,29 @@ pub fn enforce<S: SeqObject, B: BlackBox, L: Ledger>(
     // With an outcome the caller's local has each look, each peek and each given cut that it had
     // before the call.
     ensures grows { IfOk result (λ r. Grows (local_with caller) (local_with r.0)) }
-    // An outcome is right for a book at its seen cut each of whose words the caller has peeked:
-    // after `Delivered` the order that it carries is a legal order of that book, and after
-    // `Illegal` it carries that book, which has no legal order.
+    // An outcome is right for a book that the caller has gathered at the seen cut, by peeking each
+    // of its words: `Delivered` carries a legal order of that book, and `Illegal` carries that
+    // book, which has no legal order.
     ensures gathered { IfOk result
         (λ r. IsRightByPeeks (S.spec sequential.now) rows.now.callers (local_with r.0) r.1) }
     // In each reachable world in which the caller has its local, an outcome is right for the book
-    // at its seen cut of the book of all callers' calls: after `Delivered` the order that it
-    // carries is a legal order of that book, and after `Illegal` it carries that book, which has no
-    // legal order.
+    // at the seen cut, taken from the book of all callers' calls: `Delivered` carries a legal order
+    // of that book at the cut, and `Illegal` carries that book, which has no legal order.
     ensures verdict { IfOk result
         (λ r. IsRightOf (S.spec sequential.now) ⟦<Outside as Program>⟧.meaning rows.now r.0 r.1) }
-    // With an outcome, where a book is now kept, it is one at the cut that is kept with it, and the
-    // caller has peeked each of its words.
+    // With an outcome, where a book is kept after the call, the caller has gathered it at the cut
+    // that is kept with it, by peeking each of its words.
     ensures kept { IfOk result (λ r. IsGatheredBy (local_with r.0) gathered.new) }
     // After `Delivered` a book of as many callers as the rows have is kept, with the seen cut, and
     // after `Illegal` no book is kept.
     ensures kept_book { IfOk result (λ r. IsKeptAfterOutcome rows.now.callers r.1 gathered.new) }
-    // With an outcome the counter of steps has risen by at most the most words that four scans may
-    // take, and then by the number of words that the call's book has and the book kept before
-    // lacks, where that one is of as many callers as the rows have and its cut is within the seen
-    // one; where no book was kept before, then by the number of words of the call's book.
+    // With an outcome the counter of steps has risen by at most the words that four scans may take,
+    // and then by the number of words of the call's book that the book kept before lacks, where the
+    // book kept before is of as many callers as the rows have and its cut is within the seen cut.
+    // Where no book was kept before, the second part is the number of all words of the call's book.
     ensures new_words { IfOk result (λ r.
         TicksForWholeCall rows.now.callers gathered.old r.1 gathered.new steps.old steps.new) }
-    // The caller of an unjudged call is still one of these rows, with the same number.
+    // The caller of an unjudged call still belongs to these rows, with the same number.
     ensures unjudged_caller { IfErr result
         (λ u. IsStill ⟦<Outside as Program>⟧.meaning rows.now caller u.caller) }
     // The caller of an unjudged call is halted.
@@ -249,15 +249,15 @@ pub fn enforce<S: SeqObject, B: BlackBox, L: Ledger>(
     ensures unjudged_grows { IfErr result (λ u. Grows (local_with caller) (local_with u.caller)) }
     // After an unjudged call no book is kept.
     ensures unjudged_kept { IfErr result (λ u. gathered.new ≡ None) }
-    // The pass is still one of this object's.
+    // The pass still belongs to this object.
     ensures pass { B.is_own object.now pass.new }
     // The pass has made one call more than before.
     ensures made { B.Pass.made pass.new ≡ B.Pass.made pass.old + 1 }
     // The pass keeps its caller and the number of calls that it may make.
     ensures same { (B.Pass.caller pass.new ≡ B.Pass.caller pass.old)
         × (B.Pass.cap pass.new ≡ B.Pass.cap pass.old) }
-    // Where the pass tells its calls, it tells one more, as the last, with this operation and the
-    // reply of the call, judged or not; a pass that tells no calls still tells no calls.
+    // Where the pass has a told list, the list has one more entry at its end: this operation with
+    // the reply of the call, judged or not. A pass without a told list still has none.
     ensures told { B.Pass.told pass.new ≡ told_after op (reply_of result) (B.Pass.told pass.old) }
     // The counter of steps has not fallen.
     ensures ticks { steps.old ≤ steps.new }

@@ -50,7 +50,7 @@ pub fn enforce_after<S: SeqObject, B: BlackBox, L: Ledger>(
     standing: &mut Option<KeptOrder>,
     steps: &mut Steps<L>,
 ) -> Result<(Caller, Judged), Unjudged>
-    // The caller is one of these rows.
+    // The caller belongs to these rows.
     requires rows { IsCallerOf ⟦<Outside as Program>⟧.meaning rows.now caller }
     // The caller is idle.
     requires idle { IsIdle (local_with caller) }
@@ -58,19 +58,20 @@ pub fn enforce_after<S: SeqObject, B: BlackBox, L: Ledger>(
     requires row { (local_with caller).announced < rows.now.cap }
     // The caller is live, means to begin no scan, and keeps no reply.
     requires stance { stance_of caller ≡ ready }
-    // The pass is one of this object's.
+    // The pass belongs to this object.
     requires own { B.is_own object.now pass.old }
     // The pass is this caller's.
     requires pass { B.Pass.caller pass.old ≡ who_of caller }
     // The pass has made fewer calls than it may make.
     requires left { B.Pass.made pass.old < B.Pass.cap pass.old }
-    // Where a book is kept, it is one at the cut that is kept with it, and the caller has peeked
+    // Where a book is kept, the caller has gathered it at the cut that is kept with it, by peeking
     // each of its words.
     requires gathered { IsGatheredBy (local_with caller) gathered.old }
-    // Where a book and an order are kept, each mark of the order is one, for the sequential object,
-    // in that book or in one from which that book has grown.
+    // Where a book and an order are kept, the order stands in the book: for the sequential object,
+    // the order's places up to each of its marks follow one another in that book, or in an earlier
+    // one from which that book has grown.
     requires stands { OrderStandsIn (S.spec sequential.now) gathered.old standing.old }
-    // With a judgement the caller is still one of these rows, with the same number.
+    // With a judgement the caller still belongs to these rows, with the same number.
     ensures caller { IfOk result (λ r. IsStill ⟦<Outside as Program>⟧.meaning rows.now caller r.0) }
     // With a judgement the caller is idle.
     ensures idle { IfOk result (λ r. IsIdle (local_with r.0)) }
@@ -89,34 +90,35 @@ pub fn enforce_after<S: SeqObject, B: BlackBox, L: Ledger>(
     // With a judgement the caller's local has each look, each peek and each given cut that it had
     // before the call.
     ensures grows { IfOk result (λ r. Grows (local_with caller) (local_with r.0)) }
-    // A judgement makes, with the order that is now kept, an outcome that is right for a book at
-    // its seen cut each of whose words the caller has peeked: after `Delivered` an order is kept,
-    // and it is a legal order of that book; after `Illegal` the judgement carries that book, which
-    // has no legal order.
+    // A judgement is right for a book that the caller has gathered at the seen cut, by peeking each
+    // of its words: after `Delivered` an order is kept, and it is a legal order of that book;
+    // `Illegal` carries that book, which has no legal order.
     ensures gathered { IfOk result (λ r. IsOutcome r.1 standing.new
         (IsRightByPeeks (S.spec sequential.now) rows.now.callers (local_with r.0))) }
-    // In each reachable world in which the caller has its local, a judgement makes, with the order
-    // that is now kept, an outcome that is right for the book at its seen cut of the book of all
-    // callers' calls: after `Delivered` an order is kept, and it is a legal order of that book;
-    // after `Illegal` the judgement carries that book, which has no legal order.
+    // In each reachable world in which the caller has its local, a judgement is right for the book
+    // at the seen cut, taken from the book of all callers' calls: after `Delivered` an order is
+    // kept, and it is a legal order of that book at the cut; `Illegal` carries that book, which has
+    // no legal order.
     ensures verdict { IfOk result (λ r. IsOutcome r.1 standing.new
         (IsRightOf (S.spec sequential.now) ⟦<Outside as Program>⟧.meaning rows.now r.0)) }
-    // With a judgement, where a book is now kept, it is one at the cut that is kept with it, and
-    // the caller has peeked each of its words.
+    // With a judgement, where a book is kept after the call, the caller has gathered it at the cut
+    // that is kept with it, by peeking each of its words.
     ensures kept { IfOk result (λ r. IsGatheredBy (local_with r.0) gathered.new) }
     // After `Delivered` a book of as many callers as the rows have is kept, with the seen cut, and
     // after `Illegal` no book is kept.
     ensures kept_book { IfOk result (λ r. IsKeptAfter rows.now.callers r.1 gathered.new) }
-    // Where a book and an order are now kept, each mark of the order is one, for the sequential
-    // object, in that book or in one from which that book has grown.
+    // Where a book and an order are kept after the call, the order stands in the book: for the
+    // sequential object, the order's places up to each of its marks follow one another in that
+    // book, or in an earlier one from which that book has grown.
     ensures stands { OrderStandsIn (S.spec sequential.now) gathered.new standing.new }
-    // With a judgement the counter of steps has risen by at most the most words that four scans may
-    // take, and then by the number of words that the judged book has and the book kept before
-    // lacks, where that one is of as many callers as the rows have and its cut is within the seen
-    // one; where no book was kept before, then by the number of words of the judged book.
+    // With a judgement the counter of steps has risen by at most the words that four scans may
+    // take, and then by the number of words of the judged book that the book kept before lacks,
+    // where the book kept before is of as many callers as the rows have and its cut is within the
+    // seen cut. Where no book was kept before, the second part is the number of all words of the
+    // judged book.
     ensures new_words { IfOk result (λ r.
         TicksForCallAfter rows.now.callers gathered.old r.1 gathered.new steps.old steps.new) }
-    // The caller of an unjudged call is still one of these rows, with the same number.
+    // The caller of an unjudged call still belongs to these rows, with the same number.
     ensures unjudged_caller { IfErr result
         (λ u. IsStill ⟦<Outside as Program>⟧.meaning rows.now caller u.caller) }
     // The caller of an unjudged call is halted.
@@ -136,15 +138,15 @@ pub fn enforce_after<S: SeqObject, B: BlackBox, L: Ledger>(
     ensures unjudged_grows { IfErr result (λ u. Grows (local_with caller) (local_with u.caller)) }
     // After an unjudged call no book is kept.
     ensures unjudged_kept { IfErr result (λ u. gathered.new ≡ None) }
-    // The pass is still one of this object's.
+    // The pass still belongs to this object.
     ensures pass { B.is_own object.now pass.new }
     // The pass has made one call more than before.
     ensures made { B.Pass.made pass.new ≡ B.Pass.made pass.old + 1 }
     // The pass keeps its caller and the number of calls that it may make.
     ensures same { (B.Pass.caller pass.new ≡ B.Pass.caller pass.old)
         × (B.Pass.cap pass.new ≡ B.Pass.cap pass.old) }
-    // Where the pass tells its calls, it tells one more, as the last, with this operation and the
-    // reply of the call, judged or not; a pass that tells no calls still tells no calls.
+    // Where the pass has a told list, the list has one more entry at its end: this operation with
+    // the reply of the call, judged or not. A pass without a told list still has none.
     ensures told { B.Pass.told pass.new
         ≡ told_after op (reply_after result) (B.Pass.told pass.old) }
     // The counter of steps has not fallen.

@@ -4,8 +4,8 @@ use book_base::{Book, Cut};
 /// [`Outcome`](crate::Outcome) without its order, which is kept beside it.
 #[derive(Debug, Drop)]
 pub enum Judged {
-    /// The reply is delivered: the book at the seen cut has a legal order, the one that is now
-    /// kept.
+    /// The reply is delivered: the book at the seen cut has a legal order, and the caller keeps the
+    /// one that was found.
     Delivered {
         reply: u64,
         view: Cut,

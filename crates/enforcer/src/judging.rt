@@ -29,7 +29,8 @@ use world_core::Program;
 /// The book that the caller has gathered before, where it hands one in, grows to the new one where
 /// the seen cut contains the cut of that book, as each later seen cut of the same caller does; then
 /// only the words that the earlier book lacks are peeked. Where memory is lacking, the caller may
-/// have peeked some of these words, the book that it handed in is gone, and all else is as it was.
+/// have peeked some of these words, the book that it handed in is gone, and nothing else has
+/// changed.
 pub fn gather<P: Program, L: Ledger>(
     alloc: Global,
     rows: &Rows<P>,
@@ -37,12 +38,12 @@ pub fn gather<P: Program, L: Ledger>(
     gathered: Option<Gathered>,
     steps: &mut Steps<L>,
 ) -> Result<Gathered, NoMemory>
-    // The caller of the seen call is one of these rows.
+    // The caller of the seen call belongs to these rows.
     requires rows { IsCallerOf P.meaning rows.now (caller_seen seen.old) }
-    // Where a book is handed in, it is one at the cut that it is kept with, and the caller has
-    // peeked each of its words.
+    // Where a book is handed in, the caller has gathered it at the cut that comes with it, by
+    // peeking each of its words.
     requires gathered { IsGatheredBy (local_with (caller_seen seen.old)) gathered }
-    // The caller is still one of these rows, with the same number.
+    // The caller still belongs to these rows, with the same number.
     ensures caller { IsStill P.meaning rows.now (caller_seen seen.old) (caller_seen seen.new) }
     // The seen call keeps its reply and its view.
     ensures record { (reply_seen seen.new ≡ reply_seen seen.old)
@@ -52,21 +53,21 @@ pub fn gather<P: Program, L: Ledger>(
     // The caller has made peeks and no other event, and the counter of steps has risen by 1 for
     // each of them.
     ensures peeks { OnlyPeeks (caller_seen seen.old) (caller_seen seen.new) steps.old steps.new }
-    // The gathered book is answered with the seen cut.
+    // The cut that is returned with the gathered book is the seen cut.
     ensures at { IfOk result (λ g. g.cut ≡ cut_seen seen.new) }
-    // The gathered book is one at the seen cut, of as many callers as the rows have, and the caller
-    // has peeked each of its words.
+    // The caller has gathered the book at the seen cut, by peeking each of its words, and the book
+    // is of as many callers as the rows have.
     ensures gathered { IfOk result (λ g.
         IsGathered rows.now.callers (local_with (caller_seen seen.new))
         (cut_seen seen.new) g.book) }
     // In each reachable world in which the caller has its local, the gathered book is the book at
-    // the seen cut of the book of all callers' calls.
+    // the seen cut, taken from the book of all callers' calls.
     ensures exact { IfOk result (λ g.
         IsTheBookAt P.meaning rows.now (caller_seen seen.new) (cut_seen seen.new) g.book) }
     // Where no book was handed in, the counter of steps has risen by the number of row words of the
     // gathered book. Where the book that was handed in is of as many callers as the rows have, and
-    // its cut is within the seen one, the counter has risen by the number of row words that the
-    // gathered book has and that one lacks.
+    // its cut is within the seen cut, the counter has risen by the number of row words that the
+    // gathered book has and the earlier one lacks.
     ensures ticks { IfOk result (λ g. TicksForNew rows.now.callers gathered g steps.old steps.new) }
     // The counter of steps has risen by at most the number of row words of the gathered book.
     ensures most { IfOk result (λ g. steps.new ≤ steps.old + words_of_book g.book) }
@@ -74,7 +75,7 @@ pub fn gather<P: Program, L: Ledger>(
     grow_at(alloc, rows, &mut seen.caller, gathered, &seen.cut, steps)
 }
 
-// Gathers the book at the seen cut, and answers it with a legal order of it, or with `Illegal`
+// Gathers the book at the seen cut, and returns it with a legal order of it, or with `Illegal`
 // where it has no legal order.
 fn decide<P: Program, S: SeqObject, L: Ledger>(
     alloc: Global,
@@ -107,7 +108,7 @@ fn decide<P: Program, S: SeqObject, L: Ledger>(
     Ok((gathered, verdict))
 }
 
-// Halts a caller of these rows, which makes no further call then; its local is as it was.
+// Halts a caller of these rows: it makes no further call, and its local is unchanged.
 pub(crate) fn halted<P: Program>(rows: &Rows<P>, caller: Caller<P>) -> Caller<P>
     requires rows { IsCallerOf P.meaning rows.now caller }
     ensures caller { IsStill P.meaning rows.now caller result }
@@ -118,7 +119,7 @@ pub(crate) fn halted<P: Program>(rows: &Rows<P>, caller: Caller<P>) -> Caller<P>
 }
 
 /// Judges a call by the book at its seen cut: delivers the reply with a legal order of the book
-/// where the book has one, and else answers the error with that book (Castañeda and Rodríguez
+/// where the book has one, and otherwise returns the error with that book (Castañeda and Rodríguez
 /// 2023).
 ///
 /// After `Delivered` the caller is live and idle, and after `Illegal` it is halted. `Unjudged`
@@ -138,12 +139,12 @@ pub fn judge<P: Program, S: SeqObject, L: Ledger>(
     guide: &mut Guide,
     steps: &mut Steps<L>,
 ) -> Result<(Caller<P>, Outcome), Unjudged<P>>
-    // The caller of the seen call is one of these rows.
+    // The caller of the seen call belongs to these rows.
     requires rows { IsCallerOf P.meaning rows.now (caller_seen seen) }
-    // Where a book is kept, it is one at the cut that is kept with it, and the caller has peeked
+    // Where a book is kept, the caller has gathered it at the cut that is kept with it, by peeking
     // each of its words.
     requires gathered { IsGatheredBy (local_with (caller_seen seen)) gathered.old }
-    // With an outcome the caller is still one of these rows, with the same number.
+    // With an outcome the caller still belongs to these rows, with the same number.
     ensures caller { IfOk result (λ r. IsStill P.meaning rows.now (caller_seen seen) r.0) }
     // With an outcome the caller has made peeks and no other event, and the counter of steps has
     // risen by 1 for each of them.
@@ -160,29 +161,28 @@ pub fn judge<P: Program, S: SeqObject, L: Ledger>(
     // The count for the caller in the seen cut of an outcome is the number of records that the
     // caller has published.
     ensures own { IfOk result (λ r. HoldsOwn (cut_in r.1) r.0) }
-    // An outcome is right for a book at its seen cut each of whose words the caller has peeked:
-    // after `Delivered` the order that it carries is a legal order of that book, and after
-    // `Illegal` it carries that book, which has no legal order.
+    // An outcome is right for a book that the caller has gathered at the seen cut, by peeking each
+    // of its words: `Delivered` carries a legal order of that book, and `Illegal` carries that
+    // book, which has no legal order.
     ensures gathered { IfOk result
         (λ r. IsRightByPeeks (S.spec object.now) rows.now.callers (local_with r.0) r.1) }
     // In each reachable world in which the caller has its local, an outcome is right for the book
-    // at its seen cut of the book of all callers' calls: after `Delivered` the order that it
-    // carries is a legal order of that book, and after `Illegal` it carries that book, which has no
-    // legal order.
+    // at the seen cut, taken from the book of all callers' calls: `Delivered` carries a legal order
+    // of that book at the cut, and `Illegal` carries that book, which has no legal order.
     ensures verdict { IfOk result (λ r. IsRightOf (S.spec object.now) P.meaning rows.now r.0 r.1) }
-    // With an outcome, where a book is now kept, it is one at the cut that is kept with it, and the
-    // caller has peeked each of its words.
+    // With an outcome, where a book is kept after the call, the caller has gathered it at the cut
+    // that is kept with it, by peeking each of its words.
     ensures kept { IfOk result (λ r. IsGatheredBy (local_with r.0) gathered.new) }
     // After `Delivered` a book of as many callers as the rows have is kept, with the seen cut, and
     // after `Illegal` no book is kept.
     ensures kept_book { IfOk result (λ r. IsKeptAfterOutcome rows.now.callers r.1 gathered.new) }
-    // With an outcome the counter of steps has risen by the number of words that the call's book
-    // has and the book kept before lacks, where that one is of as many callers as the rows have and
-    // its cut is within the seen one; where no book was kept before, by the number of words of the
-    // call's book.
+    // With an outcome the counter of steps has risen by the number of words of the call's book that
+    // the book kept before lacks, where the book kept before is of as many callers as the rows have
+    // and its cut is within the seen cut. Where no book was kept before, the counter has risen by
+    // the number of all words of the call's book.
     ensures new_words { IfOk result (λ r.
         TicksForNewAfter rows.now.callers gathered.old r.1 gathered.new steps.old steps.new) }
-    // The caller of an unjudged call is still one of these rows, with the same number.
+    // The caller of an unjudged call still belongs to these rows, with the same number.
     ensures unjudged_caller { IfErr result
         (λ u. IsStill P.meaning rows.now (caller_seen seen) u.caller) }
     // The caller of an unjudged call has made peeks and no other event, and the counter of steps

@@ -31,12 +31,12 @@ use world_core::Program;
 /// `gathered` is the book that this caller has gathered before, and `standing` an order with its
 /// marks in that book, for this object; both are `None` before the caller's first call. A call
 /// mostly costs no more than what is new; no clause says how long a search takes. After `Delivered`
-/// both are those for the caller's next call, and `standing` has the order that was found. After
+/// both are set for the caller's next call, and `standing` has the order that was found. After
 /// `Illegal` and `Unjudged` `gathered` is `None`, and without a book a kept order is not used.
 ///
-/// An order that was kept for one object says nothing of another object, and no value says for
-/// which object it was kept: therefore the condition `stands` is needed. [`judge`](crate::judge)
-/// has no such condition, since it asks the object for each place again.
+/// A kept order is good for one object alone, and its value doesn't say for which one: therefore
+/// the condition `stands` is needed. [`judge`](crate::judge) has no such condition, since it asks
+/// the object for each place again.
 pub fn judge_after<P: Program, S: SeqObject, L: Ledger>(
     alloc: Global,
     object: &S,
@@ -46,15 +46,16 @@ pub fn judge_after<P: Program, S: SeqObject, L: Ledger>(
     standing: &mut Option<KeptOrder>,
     steps: &mut Steps<L>,
 ) -> Result<(Caller<P>, Judged), Unjudged<P>>
-    // The caller of the seen call is one of these rows.
+    // The caller of the seen call belongs to these rows.
     requires rows { IsCallerOf P.meaning rows.now (caller_seen seen) }
-    // Where a book is kept, it is one at the cut that is kept with it, and the caller has peeked
+    // Where a book is kept, the caller has gathered it at the cut that is kept with it, by peeking
     // each of its words.
     requires gathered { IsGatheredBy (local_with (caller_seen seen)) gathered.old }
-    // Where a book and an order are kept, each mark of the order is one, for this object, in that
-    // book or in one from which that book has grown.
+    // Where a book and an order are kept, the order stands in the book: for this object, the
+    // order's places up to each of its marks follow one another in that book, or in an earlier one
+    // from which that book has grown.
     requires stands { OrderStandsIn (S.spec object.now) gathered.old standing.old }
-    // With a judgement the caller is still one of these rows, with the same number.
+    // With a judgement the caller still belongs to these rows, with the same number.
     ensures caller { IfOk result (λ r. IsStill P.meaning rows.now (caller_seen seen) r.0) }
     // With a judgement the caller has made peeks and no other event, and the counter of steps has
     // risen by 1 for each of them.
@@ -71,34 +72,34 @@ pub fn judge_after<P: Program, S: SeqObject, L: Ledger>(
     // The count for the caller in the seen cut of a judgement is the number of records that the
     // caller has published.
     ensures own { IfOk result (λ r. HoldsOwn (cut_judged r.1) r.0) }
-    // A judgement makes, with the order that is now kept, an outcome that is right for a book at
-    // its seen cut each of whose words the caller has peeked: after `Delivered` an order is kept,
-    // and it is a legal order of that book; after `Illegal` the judgement carries that book, which
-    // has no legal order.
+    // A judgement is right for a book that the caller has gathered at the seen cut, by peeking each
+    // of its words: after `Delivered` an order is kept, and it is a legal order of that book;
+    // `Illegal` carries that book, which has no legal order.
     ensures gathered { IfOk result (λ r. IsOutcome r.1 standing.new
         (IsRightByPeeks (S.spec object.now) rows.now.callers (local_with r.0))) }
-    // In each reachable world in which the caller has its local, a judgement makes, with the order
-    // that is now kept, an outcome that is right for the book at its seen cut of the book of all
-    // callers' calls: after `Delivered` an order is kept, and it is a legal order of that book;
-    // after `Illegal` the judgement carries that book, which has no legal order.
+    // In each reachable world in which the caller has its local, a judgement is right for the book
+    // at the seen cut, taken from the book of all callers' calls: after `Delivered` an order is
+    // kept, and it is a legal order of that book at the cut; `Illegal` carries that book, which has
+    // no legal order.
     ensures verdict { IfOk result
         (λ r. IsOutcome r.1 standing.new (IsRightOf (S.spec object.now) P.meaning rows.now r.0)) }
-    // With a judgement, where a book is now kept, it is one at the cut that is kept with it, and
-    // the caller has peeked each of its words.
+    // With a judgement, where a book is kept after the call, the caller has gathered it at the cut
+    // that is kept with it, by peeking each of its words.
     ensures kept { IfOk result (λ r. IsGatheredBy (local_with r.0) gathered.new) }
     // After `Delivered` a book of as many callers as the rows have is kept, with the seen cut, and
     // after `Illegal` no book is kept.
     ensures kept_book { IfOk result (λ r. IsKeptAfter rows.now.callers r.1 gathered.new) }
-    // Where a book and an order are now kept, each mark of the order is one, for this object, in
-    // that book or in one from which that book has grown.
+    // Where a book and an order are kept after the call, the order stands in the book: for this
+    // object, the order's places up to each of its marks follow one another in that book, or in an
+    // earlier one from which that book has grown.
     ensures stands { OrderStandsIn (S.spec object.now) gathered.new standing.new }
-    // With a judgement the counter of steps has risen by the number of words that the judged book
-    // has and the book kept before lacks, where that one is of as many callers as the rows have and
-    // its cut is within the seen one; where no book was kept before, by the number of words of the
-    // judged book.
+    // With a judgement the counter of steps has risen by the number of words of the judged book
+    // that the book kept before lacks, where the book kept before is of as many callers as the rows
+    // have and its cut is within the seen cut. Where no book was kept before, the counter has risen
+    // by the number of all words of the judged book.
     ensures new_words { IfOk result (λ r.
         TicksForJudged rows.now.callers gathered.old r.1 gathered.new steps.old steps.new) }
-    // The caller of an unjudged call is still one of these rows, with the same number.
+    // The caller of an unjudged call still belongs to these rows, with the same number.
     ensures unjudged_caller { IfErr result
         (λ u. IsStill P.meaning rows.now (caller_seen seen) u.caller) }
     // The caller of an unjudged call has made peeks and no other event, and the counter of steps

@@ -3,17 +3,18 @@
 
 ghost use Rattle.enforcer.specs.Enforced.{OutcomesAreVerdicts, ErrorsAreFinal};
 
-/// An outcome that is right by what its caller has peeked makes a right end of its call's line:
-/// where that is `Delivered`, a book that the caller has gathered at the seen cut has a legal
-/// order; and where it is `Error`, such a book has no legal order.
+/// Where an outcome is right for a book that its caller has gathered, the end of the call's line
+/// that it makes is right too: where the line ends with `Delivered`, a book that the caller has
+/// gathered at the seen cut has a legal order; where it ends with `Error`, a book that the caller
+/// has gathered at the seen cut has no legal order.
 #[tactic(auto, using(crate::proofs::Outcomes::outcomes_are_verdicts))]
 pub fn outcomes_are_verdicts()
     ensures { OutcomesAreVerdicts }
 {}
 
-/// An error is final: where the book of all callers' calls has no legal order at a cut, each
-/// outcome that is right at a cut which contains that one is an error (Castañeda and Rodríguez
-/// 2023).
+/// An error is final: where the book at a cut, taken from the book of all callers' calls, has no
+/// legal order, an outcome that is right for the book at a cut which contains that cut is an error
+/// (Castañeda and Rodríguez 2023).
 #[tactic(auto, using(crate::proofs::Outcomes::errors_are_final))]
 pub fn errors_are_final()
     ensures { ErrorsAreFinal }

@@ -25,19 +25,19 @@ use std::alloc::Global;
 use std::sync::ledger::Ledger;
 use world_core::Program;
 
-/// The kept order, where a book of `n` callers is kept and this cut contains the cut that is kept
-/// with it; and else `None`. The marks of an order that is answered are marks in the book that its
-/// caller gathers at this cut, too, since that book has grown from the kept one.
+/// The kept order, where a book of `n` callers is kept and `cut` contains the cut that is kept with
+/// that book; otherwise `None`. The order that is returned also stands in the book that its caller
+/// gathers at `cut`, since that book grows from the kept one.
 pub fn standing_in(
     n: u32,
     gathered: &Option<Gathered>,
     standing: Option<KeptOrder>,
     cut: &Cut,
 ) -> Option<KeptOrder>
-    // An order that is answered is the one that was handed in.
+    // Where an order is returned, it is the one that was handed in.
     ensures same { IfSome result (λ s. standing ≡ Some s) }
-    // Where an order is answered, a book is kept, it is of `n` callers, and the cut that is kept
-    // with it is within this cut.
+    // Where an order is returned, a book of `n` callers is kept, and the cut that is kept with it
+    // is within `cut`.
     ensures held { IfSome result (λ _. IsGatheredWithin n gathered.now cut.now) }
 {
     let Some(kept) = gathered else {
@@ -52,7 +52,7 @@ pub fn standing_in(
     }
 }
 
-/// Gathers the book at the seen cut, and answers it with a legal order of it and the marks of that
+/// Gathers the book at the seen cut, and returns it with a legal order of it and the marks of that
 /// order, or with `None` where the book has no legal order.
 pub(crate) fn decide_after<P: Program, S: SeqObject, L: Ledger>(
     alloc: Global,
@@ -92,7 +92,7 @@ pub(crate) fn decide_after<P: Program, S: SeqObject, L: Ledger>(
 }
 
 /// Judges a call as [`judge`](crate::judge) does, for a caller that keeps the line of the call and
-/// its last order with marks: answers how the line ends (Castañeda and Rodríguez 2023).
+/// its last order with marks: it returns the end of the line (Castañeda and Rodríguez 2023).
 ///
 /// After `Delivered` the caller is live and idle, and after `Error` it is halted. `Unjudged` comes
 /// for want of memory alone.
@@ -103,7 +103,7 @@ pub(crate) fn decide_after<P: Program, S: SeqObject, L: Ledger>(
 /// seen cut contains the cut of the kept book, as it does where both are cuts of one caller. The
 /// search begins after the last mark up to which the order's places still follow one another in the
 /// grown book. A call mostly costs no more than what is new; no clause says how long a search
-/// takes. After `Delivered` both are those for the caller's next call. After `Error` and `Unjudged`
+/// takes. After `Delivered` both are set for the caller's next call. After `Error` and `Unjudged`
 /// `gathered` is `None`, and without a book a kept order is not used, so it needn't be removed.
 pub fn judge_line<P: Program, S: SeqObject, L: Ledger>(
     alloc: Global,
@@ -114,15 +114,16 @@ pub fn judge_line<P: Program, S: SeqObject, L: Ledger>(
     standing: &mut Option<KeptOrder>,
     steps: &mut Steps<L>,
 ) -> Result<(Caller<P>, LineEnd), Unjudged<P>>
-    // The caller of the seen call is one of these rows.
+    // The caller of the seen call belongs to these rows.
     requires rows { IsCallerOf P.meaning rows.now (caller_seen seen) }
-    // Where a book is kept, it is one at the cut that is kept with it, and the caller has peeked
+    // Where a book is kept, the caller has gathered it at the cut that is kept with it, by peeking
     // each of its words.
     requires gathered { IsGatheredBy (local_with (caller_seen seen)) gathered.old }
-    // Where a book and an order are kept, each mark of the order is one, for this object, in that
-    // book or in one from which that book has grown.
+    // Where a book and an order are kept, the order stands in the book: for this object, the
+    // order's places up to each of its marks follow one another in that book, or in an earlier one
+    // from which that book has grown.
     requires stands { OrderStandsIn (S.spec object.now) gathered.old standing.old }
-    // The caller of a judged call is still one of these rows, with the same number.
+    // The caller of a judged call still belongs to these rows, with the same number.
     ensures caller { IfOk result (λ r. IsStill P.meaning rows.now (caller_seen seen) r.0) }
     // The caller of a judged call has made peeks and no other event, and the counter of steps has
     // risen by 1 for each of them.
@@ -138,26 +139,28 @@ pub fn judge_line<P: Program, S: SeqObject, L: Ledger>(
     // The count for the caller of a judged call in its seen cut is the number of records that this
     // caller has published.
     ensures own { IfOk result (λ r. HoldsOwn (cut_seen seen) r.0) }
-    // The end of the line is right for a book at its cut each of whose words the caller has peeked:
-    // after `Delivered` that book has a legal order, and after `Error` it has no legal order.
+    // The end of the line is right for a book that the caller has gathered at the seen cut, by
+    // peeking each of its words: after `Delivered` that book has a legal order, and after `Error`
+    // it has none.
     ensures verdict { IfOk result
         (λ r. IsJudgedBy (S.spec object.now) rows.now.callers (local_with r.0) r.1) }
-    // Where the call is judged and a book is now kept, the book is one at the cut that is kept with
-    // it, and the caller has peeked each of its words.
+    // Where the call is judged and a book is kept after it, the caller has gathered this book at
+    // the cut that is kept with it, by peeking each of its words.
     ensures kept { IfOk result (λ r. IsGatheredBy (local_with r.0) gathered.new) }
-    // After `Delivered` a book of as many callers as the rows have is kept, with the seen cut, and
+    // After `Delivered` a book of as many callers as the rows have is kept, with the seen cut;
     // after any other end no book is kept.
     ensures kept_book { IfOk result (λ r. IsKeptAfterLine rows.now.callers r.1 gathered.new) }
-    // Where a book and an order are now kept, each mark of the order is one, for this object, in
-    // that book or in one from which that book has grown.
+    // Where a book and an order are kept after the call, the order stands in the book: for this
+    // object, the order's places up to each of its marks follow one another in that book, or in an
+    // earlier one from which that book has grown.
     ensures stands { OrderStandsIn (S.spec object.now) gathered.new standing.new }
-    // Where the call is judged and a book is now kept, the counter of steps has risen by the number
-    // of words that this book has and the book kept before lacks, if that one is of as many callers
-    // as the rows have and its cut is within the new one; if no book was kept before, by the number
-    // of words of the book that is now kept.
+    // Where the call is judged and a book is kept after it, the counter of steps has risen by the
+    // number of words of this book that the book kept before lacks, if the book kept before is of
+    // as many callers as the rows have and its cut is within the new one. If no book was kept
+    // before, the counter has risen by the number of all words of the new book.
     ensures new_words { IfOk result (λ r. IfSome gathered.new (λ g.
         TicksForNew rows.now.callers gathered.old g steps.old steps.new)) }
-    // The caller of an unjudged call is still one of these rows, with the same number.
+    // The caller of an unjudged call still belongs to these rows, with the same number.
     ensures unjudged_caller { IfErr result
         (λ u. IsStill P.meaning rows.now (caller_seen seen) u.caller) }
     // The caller of an unjudged call has made peeks and no other event, and the counter of steps

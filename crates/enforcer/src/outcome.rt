@@ -27,8 +27,7 @@ pub enum Outcome {
 /// A call that wasn't judged, since memory was refused, which says nothing about the object.
 ///
 /// Its caller is halted, and its record stays published, so that the books which other callers
-/// judge may hold it. The reply and the view are those of the record, and this call hasn't checked
-/// the reply.
+/// judge may hold it. The reply and the view are those of the record, and the reply is unchecked.
 pub struct Unjudged<P = Outside> {
     pub caller: Caller<P>,
     pub reply: u64,

@@ -17,8 +17,9 @@ use world_core::{Program, Region};
 
 /// Publishes the record of a call: scans M, stages the reply and the view with the cut of this scan
 /// in the caller's row of M, and raises the caller's count in M. The scan begins after the view was
-/// taken, and its cut contains each count of M that the caller had looked at before. Each scan of M
-/// that begins after the publication gives a cut that holds the record.
+/// taken, and no count of M that the caller had looked at before is above the cut's entry for the
+/// caller whose count it is. Each scan of M that begins after the publication gives a cut that
+/// holds the record.
 ///
 /// The counter of steps rises by at most the most words that one scan may take, and no memory is
 /// taken.
@@ -27,19 +28,19 @@ pub fn publish<P: Program, L: Ledger>(
     rows: &Rows<P>,
     steps: &mut Steps<L>,
 ) -> Published<P>
-    // The caller of the viewed call is one of these rows.
+    // The caller of the viewed call belongs to these rows.
     requires rows { IsCallerOf P.meaning rows.now (caller_viewed viewed) }
     // The view has one count for each caller.
     requires wide { length (view_viewed viewed) ≡ rows.now.callers }
-    // The caller is still one of these rows, with the same number.
+    // The caller still belongs to these rows, with the same number.
     ensures caller { IsStill P.meaning rows.now (caller_viewed viewed) (caller_published result) }
     // The published call has the reply and the view of the viewed one.
     ensures record { (reply_published result ≡ reply_viewed viewed)
         × (view_published result ≡ view_viewed viewed) }
     // The caller's local is the one that it had before, changed by a scan of M, the publication of
-    // the row that was staged, and no other event but stages. The row embeds the cut of that scan,
-    // which is the last cut that the caller was given, and which contains each count of M that the
-    // caller had looked at before the scan.
+    // the row that was staged, and no other event but stages. The row embeds the cut of that scan.
+    // This cut is the last one that the caller was given, and no count of M that the caller had
+    // looked at before the scan is above the cut's entry for the caller whose count it is.
     ensures published { IsPublication rows.now.callers (local_with (caller_viewed viewed))
         (local_with (caller_published result)) }
     // The caller's progress is the one before the publication, with one published record more.

@@ -26,9 +26,9 @@ pub fn seen<P: Program, L: Ledger>(
     rows: &Rows<P>,
     steps: &mut Steps<L>,
 ) -> Seen<P>
-    // The caller of the published call is one of these rows.
+    // The caller of the published call belongs to these rows.
     requires rows { IsCallerOf P.meaning rows.now (caller_published published) }
-    // The caller is still one of these rows, with the same number.
+    // The caller still belongs to these rows, with the same number.
     ensures caller { IsStill P.meaning rows.now (caller_published published) (caller_seen result) }
     // The seen call has the reply and the view of the published one.
     ensures record { (reply_seen result ≡ reply_published published)
@@ -39,11 +39,12 @@ pub fn seen<P: Program, L: Ledger>(
     ensures own { HoldsOwn (cut_seen result) (caller_seen result) }
     // The caller's local is the one that it had before, changed by a scan of M that ended with the
     // seen cut, and no other event. This cut is the last one that the caller was given and its last
-    // seen cut, and it contains each count of M that the caller had looked at before the scan.
+    // seen cut, and no count of M that the caller had looked at before the scan is above the cut's
+    // entry for the caller whose count it is.
     ensures seen { IsSight rows.now.callers (cut_seen result)
         (local_with (caller_published published)) (local_with (caller_seen result)) }
-    // The caller's progress is the one before the scan, except that the caller's last call now has
-    // this seen cut where it had its record and no seen cut.
+    // The caller's progress is the one before the scan, except that the caller's last call has this
+    // seen cut beside its record.
     ensures progress { progress_of (local_with (caller_seen result))
         ≡ after_seeing (cut_seen result) (progress_of (local_with (caller_published published))) }
     // The caller's local has each look, each peek and each given cut that it had before the scan.

@@ -10,7 +10,8 @@ use world_core::Outside;
 /// A call whose record is published, with its seen cut: a cut of the published records that its
 /// caller has seen since.
 ///
-/// The state has to be spent: by [`judge`](crate::judge), by `defer`, or by `stop`.
+/// The state has to be spent: by [`judge`](crate::judge), [`judge_after`](crate::judge_after) or
+/// [`judge_line`](crate::judge_line), by `defer`, or by `stop`.
 pub struct Seen<P = Outside> {
     pub(crate) caller: Caller<P>,
     pub(crate) reply: u64,
@@ -50,7 +51,7 @@ impl<P> Seen<P> {
     /// The caller, live, with its local as it was: the call isn't judged.
     pub fn defer(self) -> Caller<P>
         // The caller that comes back is that of the seen call: it has the same number and the same
-        // local, and is of the same rows.
+        // local, and belongs to the same rows.
         ensures caller { IsSame (caller_seen self) result }
         // The caller keeps its stance.
         ensures stance { stance_of result ≡ stance_of (caller_seen self) }

@@ -1,4 +1,4 @@
--- Puts and takes, and how the last call of a log is answered.
+-- Puts and takes, and the parts of a log from which its last call is answered.
 use Rattle.std.specs.Prelude.{ℕ, ◌-◌, Bool, ◌==◌, if◌then◌else◌, List, [], ◌∷◌, length, take, get_or}
 use Rattle.book_base.specs.SeqSpec.{SeqSpec}
 use Rattle.shared_log.specs.declared.entry.Entry.{Entry}
@@ -18,14 +18,15 @@ is_take op = code_of op == 2
 abbrev pub earlier : List Entry → List Entry
 earlier log = take (length log - 1) log
 
--- The last call of a log.
+-- The last call of a log that has one.
 abbrev pub last_call : List Entry → Entry
 last_call log = get_or log (length log - 1) (entry 0 0)
 
--- A list of this call, or the empty list where the call is left out.
+-- The list of this one call, or the empty list where the call is left out.
 abbrev pub unless : Bool → Entry → List Entry
 unless left e = if left then [] else e ∷ []
 
--- The reply to an operation at the list that some calls leave.
+-- The lawful reply to an operation after some calls: the one that the sequential object gives at
+-- the list that these calls leave.
 abbrev pub reply_after : SeqSpec → List Entry → ℕ → ℕ
 reply_after spec calls op = (spec.next (list_after spec.next spec.init calls) op).1

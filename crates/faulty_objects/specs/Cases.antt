@@ -8,7 +8,7 @@ use Rattle.shared_words.specs.Transcripts.{Transcript}
 use Rattle.shared_words.specs.Cases.{adds, transcript}
 use Rattle.faulty_objects.specs.Forms.{enqueue, dequeue, item_index, up}
 
--- Two callers of a split tally load the word 0, and then each stores a word.
+-- Two callers of a split tally each load its word and find 0, and then each of them stores `word`.
 abbrev pub both_load_first : ℕ → List Access
 both_load_first word =
     access 0 (Loaded 0 0)
@@ -30,20 +30,22 @@ one_by_one found word =
 abbrev pub enqueues_5 : Transcript
 enqueues_5 = transcript 0 ((enqueue 5, reply_done) ∷ [])
 
--- A caller dequeues, with this reply.
+-- A caller of a one-pass queue dequeues, with this reply.
 abbrev pub dequeues : ℕ → ℕ → Transcript
 dequeues caller reply = transcript caller ((dequeue, reply) ∷ [])
 
--- The enqueue of 5, which takes place 0.
+-- The accesses of an enqueue of 5 by caller 0: it gets the place 0 from the counter, and stores 6
+-- there.
 abbrev pub put_5 : List Access
 put_5 = adds 0 0 ∷ access 0 (Stored (item_index 0) 6) ∷ []
 
--- A dequeue of a caller that loads 1 from the counter, and finds a word in place 0.
+-- The accesses of a dequeue by a caller: it loads 1 from the counter, and finds the word `found` in
+-- place 0.
 abbrev pub finds_at_0 : ℕ → ℕ → List Access
 finds_at_0 caller found =
     access caller (Loaded 0 1) ∷ access caller (Swapped (item_index 0) 0 found) ∷ []
 
--- Two callers meet: both raise their flags, and then each finds the other's up.
+-- Two callers of a meeting both raise their flags, and then each finds the other caller's flag up.
 abbrev pub both_raise_first : List Access
 both_raise_first =
     access 0 (Stored 0 up)
@@ -70,6 +72,6 @@ raises_the_other =
     ∷ access 1 (Loaded 0 up)
     ∷ []
 
--- A caller makes one call at a meeting, which replies done.
+-- A caller makes one call at a meeting, whose reply is `done`.
 abbrev pub meets : ℕ → Transcript
 meets caller = transcript caller ((0, reply_done) ∷ [])

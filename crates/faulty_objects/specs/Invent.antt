@@ -1,16 +1,17 @@
--- The inventing object answers the third call of each caller with a value that nobody put.
+-- The inventing object: it answers the third call of each caller with the value 99, whatever was
+-- put in.
 use Rattle.std.specs.Prelude.{◌≡◌, ℕ, ◌+◌, ◌*◌, ◌^◌, ◌==◌, if◌then◌else◌, List, [], ◌∷◌, ◌++◌, length}
 use Rattle.book_base.specs.SeqSpec.{SeqSpec}
 use Rattle.shared_log.specs.declared.entry.Entry.{Entry}
 use Rattle.shared_log.specs.Entries.{calls_by}
 use Rattle.faulty_objects.specs.Calls.{earlier, last_call, reply_after}
 
--- The invented reply, which gives the value 99.
+-- The invented reply: the reply word of the value 99.
 abbrev pub invented : ℕ
 invented = 2 * 2 ^ 32 + 99
 
--- The reply to a call after some others: the invented one where its caller has made two of these,
--- and else the lawful one.
+-- The reply to the call `e` after the calls `before`: the invented one where exactly two of those
+-- are its caller's, and otherwise the lawful one.
 abbrev pub invent_reply_after : SeqSpec → List Entry → Entry → ℕ
 invent_reply_after spec before e =
     if length (calls_by e.caller before) == 2 then invented else reply_after spec before e.op

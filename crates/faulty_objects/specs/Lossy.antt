@@ -5,8 +5,8 @@ use Rattle.book_base.specs.SeqSpec.{SeqSpec}
 use Rattle.shared_log.specs.declared.entry.Entry.{Entry}
 use Rattle.faulty_objects.specs.Calls.{is_put, earlier, last_call, unless, reply_after}
 
--- Whether the next put is a second one after a call, by whether it was before the call, and whether
--- the call is a put.
+-- Whether the next put after a call is a second one, which is dropped. `second` says whether the
+-- next put was a second one before the call, and `put` whether the call is a put.
 abbrev pub turned : Bool → Bool → Bool
 turned second put = if put then not second else second
 
@@ -27,8 +27,8 @@ lossy_reply spec log =
 abbrev pub puts_in : List Entry → ℕ
 puts_in log = length (filter (λ e. is_put e.op) log)
 
--- A call after some others is dropped exactly where it is a put and an odd number of puts come
--- before it. Its reply is that at the list which the calls before it leave without those dropped.
+-- A call is dropped exactly where it is a put and an odd number of puts come before it. The reply
+-- to a call, dropped or not, is the lawful one after those calls before it that aren't dropped.
 pub record LosesEachSecondPut : Type 0 where
   pub calls : (before : List Entry) (e : Entry) → without_second_puts false (before ++ e ∷ [])
       ≡ without_second_puts false before ++ unless (is_put e.op && (puts_in before % 2 == 1)) e

@@ -1,4 +1,4 @@
--- Which passes are those of a split tally, of a one-pass queue and of a meeting.
+-- Which passes belong to a split tally, to a one-pass queue and to a meeting.
 use Rattle.std.specs.Prelude.{ℕ, ◌*◌}
 use Rattle.shared_words.specs.declared.words_pass.WordsPass.{WordsPass}
 use Rattle.shared_words.specs.Passes.{callers_of, cap_of, IsPassOf}
@@ -8,15 +8,15 @@ use Rattle.faulty_objects.specs.declared.one_pass.OnePass.{OnePass}
 use Rattle.faulty_objects.specs.declared.meeting.Meeting.{Meeting}
 use Rattle.faulty_objects.specs.Forms.{queue_may, meeting_may, IsSplit, IsOnePass, IsMeeting}
 
--- The pass is one of this split tally.
+-- The pass belongs to this split tally.
 abbrev pub IsSplitPass : SplitTally → WordsPass → Type 0
 IsSplitPass t p = IsPassOf cell_may (λ _. IsSplit) t.words p
 
--- The pass is one of this one-pass queue, which has a place for each call.
+-- The pass belongs to this one-pass queue, which has a place for each call.
 abbrev pub IsQueuePass : OnePass → WordsPass → Type 0
 IsQueuePass q p =
     IsPassOf queue_may (λ _. IsOnePass (callers_of q.words * cap_of q.words)) q.words p
 
--- The pass is one of this meeting.
+-- The pass belongs to this meeting.
 abbrev pub IsMeetingPass : Meeting → WordsPass → Type 0
 IsMeetingPass m p = IsPassOf meeting_may (λ caller _. IsMeeting caller) m.words p

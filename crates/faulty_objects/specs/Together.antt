@@ -1,4 +1,5 @@
--- The transcripts of all callers of each object, and the one history of their accesses.
+-- The transcripts of all callers of a split tally, of a one-pass queue and of a meeting, and the
+-- one history of their accesses.
 use Rattle.std.specs.Prelude.{◌≡◌, ◌≢◌, ℕ, ◌-◌, ◌%◌, ◌^◌, ◌⊎◌, Bool, true, false, List, [], ◌∷◌, ◌++◌, All, count_by}
 use Rattle.seq_objects.specs.Replies.{reply_none, reply_value}
 use Rattle.lawful_objects.specs.Forms.{cell_may}
@@ -22,14 +23,14 @@ is_addition (Stored place word) = false
 is_addition (Loaded place found) = false
 is_addition (Swapped place word found) = false
 
--- Each addition to the counter found the number of additions before it, modulo 2^64. So the places
--- are given in order, and each of them once where there are at most 2^64 additions.
+-- Each addition to a one-pass queue's counter found the number of additions before it, modulo 2^64.
+-- So the places are given in order, and each of them once where there are at most 2^64 additions.
 abbrev pub PlacesAreInOrder : List Access → Type 0
 PlacesAreInOrder history = (before rest : List Access) (who found : ℕ)
     → history ≡ before ++ access who (Added 0 1 found) ∷ rest
     → found ≡ count_by (λ a. is_addition a.deed) before % 2 ^ 64
 
--- A word is in an item's place after a history: a store put it there, and no access to this place
+-- After the history the word is in this place: a store put it there, and no access to the place
 -- comes after that store.
 pub record IsPutAt (place word : ℕ) (history : List Access) : Type 0 where
   pub before : List Access
@@ -38,15 +39,15 @@ pub record IsPutAt (place word : ℕ) (history : List Access) : Type 0 where
   pub put : history ≡ before ++ access who (Stored (item_index place) word) ∷ later
   pub left : All (λ a. place_of a.deed ≢ item_index place) later
 
--- Each exchange that found an item took one that a store had put into this place, and that no
+-- Each exchange that found an item in a place took one that a store had put into this place and no
 -- access had taken since.
 abbrev pub TakesTakeWhatWasPut : List Access → Type 0
 TakesTakeWhatWasPut history = (before rest : List Access) (who place found : ℕ)
     → history ≡ before ++ access who (Swapped (item_index place) 0 found) ∷ rest → found ≢ 0
     → IsPutAt place found before
 
--- A history that ends with an exchange of a caller that took an item which was put, and the reply
--- that gives this item.
+-- The history ends with an exchange of caller `who` that took an item out of the place into which a
+-- store had put it; and `reply` gives this item.
 pub record IsGiven (who reply : ℕ) (history : List Access) : Type 0 where
   pub before : List Access
   pub place : ℕ
@@ -55,41 +56,44 @@ pub record IsGiven (who reply : ℕ) (history : List Access) : Type 0 where
   pub ends : history ≡ before ++ access who (Swapped (item_index place) 0 word) ∷ []
   pub told : reply ≡ reply_value (word - 1)
 
--- The reply to a dequeue is none, or gives an item that was put.
+-- The reply to a dequeue is `none`, or gives the item that the last access of the history took out
+-- of the place into which a store had put it.
 abbrev pub IsNoneOrGiven : ℕ → ℕ → List Access → Type 0
 IsNoneOrGiven who reply history = (reply ≡ reply_none) ⊎ IsGiven who reply history
 
--- The calls of all n callers of a one-pass queue with this many places are of this one history. Its
--- places are given in order, modulo 2^64, and what is taken was put.
+-- The calls of all n callers of a one-pass queue with this many places are of this one history. The
+-- counter gives the places in order, modulo 2^64, and each item that is taken was put in.
 pub record TellOneQueue (places n : ℕ) (history : List Access)
     (transcripts : List Transcript) : Type 0 where
   pub told : AreOfOneHistory queue_may (λ _. IsOnePass places) n history transcripts
   pub in_order : PlacesAreInOrder history
   pub taken : TakesTakeWhatWasPut history
 
--- Each load that found a flag up comes after its caller has raised it.
+-- Each load that found a flag up comes after the caller to whom the flag belongs has raised it.
 abbrev pub LoadsFindRaisedFlags : List Access → Type 0
 LoadsFindRaisedFlags history = (before rest : List Access) (who flag : ℕ)
     → history ≡ before ++ access who (Loaded flag up) ∷ rest → HasRaised flag before
 
 -- The calls of all n callers of a meeting are of this one history. A flag is found up only after
--- its caller has raised it.
+-- the caller to whom it belongs has raised it.
 pub record TellOneMeeting (n : ℕ) (history : List Access)
     (transcripts : List Transcript) : Type 0 where
   pub told : AreOfOneHistory meeting_may (λ caller _. IsMeeting caller) n history transcripts
   pub raised : LoadsFindRaisedFlags history
 
--- In the history of a one-pass queue the places are given in order.
+-- In the history of a one-pass queue the counter gives the places in order, modulo 2^64.
 abbrev pub QueuesGivePlacesInOrder : Type 0
 QueuesGivePlacesInOrder = (history : List Access) → IsLawfulHistory queue_may history
     → PlacesAreInOrder history
 
--- In the history of a one-pass queue each item that is taken was put.
+-- In the history of a one-pass queue each exchange that found an item took one that was put into
+-- this place and not taken since.
 abbrev pub QueuesGiveWhatWasPut : Type 0
 QueuesGiveWhatWasPut = (history : List Access) → IsLawfulHistory queue_may history
     → TakesTakeWhatWasPut history
 
--- In the history of a meeting a load finds a flag up only after its caller has raised it.
+-- In the history of a meeting a load finds a flag up only after the caller to whom the flag belongs
+-- has raised it.
 abbrev pub MeetingsFindRaisedFlags : Type 0
 MeetingsFindRaisedFlags = (history : List Access) → IsLawfulHistory meeting_may history
     → LoadsFindRaisedFlags history

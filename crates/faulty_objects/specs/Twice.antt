@@ -14,7 +14,8 @@ without_takes log = filter (λ e. not (is_take e.op)) log
 abbrev pub twice_reply : SeqSpec → List Entry → ℕ
 twice_reply spec log = reply_after spec (without_takes (earlier log)) (last_call log).op
 
--- A call after some others gets the reply at the list that these leave, without the takes.
+-- A call gets the lawful reply at the list that the calls before it leave, without the takes among
+-- them.
 abbrev pub TakesLeaveTheList : Type 0
 TakesLeaveTheList =
     (spec : SeqSpec) (before : List Entry) (e : Entry)

@@ -32,9 +32,9 @@ const BEHAVIOURS: &[Behaviour] = &[
 impl Behaviour {
     /// The behaviour with this name.
     pub fn from_name(name: &[u8]) -> Option<Behaviour>
-        // A behaviour that is answered is the one with this name.
+        // A returned behaviour has this name.
         ensures found { IfSome result (λ b. behaviour_name b ≡ name.now) }
-        // None is answered only where no behaviour has this name.
+        // `None` is returned only where no behaviour has this name.
         ensures none { IfNone result ((b : Behaviour) → behaviour_name b ≢ name.now) }
     {
         BEHAVIOURS

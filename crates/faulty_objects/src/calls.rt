@@ -1,4 +1,4 @@
-//! Puts and takes, and steps that a fault leaves out.
+//! Puts and takes, and operations that a faulty machine leaves out.
 ghost use Rattle.std.specs.Prelude.{◌≡◌, ◌<◌, if◌then◌else◌, length};
 ghost use Rattle.faulty_objects.specs.Calls as calls;
 
@@ -18,7 +18,7 @@ pub(crate) fn is_take(op: OpWord) -> bool
     low(op) / (1 << 32) == 2
 }
 
-/// Makes an operation, unless it is left out.
+/// Applies an operation to the state, unless it is left out.
 pub(crate) fn make_unless<S: SeqObject>(left: bool, object: &S, state: &mut State, op: OpWord)
     requires { length state.old.words < state.old.room }
     ensures { state.new ≡ record state.old {

@@ -1,5 +1,5 @@
 //! Worked histories of a split tally, of a one-pass queue and of a meeting: which transcripts two
-//! callers may have of them, and which not.
+//! callers may have of them, and which they can't have.
 
 ghost use Rattle.std.specs.Prelude.{[], ◌∷◌, ◌++◌};
 ghost use Rattle.seq_objects.specs.Replies.{reply_none, reply_value};
@@ -30,27 +30,27 @@ pub fn split_tallies_are_told()
 /// A caller of a one-pass queue with two places enqueues 5, and another one dequeues.
 #[tactic(auto, using(crate::proofs::Worked::queue_told, crate::proofs::Worked::taken_twice, crate::proofs::Worked::item_missed, crate::proofs::Worked::word_told, crate::proofs::Worked::not_taken))]
 pub fn one_pass_queues_are_told()
-    // A dequeue after the enqueue finds 6 in place 0, and gives 5.
+    // A dequeue after the enqueue finds 6 in place 0, and replies with 5.
     ensures right { TellOneQueue 2 2 (put_5 ++ finds_at_0 1 6)
         (enqueues_5 ∷ dequeues 1 (reply_value 5) ∷ []) }
-    // Two dequeues can't both find the item.
+    // Two dequeues can't both find the one item.
     ensures twice { ¬ TellOneQueue 2 3 (put_5 ++ finds_at_0 1 6 ++ finds_at_0 2 6)
         (enqueues_5 ∷ dequeues 1 (reply_value 5) ∷ dequeues 2 (reply_value 5) ∷ []) }
     // A dequeue after the enqueue can't find place 0 empty.
     ensures missed { ¬ TellOneQueue 2 2 (put_5 ++ finds_at_0 1 0)
         (enqueues_5 ∷ dequeues 1 reply_none ∷ []) }
-    // A dequeue can't give the word of the place, which is one more than the item.
+    // A dequeue can't reply with the word of the place, which is one more than the item.
     ensures word { ¬ TellOneQueue 2 2 (put_5 ++ finds_at_0 1 6)
         (enqueues_5 ∷ dequeues 1 (reply_value 6) ∷ []) }
-    // A dequeue that found an item can't reply that there is none.
+    // A dequeue that found an item can't reply `none`.
     ensures none { ¬ TellOneQueue 2 2 (put_5 ++ finds_at_0 1 6)
         (enqueues_5 ∷ dequeues 1 reply_none ∷ []) }
 {}
 
-/// Two callers meet.
+/// Two callers of a meeting make a call each.
 #[tactic(auto, using(crate::proofs::Worked::meeting_told, crate::proofs::Worked::flag_too_early, crate::proofs::Worked::other_flag_raised))]
 pub fn meetings_are_told()
-    // Where both callers raise their flags before either loads one, both reply done.
+    // Where both callers raise their flags before either loads one, both replies are `done`.
     ensures right { TellOneMeeting 2 both_raise_first (meets 0 ∷ meets 1 ∷ []) }
     // A caller can't find the other caller's flag up before that caller has raised it.
     ensures early { ¬ TellOneMeeting 2 found_too_early (meets 0 ∷ meets 1 ∷ []) }

@@ -7,14 +7,14 @@ use book_base::{SeqObject, State};
 use lawful_objects::{Entry, Machine, Scratch};
 use seq_objects::value_reply;
 
-/// The machine that invents: the third call of each caller changes the list lawfully and is
-/// answered 99.
+/// The machine that invents: the third call of each caller changes the list lawfully, but its reply
+/// is the value 99.
 #[derive(Clone, Copy, Debug)]
 pub struct Invent<S: SeqObject> {
     pub object: S,
 }
 
-// How many calls of a log are a caller's.
+// How many entries of a log are of this caller.
 fn calls_of(log: &[Entry], caller: u32) -> usize
     ensures { result ≡ length (calls_by caller log.now) }
 {
@@ -22,7 +22,7 @@ fn calls_of(log: &[Entry], caller: u32) -> usize
 }
 
 impl<S: SeqObject> Invent<S> {
-    // Makes the calls of a log.
+    // Applies the operations of a log to the state.
     fn replay(&self, log: &[Entry], state: &mut State)
         requires { length state.old.words + length log.now ≤ state.old.room }
         ensures list { state.new ≡ record state.old {

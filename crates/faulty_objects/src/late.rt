@@ -9,7 +9,7 @@ use crate::calls;
 use book_base::{OpWord, SeqObject};
 use lawful_objects::{Entry, Machine, Scratch};
 
-/// The machine that is late: a put gets its lawful reply, and its change is made only at the next
+/// The machine that is late: a put gets its lawful reply, but its change is made only at the next
 /// call of its caller, before that call.
 #[derive(Clone, Copy, Debug)]
 pub struct Late<S: SeqObject> {
@@ -17,7 +17,7 @@ pub struct Late<S: SeqObject> {
 }
 
 impl<S: SeqObject> Late<S> {
-    // Makes the waiting change of a caller, if there is one.
+    // Applies the waiting operation of a caller to the state, if there is one.
     fn make_waiting(&self, caller: usize, scratch: &mut Scratch)
         requires caller { caller < vec_len scratch.old.waiting }
         requires room { length scratch.old.state.words < scratch.old.state.room }
@@ -35,8 +35,8 @@ impl<S: SeqObject> Late<S> {
         }
     }
 
-    // Makes the changes of a call: the waiting one of its caller, and its own unless it is a put,
-    // which waits.
+    // Makes the changes of a call: applies the waiting operation of its caller, and then its own
+    // operation, unless that is a put, which then waits.
     fn turn(&self, entry: &Entry, scratch: &mut Scratch)
         requires caller { entry.now.caller < vec_len scratch.old.waiting }
         requires room { length scratch.old.state.words + waiting_count scratch.old.waiting.items
@@ -62,7 +62,8 @@ impl<S: SeqObject> Late<S> {
 }
 
 impl<S: SeqObject> Late<S> {
-    // Makes the changes of the calls of a log, before which nothing waits.
+    // Makes the changes of the calls of a log, in order, where no operation waits before the first
+    // call.
     fn replay(&self, log: &[Entry], scratch: &mut Scratch)
         requires callers { All (λ e. e.caller < vec_len scratch.old.waiting) log.now }
         requires none { waiting_count scratch.old.waiting.items ≡ 0 }
@@ -81,7 +82,7 @@ impl<S: SeqObject> Late<S> {
     }
 }
 
-// Clears what waits of each caller.
+// Clears the waiting operation of each caller.
 fn clear(waiting: &mut Vec<Option<OpWord>>)
     ensures { waiting.new.items ≡ replicate (vec_len waiting.old) None }
 {

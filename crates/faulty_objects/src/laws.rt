@@ -1,5 +1,5 @@
-//! The forms of the replies of all calls of a pass, and which reply the last step of a call
-//! determines.
+//! Laws of the split tally, of the one-pass queue and of the meeting: of the forms of their
+//! replies, and of what their accesses find.
 ghost use Rattle.faulty_objects.specs.Forms.{SplitsAreFormed, OnePassesAreFormed, MeetingsAreFormed, LastLoadsTellReplies, FlagsAreRaised};
 ghost use Rattle.faulty_objects.specs.Together.{QueuesGivePlacesInOrder, QueuesGiveWhatWasPut, MeetingsFindRaisedFlags};
 
@@ -15,34 +15,35 @@ pub fn one_passes_are_formed()
     ensures { OnePassesAreFormed }
 {}
 
-/// The replies of a meeting are done or bad.
+/// The replies of a meeting are `done` or `bad`.
 #[tactic(auto, using(crate::proofs::Forming::meetings_are_formed))]
 pub fn meetings_are_formed()
     ensures { MeetingsAreFormed }
 {}
 
-/// A reply at a meeting is done exactly where the call's last load found the other caller's flag
-/// up.
+/// The reply of a call at a meeting is `done` exactly where the call's last load found the other
+/// caller's flag up.
 pub fn last_loads_tell_replies()
     ensures { LastLoadsTellReplies }
 {}
 
-/// A flag of a meeting is up only after its caller has raised it.
+/// A flag of a meeting is up only after the caller to whom it belongs has raised it.
 #[tactic(auto, using(crate::proofs::Raising::flags_are_raised))]
 pub fn flags_are_raised()
     ensures { FlagsAreRaised }
 {}
 
-/// Which words the accesses of a one-pass queue found.
+/// Which words the additions and the exchanges of a one-pass queue found.
 pub fn takes_take_what_was_put()
-    // Each addition to the counter found the number of additions before it, modulo 2^64.
+    // Each addition to the queue's counter found the number of additions before it, modulo 2^64.
     ensures places { QueuesGivePlacesInOrder }
-    // Each exchange that found an item took one that a store had put into this place, and that no
-    // access had taken since.
+    // Each exchange that found an item in a place took one that a store had put into this place and
+    // no access had taken since.
     ensures items { QueuesGiveWhatWasPut }
 {}
 
-/// A load at a meeting finds a flag up only after its caller has raised it.
+/// A load at a meeting finds a flag up only after the caller to whom the flag belongs has raised
+/// it.
 pub fn loads_find_raised_flags()
     ensures { MeetingsFindRaisedFlags }
 {}

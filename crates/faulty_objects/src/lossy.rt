@@ -13,7 +13,7 @@ pub struct Lossy<S: SeqObject> {
 }
 
 impl<S: SeqObject> Lossy<S> {
-    // Makes the calls of a log without each second put.
+    // Applies the operations of a log to the state, without each second put.
     fn replay(&self, log: &[Entry], state: &mut State)
         requires { length state.old.words + length log.now ≤ state.old.room }
         ensures list { state.new ≡ record state.old {

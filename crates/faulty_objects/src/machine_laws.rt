@@ -1,4 +1,4 @@
-//! The replies of the faulty machines, in the subject's words.
+//! Laws of the faulty machines: what each of them replies to the last call of a log.
 
 ghost use Rattle.faulty_objects.specs.Lossy.{LosesEachSecondPut};
 ghost use Rattle.faulty_objects.specs.Twice.{TakesLeaveTheList};
@@ -11,19 +11,21 @@ pub fn loses_each_second_put()
     ensures { LosesEachSecondPut }
 {}
 
-/// The machine that gives twice leaves out the takes of the log.
+/// The machine that gives an item twice leaves out the takes of the log before its last call.
 #[tactic(auto, using(crate::proofs::Answering::takes_leave_the_list))]
 pub fn takes_leave_the_list()
     ensures { TakesLeaveTheList }
 {}
 
-/// The late machine makes a put's change before its caller's next call.
+/// The late machine makes the change of a put only at the next call of the put's caller, before
+/// that call.
 #[tactic(auto, using(crate::proofs::Answering::puts_wait))]
 pub fn puts_wait()
     ensures { PutsWait }
 {}
 
-/// The inventing machine answers the third call of each caller with a value that nobody put.
+/// The inventing machine answers the third call of each caller with the value 99, and each other
+/// call lawfully.
 #[tactic(auto, using(crate::proofs::Answering::third_calls_are_invented))]
 pub fn third_calls_are_invented()
     ensures { ThirdCallsAreInvented }

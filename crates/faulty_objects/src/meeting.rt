@@ -19,10 +19,10 @@ use std::hint::spin_loop;
 /// The word of a flag that is up.
 const UP: u64 = 1;
 
-/// How often a call of a meeting loads the other caller's flag at most.
+/// The most loads of the other caller's flag that a call of a meeting makes.
 const MOST_LOADS: u32 = 100_000_000;
 
-/// Callers of a meeting raise their own flags, and load any.
+/// A caller of a meeting may raise its own flag and load any flag, and nothing else.
 pub struct Flags;
 
 impl Usage for Flags {
@@ -31,9 +31,9 @@ impl Usage for Flags {
     ghost may = { meeting_may };
 }
 
-/// A meeting of two callers: each raises its own flag, and waits a while for the other's to be up.
-/// It shows whether callers are at work at the same time: a caller whose call ends before the
-/// other's begins waits in vain, and its reply is bad.
+/// A meeting of two callers: each raises its own flag, and waits a while for the other one's flag
+/// to be up. It shows whether callers are at work at the same time: a caller whose call ends before
+/// the other caller's begins waits in vain, and its reply is `bad`.
 #[derive(Drop)]
 pub struct Meeting {
     pub(crate) words: SharedWords<Flags>,
@@ -44,7 +44,7 @@ impl Meeting {
     ghost use Rattle.shared_words.specs.Passes.{caller_of_seat, history_of, deeds_of, caller_of_pass, made_with, cap_of_pass, pairs_in, history_in, transcript_of, IsSeatOf, IsFreshPass};
     ghost use Rattle.faulty_objects.specs.Passes.{IsMeetingPass};
 
-    /// A meeting for `n` callers, of whom there are two, with `cap` calls each, and a pass for each
+    /// Opens a meeting for two callers with `cap` calls each (`n` is 2), with a pass for each
     /// caller, in order. No flag is up.
     pub fn open(alloc: Global, n: u32, cap: u64) -> Result<(Meeting, Vec<WordsPass>), NoMemory>
         // There are two callers.
@@ -59,7 +59,7 @@ impl Meeting {
         // The passes are those of all callers, in order.
         ensures callers { IfOk result (λ r. map caller_of_pass r.1.items
             ≡ range_with_len 0 n) }
-        // Each pass is one of this meeting.
+        // Each pass belongs to this meeting.
         ensures own { IfOk result (λ r. All (IsMeetingPass r.0) r.1.items) }
         // Each pass has made no call, and may make as many as the cap.
         ensures fresh { IfOk result (λ r. All (IsFreshPass cap) r.1.items) }
@@ -68,7 +68,8 @@ impl Meeting {
         Ok((Meeting { words }, passes))
     }
 
-    // Whether one of at most `MOST_LOADS` loads of a flag finds it up, after which no load is made.
+    // Loads a flag until it is found up, at most `MOST_LOADS` times, and returns whether it was
+    // found up.
     fn sees(&self, seat: &mut WordSeat, flag: usize) -> bool
         requires seat { IsSeatOf meeting_may self.now.words seat.old }
         requires flag { flag < 2 }
@@ -90,7 +91,7 @@ impl Meeting {
         false
     }
 
-    // Makes the steps of a caller's call, and answers the reply to it.
+    // Makes the steps of a call of the seat's caller, and returns the call's reply.
     fn reply(&self, seat: &mut WordSeat) -> u64
         requires seat { IsSeatOf meeting_may self.now.words seat.old }
         ensures seat { IsSeatOf meeting_may self.now.words seat.new }
@@ -110,26 +111,27 @@ impl Meeting {
         }
     }
 
-    /// Makes one call of the pass's caller, in the same way whatever its operation. It takes no
-    /// memory.
+    /// Makes one call of the pass's caller, whatever its operation: raises the caller's flag, and
+    /// waits for the other caller's. Takes no memory.
     pub fn make(&self, pass: &mut WordsPass, op: OpWord) -> u64
-        // The pass is one of this meeting.
+        // The pass belongs to this meeting.
         requires own { IsMeetingPass self.now pass.old }
         // The pass has made fewer calls than it may make.
         requires left { made_with pass.old < cap_of_pass pass.old }
-        // The pass is still one of this meeting.
+        // The pass still belongs to this meeting.
         ensures own { IsMeetingPass self.now pass.new }
         // The pass keeps its caller and how many calls it may make.
         ensures same { (caller_of_pass pass.new ≡ caller_of_pass pass.old)
             × (cap_of_pass pass.new ≡ cap_of_pass pass.old) }
-        // The pass has this operation and this reply after the calls that it had.
+        // The pass's calls are those that it had, and then this operation with this reply.
         ensures pairs { pairs_in pass.new ≡ pairs_in pass.old ++ (op, result) ∷ [] }
-        // The accesses that the pass knew are the first of those that it knows.
+        // The history that the pass knew before the call is a prefix of the one that it knows after
+        // it.
         ensures history { IsPrefix (history_in pass.old) (history_in pass.new) }
-        // A reply done comes only where the other caller has raised its flag.
+        // The reply is `done` only where the other caller has raised its flag.
         ensures raised { result ≡ reply_done
             → HasRaised (other_caller (caller_of_pass pass.old)) (history_in pass.new) }
-        // The reply is done or `bad`.
+        // The reply is `done` or `bad`.
         ensures form { IsMeetingReply result }
     {
         let reply = self.reply(&mut pass.seat);
@@ -137,15 +139,15 @@ impl Meeting {
         reply
     }
 
-    /// Takes the passes of all callers back, in order, and drops the meeting. It takes no memory.
+    /// Takes the passes of all callers back, in order, and drops the meeting. Takes no memory.
     pub fn close(self, passes: Vec<WordsPass>)
         // The passes are those of all callers, in order.
         requires callers { map caller_of_pass passes.items
             ≡ range_with_len 0 (callers_of self.words) }
-        // Each pass is one of this meeting.
+        // Each pass belongs to this meeting.
         requires own { All (IsMeetingPass self) passes.items }
-        // The passes are of one history, in which a flag is found up only after its caller has
-        // raised it.
+        // The passes are of one history, in which a flag is found up only after the caller to whom
+        // it belongs has raised it.
         ensures history { (history : List Access)
             × TellOneMeeting (callers_of self.words) history (map transcript_of passes.items) }
     {

@@ -13,14 +13,15 @@ use seq_objects::{DONE, NONE, value_reply};
 use shared_words::{SharedWords, Usage, WordSeat, WordsPass};
 use std::alloc::Global;
 
-/// The operation word of the enqueue of 0; the words of enqueues are from this one on, and below
-/// that of the dequeue.
+/// The operation word of the enqueue of 0. The operation word of the enqueue of a value is this one
+/// plus the value.
 const ENQUEUE_0: OpWord = 1 << 32;
 
 /// The operation word of the dequeue.
 const DEQUEUE: OpWord = 2 << 32;
 
-/// Callers add to the counter and load it, put items into places, and take what is in a place.
+/// Callers of a one-pass queue add to its counter and load it, put items into places, and take what
+/// is in a place.
 pub struct QueueDeeds;
 
 impl Usage for QueueDeeds {
@@ -41,8 +42,8 @@ impl OnePass {
     ghost use Rattle.shared_words.specs.Passes.{caller_of_seat, history_of, deeds_of, caller_of_pass, made_with, cap_of_pass, pairs_in, history_in, transcript_of, IsSeatOf, IsFreshPass};
     ghost use Rattle.faulty_objects.specs.Passes.{IsQueuePass};
 
-    /// A queue for `n` callers with `cap` calls each, and a pass for each caller, in order. It is
-    /// empty.
+    /// Opens an empty queue for `n` callers with `cap` calls each, with a pass for each caller, in
+    /// order.
     pub fn open(alloc: Global, n: u32, cap: u64) -> Result<(OnePass, Vec<WordsPass>), NoMemory>
         // There is at least one caller.
         requires some_callers { 1 ≤ n }
@@ -56,7 +57,7 @@ impl OnePass {
         ensures queue { IfOk result (λ r. (callers_of r.0.words ≡ n) × (cap_of r.0.words ≡ cap)) }
         // The passes are those of all callers, in order.
         ensures callers { IfOk result (λ r. map caller_of_pass r.1.items ≡ range_with_len 0 n) }
-        // Each pass is one of this queue.
+        // Each pass belongs to this queue.
         ensures own { IfOk result (λ r. All (IsQueuePass r.0) r.1.items) }
         // Each pass has made no call, and may make as many as the cap.
         ensures fresh { IfOk result (λ r. All (IsFreshPass cap) r.1.items) }
@@ -66,7 +67,7 @@ impl OnePass {
         Ok((OnePass { words }, passes))
     }
 
-    // How many places there are: one for each call.
+    // How many places the queue has: one for each call that its callers may make.
     fn places(&self) -> u64
         ensures count { result ≡ callers_of self.now.words * cap_of self.now.words }
         ensures few { result ≤ 4096 }
@@ -74,8 +75,8 @@ impl OnePass {
         self.words.callers() as u64 * self.words.cap()
     }
 
-    // Makes an enqueue of a value. The queue has as many places as there are calls, so it has one
-    // for this value.
+    // Makes an enqueue of a value: gets a place by adding 1 to the counter, and puts the value
+    // there, if the queue has this place.
     fn enqueue(&self, seat: &mut WordSeat, value: u64)
         requires seat { IsSeatOf queue_may self.now.words seat.old }
         requires value { value < 4294967296 }
@@ -91,7 +92,8 @@ impl OnePass {
         }
     }
 
-    // Makes a dequeue: one pass through the places below the counter.
+    // Makes a dequeue: one pass through the places below the counter, up to the first item that it
+    // finds. Returns the reply.
     fn dequeue(&self, seat: &mut WordSeat) -> u64
         requires seat { IsSeatOf queue_may self.now.words seat.old }
         ensures seat { IsSeatOf queue_may self.now.words seat.new }
@@ -111,7 +113,7 @@ impl OnePass {
         NONE
     }
 
-    // Makes the steps of an operation, and answers the reply to it.
+    // Makes the steps of an operation, and returns the reply to it.
     fn reply(&self, seat: &mut WordSeat, op: OpWord) -> u64
         requires seat { IsSeatOf queue_may self.now.words seat.old }
         ensures seat { IsSeatOf queue_may self.now.words seat.new }
@@ -132,26 +134,27 @@ impl OnePass {
         DONE
     }
 
-    /// Makes one call of the pass's caller. It takes no memory.
+    /// Makes one call of the pass's caller, and returns its reply. Takes no memory.
     pub fn make(&self, pass: &mut WordsPass, op: OpWord) -> u64
-        // The pass is one of this queue.
+        // The pass belongs to this queue.
         requires own { IsQueuePass self.now pass.old }
         // The pass has made fewer calls than it may make.
         requires left { made_with pass.old < cap_of_pass pass.old }
-        // The pass is still one of this queue.
+        // The pass still belongs to this queue.
         ensures own { IsQueuePass self.now pass.new }
         // The pass keeps its caller and how many calls it may make.
         ensures same { (caller_of_pass pass.new ≡ caller_of_pass pass.old)
             × (cap_of_pass pass.new ≡ cap_of_pass pass.old) }
-        // The pass has this operation and this reply after the calls that it had.
+        // The pass's calls are those that it had, and then this operation with this reply.
         ensures pairs { pairs_in pass.new ≡ pairs_in pass.old ++ (op, result) ∷ [] }
-        // The accesses that the pass knew are the first of those that it knows.
+        // The history that the pass knew before the call is a prefix of the one that it knows after
+        // it.
         ensures history { IsPrefix (history_in pass.old) (history_in pass.new) }
-        // The reply is done exactly to an enqueue, a value or none exactly to the dequeue, and else
-        // `bad`.
+        // The reply is `done` to an enqueue, a value or `none` to the dequeue, and `bad` to any
+        // other operation.
         ensures form { IsQueueReply op result }
-        // The reply to a dequeue is none, or gives the item that its last access took: a store had
-        // put it into this place, and no access had taken it since.
+        // The reply to a dequeue is `none`, or gives the item that the call's last access took: a
+        // store had put this item into its place, and no access had taken it since.
         ensures given { op ≡ dequeue
             → IsNoneOrGiven (caller_of_pass pass.old) result (history_in pass.new) }
     {
@@ -160,16 +163,16 @@ impl OnePass {
         reply
     }
 
-    /// Takes the passes of all callers back, in order, and drops the queue. It takes no memory.
+    /// Takes the passes of all callers back, in order, and drops the queue. Takes no memory.
     pub fn close(self, passes: Vec<WordsPass>)
         // The passes are those of all callers, in order.
         requires callers { map caller_of_pass passes.items
             ≡ range_with_len 0 (callers_of self.words) }
-        // Each pass is one of this queue.
+        // Each pass belongs to this queue.
         requires own { All (IsQueuePass self) passes.items }
-        // The passes are of one history. Its additions to the counter found 0, 1 and so on, modulo
-        // 2^64, so that the places are given in order; and each item that an exchange found had
-        // been put into the place of the exchange and not taken since.
+        // The passes are of one history. The additions to the counter found 0, 1 and so on, modulo
+        // 2^64, so that the places are given in order; and each item that an exchange found in a
+        // place had been put into this place and not taken since.
         ensures history { (history : List Access)
             × TellOneQueue (callers_of self.words * cap_of self.words) (callers_of self.words)
             history (map transcript_of passes.items) }

@@ -30,8 +30,8 @@ impl SplitTally {
     ghost use Rattle.shared_words.specs.Passes.{caller_of_seat, history_of, deeds_of, caller_of_pass, made_with, cap_of_pass, pairs_in, history_in, transcript_of, IsSeatOf, IsFreshPass};
     ghost use Rattle.faulty_objects.specs.Passes.{IsSplitPass};
 
-    /// A split tally for `n` callers with `cap` calls each, and a pass for each caller, in order.
-    /// The count is 0.
+    /// Opens a split tally for `n` callers with `cap` calls each, with a pass for each caller, in
+    /// order. Its count is 0.
     pub fn open(alloc: Global, n: u32, cap: u64) -> Result<(SplitTally, Vec<WordsPass>), NoMemory>
         // There is at least one caller.
         requires some_callers { 1 ≤ n }
@@ -45,7 +45,7 @@ impl SplitTally {
         ensures tally { IfOk result (λ r. (callers_of r.0.words ≡ n) × (cap_of r.0.words ≡ cap)) }
         // The passes are those of all callers, in order.
         ensures callers { IfOk result (λ r. map caller_of_pass r.1.items ≡ range_with_len 0 n) }
-        // Each pass is one of this tally.
+        // Each pass belongs to this tally.
         ensures own { IfOk result (λ r. All (IsSplitPass r.0) r.1.items) }
         // Each pass has made no call, and may make as many as the cap.
         ensures fresh { IfOk result (λ r. All (IsFreshPass cap) r.1.items) }
@@ -54,7 +54,8 @@ impl SplitTally {
         Ok((SplitTally { words }, passes))
     }
 
-    // Makes the steps of an operation, and answers the reply to it.
+    // Makes the two steps of an increment, and none of any other operation, and returns the reply
+    // to it.
     fn reply(&self, seat: &mut WordSeat, op: OpWord) -> u64
         requires { IsSeatOf cell_may self.now.words seat.old }
         ensures seat { IsSeatOf cell_may self.now.words seat.new }
@@ -72,26 +73,27 @@ impl SplitTally {
         value_reply(found)
     }
 
-    /// Makes one call of the pass's caller. It takes no memory.
+    /// Makes one call of the pass's caller, and returns its reply. Takes no memory.
     pub fn make(&self, pass: &mut WordsPass, op: OpWord) -> u64
-        // The pass is one of this tally.
+        // The pass belongs to this tally.
         requires own { IsSplitPass self.now pass.old }
         // The pass has made fewer calls than it may make.
         requires left { made_with pass.old < cap_of_pass pass.old }
-        // The pass is still one of this tally.
+        // The pass still belongs to this tally.
         ensures own { IsSplitPass self.now pass.new }
         // The pass keeps its caller and how many calls it may make.
         ensures same { (caller_of_pass pass.new ≡ caller_of_pass pass.old)
             × (cap_of_pass pass.new ≡ cap_of_pass pass.old) }
-        // The pass has this operation and this reply after the calls that it had.
+        // The pass's calls are those that it had, and then this operation with this reply.
         ensures pairs { pairs_in pass.new ≡ pairs_in pass.old ++ (op, result) ∷ [] }
-        // The accesses that the pass knew are the first of those that it knows.
+        // The history that the pass knew before the call is a prefix of the one that it knows after
+        // it.
         ensures history { IsPrefix (history_in pass.old) (history_in pass.new) }
-        // The call loaded the word and then stored one more, maybe with others' accesses between,
-        // and its reply gives the word loaded.
+        // An increment loads the word and later stores one more, maybe with accesses of other
+        // callers between them, and its reply gives the loaded word.
         ensures torn { op ≡ increment
             → IsTorn (caller_of_pass pass.old) result (history_in pass.new) }
-        // The reply is a value exactly to the increment, and else `bad`.
+        // The reply is a value to the increment, and `bad` to any other operation.
         ensures form { IsTallyReply op result }
     {
         let reply = self.reply(&mut pass.seat, op);
@@ -99,15 +101,15 @@ impl SplitTally {
         reply
     }
 
-    /// Takes the passes of all callers back, in order, and drops the tally. It takes no memory.
+    /// Takes the passes of all callers back, in order, and drops the tally. Takes no memory.
     pub fn close(self, passes: Vec<WordsPass>)
         // The passes are those of all callers, in order.
         requires callers { map caller_of_pass passes.items
             ≡ range_with_len 0 (callers_of self.words) }
-        // Each pass is one of this tally.
+        // Each pass belongs to this tally.
         requires own { All (IsSplitPass self) passes.items }
-        // The passes are of one history of loads and stores, of which each load found what the last
-        // store before it stored, or 0 where there is none.
+        // The passes are of one history of loads and stores. Each load found what the last store
+        // before it stored, or 0 where there is no store before it.
         ensures history { (history : List Access)
             × TellOneSplit (callers_of self.words) history (map transcript_of passes.items) }
     {

@@ -6,14 +6,14 @@ use crate::calls::{is_take, make_unless};
 use book_base::{SeqObject, State};
 use lawful_objects::{Entry, Machine, Scratch};
 
-/// The machine that gives an item twice: a take gets its lawful reply and doesn't change the list.
+/// The machine that gives an item twice: a take gets its lawful reply, but doesn't change the list.
 #[derive(Clone, Copy, Debug)]
 pub struct Twice<S: SeqObject> {
     pub object: S,
 }
 
 impl<S: SeqObject> Twice<S> {
-    // Makes each call of a log that isn't a take.
+    // Applies the operations of a log that aren't takes to the state.
     fn replay(&self, log: &[Entry], state: &mut State)
         requires { length state.old.words + length log.now ≤ state.old.room }
         ensures list { state.new ≡ record state.old {

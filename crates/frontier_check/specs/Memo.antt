@@ -3,24 +3,24 @@ use Rattle.std.specs.Prelude.{◌≡◌, ℕ, ◌+◌, ◌*◌, ◌<◌, ◌≤�
 use Rattle.frontier_check.specs.declared.memo.MemoEntry.{MemoEntry}
 use Rattle.frontier_check.specs.declared.memo.Memo.{Memo}
 
--- the counts of the cut that a memo has for its entry with this index
+-- The counts of the cut that a memo has for its entry with the index `k`.
 abbrev pub counts_at : Memo → ℕ → List ℕ
 counts_at memo k =
     slice_range memo.counts.items (k * memo.callers) (k * memo.callers + memo.callers)
 
--- the words of the list that a memo has for an entry
+-- The words of the list that a memo has for an entry.
 abbrev pub words_at : Memo → MemoEntry → List ℕ
 words_at memo entry = slice_range memo.words.items entry.from (entry.from + entry.len)
 
--- A memo remembers a pair of a cut and a list where one of its entries has these counts and these
--- words.
+-- A memo remembers a pair of a cut and a list where one of its entries has the counts of this cut
+-- and the words of this list.
 abbrev pub Remembers : Memo → List ℕ → List ℕ → Type 0
 Remembers memo cut list = (k : ℕ) × (entry : MemoEntry)
     × (slice_get memo.entries.items k ≡ Some entry)
     × (cut ≡ counts_at memo k) × (list ≡ words_at memo entry)
 
--- A memo is sound: it has as many counts for each entry as it is for callers, the words of each
--- entry lie within its list of words, and its entries are fewer than 2 to the power of 32.
+-- A memo is sound: its list of counts has for each entry one count a caller, the words of each
+-- entry lie within its list of words, and it has fewer than 2 ^ 32 entries.
 pub record IsMemo (memo : Memo) : Type 0 where
   pub counts : length memo.counts.items ≡ length memo.entries.items * memo.callers
   pub words : (k : ℕ) (entry : MemoEntry) → slice_get memo.entries.items k ≡ Some entry

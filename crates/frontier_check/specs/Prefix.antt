@@ -22,9 +22,9 @@ pub record IsNext (book : List Page) (cut : List ℕ) (place : Place) : Type 0 w
   pub recorded : (r : Record) → record_of book (call_at place) ≡ Some r → (r.reply ≡ place.reply)
       × IsWithin cut r.view
 
--- Places follow one another from one cut and list to another: each is next, as `IsNext` says, after
--- the cut that those before it reach, and has the reply that the object gives at the list that
--- those before it reach.
+-- Places follow one another and lead from one cut and list to another cut and list. Each place is
+-- next, as `IsNext` says, after the first cut and the places before it, and has the reply that the
+-- object gives at the list after those places.
 abbrev pub Follow : List Page → (List ℕ → ℕ → List ℕ × ℕ) → List ℕ → List ℕ → List Place → List ℕ
     → List ℕ → Type 0
 Follow book next cut list [] to_cut to_list = (cut ≡ to_cut) × (list ≡ to_list)
@@ -38,9 +38,10 @@ abbrev pub LeavesOpen : List Page → List ℕ → Type 0
 LeavesOpen book cut = (i : ℕ) (r : Record) → record_of book (next_call cut i) ≡ Some r
     → IsWithin cut r.view
 
--- The places of a prefix reach its cut and its list, in a valid and small book. The cut has one
--- count for each caller of the book, none of them above the caller's number of calls in the book,
--- and the list has at most one word more than the cut counts calls.
+-- The places of a prefix reach its cut and its list, in a valid book that has no more callers and
+-- calls than a book may have. The cut has one count for each caller of the book, none of them above
+-- the caller's number of calls in the book, and the list has at most one word more than the cut
+-- counts calls.
 pub record PrefixReaches (spec : SeqSpec) (book : List Page) (prefix : Prefix) : Type 0 where
   pub valid : IsValid book
   pub small : IsSmall book
@@ -56,8 +57,8 @@ pub record IsPut (spec : SeqSpec) (book : List Page) (prefix : Prefix) : Type 0 
   pub follow : Follow book spec.next
       (no_calls book) spec.init prefix.places.items prefix.cut prefix.here.words
 
--- The places of a prefix reach its cut and its list, and whatever places continue an order from
--- there make a legal order after those of the prefix.
+-- The places of a prefix reach its cut and its list, and any places that continue an order from
+-- this cut and list make a legal order when they stand after the prefix's places.
 pub record IsPrefix (spec : SeqSpec) (book : List Page) (prefix : Prefix) : Type 0 where
   pub stands : PrefixReaches spec book prefix
   pub legal : (rest : List Place) → Continues book spec.next prefix.cut prefix.here.words rest

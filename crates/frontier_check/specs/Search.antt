@@ -20,8 +20,8 @@ use Rattle.frontier_check.specs.declared.walk.TheConstants.{CAPACITY}
 use Rattle.frontier_check.specs.Memo.{IsMemo, Remembers}
 use Rattle.frontier_check.specs.Prefix.{IsPrefix}
 
--- One more word fits a list of the object: the list has fewer words than the capacity. The cut
--- plays no part.
+-- One more word fits a list of the object: the list has fewer words than `CAPACITY`. The cut plays
+-- no part.
 abbrev pub MayGrow : List ℕ → List ℕ → Type 0
 MayGrow cut list = length list + 1 ≤ CAPACITY
 
@@ -34,15 +34,15 @@ IsAmong place (first ∷ places) = (place ≡ first) ⊎ IsAmong place places
 abbrev pub places_of : List Choice → List Place
 places_of choices = map (λ choice. choice.place) choices
 
--- Some places continue an order from a cut and a list, and the first of them is one of these
--- places.
+-- Some places continue an order from a cut and a list, and the first of them is in the list
+-- `places`.
 abbrev pub GoesOnBy : List Page → (List ℕ → ℕ → List ℕ × ℕ) → List ℕ → List ℕ → List Place → Type 0
 GoesOnBy book next cut list places = (place : Place) × (rest : List Place) × IsAmong place places
     × Continues book next cut list (place ∷ rest)
 
--- What is known of a cut and a list at which these places are still to be tried: the cut lacks an
--- answered call, each of the places may come next, and where places continue an order from there,
--- some that begin with one of these places do.
+-- At a cut and a list the places `places` are still to be tried: the cut lacks an answered call,
+-- each of the places may stand next, and where any places continue an order from the cut and the
+-- list, some that begin with one of `places` do.
 pub record IsOpen (book : List Page) (next : List ℕ → ℕ → List ℕ × ℕ) (cut list : List ℕ)
     (places : List Place) : Type 0 where
   pub unended : HoldsAnswered book cut → ⊥
@@ -50,13 +50,13 @@ pub record IsOpen (book : List Page) (next : List ℕ → ℕ → List ℕ × �
   pub covered : (rest : List Place) → Continues book next cut list rest
       → GoesOnBy book next cut list places
 
--- A list has a word whose rank is at most this one: for each limit above this rank, the list has a
--- word of a rank below that limit.
+-- A list has a word whose rank is at most `rank`: for each limit above `rank`, the list has a word
+-- of a rank below that limit.
 abbrev pub IsRankIn : List (ℕ × ℕ) → List ℕ → ℕ → Type 0
 IsRankIn ranks list rank = (limit : ℕ) → rank < limit → HasEarly ranks list limit
 
--- From a cut and a list, some places that begin with one of these continue an order, or at most
--- this many places do.
+-- From a cut and a list, some places that begin with one of `places` continue an order, or at most
+-- `few` places continue one.
 abbrev pub IsServed : List Page → (List ℕ → ℕ → List ℕ × ℕ) → List ℕ → List ℕ → List Place
     → ℕ → Type 0
 IsServed book next cut list places few =
@@ -71,10 +71,11 @@ AreServedBy book next cut list old new = (place : Place) (rest : List Place) →
     → Continues book next cut list (place ∷ rest)
     → GoesOnBy book next cut list new
 
--- The places to be tried become new ones when the next call of one more caller is considered: each
--- new place may come next; the new places serve for the old ones; and where places that begin with
--- a call of that caller continue an order, some that begin with one of the new places do, or fewer
--- places do.
+-- The next call of one more caller is considered, and the places to be tried at a cut and a list
+-- change from `old` to `new`. Each new place may stand next. Where places that begin with an old
+-- place continue an order, some that begin with a new place do. Where places that begin with a call
+-- of this caller continue an order, some that begin with a new place do, or a shorter list of
+-- places does.
 pub record IsOneMore (book : List Page) (next : List ℕ → ℕ → List ℕ × ℕ) (cut list : List ℕ)
     (caller : ℕ) (old new : List Place) : Type 0 where
   pub sound : AllByRecursion (MayStandNext book next cut list) new
@@ -83,9 +84,9 @@ pub record IsOneMore (book : List Page) (next : List ℕ → ℕ → List ℕ ×
       → Continues book next cut list (place ∷ rest)
       → IsServed book next cut list new (length rest)
 
--- The places that are chosen for the marked callers below a number: each place may come next, and
--- where places that begin with a call of one of these callers continue an order, some that begin
--- with one of the chosen places do, or fewer places do.
+-- The places that are chosen for the marked callers whose numbers are less than `below`: each place
+-- may stand next, and where places that begin with a call of one of these callers continue an
+-- order, some that begin with a chosen place do, or a shorter list of places does.
 pub record AreChosen (book : List Page) (next : List ℕ → ℕ → List ℕ × ℕ) (cut list : List ℕ)
     (marks : MarkedCallers) (below : ℕ) (places : List Place) : Type 0 where
   pub sound : AllByRecursion (MayStandNext book next cut list) places
@@ -100,9 +101,9 @@ pub record AreToTry (book : List Page) (next : List ℕ → ℕ → List ℕ × 
   pub may : (i : ℕ) → IsMarked marks i → MayComeNext book cut (next_call cut i)
   pub suffice : MarksSuffice book next cut list marks
 
--- Frames lead from a cut and a list to another cut and list, each by the call at its place: the
--- words of each frame are the list before that call, and its place and those of its choices are
--- what is still to be tried at the cut and the list before that call.
+-- Frames of a walk lead from one cut and list to another cut and list, each by the call at its
+-- place. The words of a frame are the list before this call. The places still to be tried at the
+-- cut and the list before this call are the frame's own place and those of its choices.
 abbrev pub Leads : List Page → (List ℕ → ℕ → List ℕ × ℕ) → List ℕ → List ℕ → List WalkFrame → List ℕ
     → List ℕ → Type 0
 Leads book next cut list [] to_cut to_list = (cut ≡ to_cut) × (list ≡ to_list)
@@ -117,9 +118,10 @@ abbrev pub AllDead : List Page → (List ℕ → ℕ → List ℕ × ℕ) → Wa
 AllDead book next walk = (cut list : List ℕ) → Remembers walk.memo cut list
     → IsDeadEnd book next cut list
 
--- What holds of a walk of a search after a prefix: its frames lead from the cut and the list of the
--- prefix to those of the walk, where these places are still to be tried; its memo remembers dead
--- ends alone, and is for as many callers as the book has; and its state has the whole capacity.
+-- A walk of a search that begins after a prefix is sound: its frames lead from the prefix's cut and
+-- list to the walk's; the places `places` are still to be tried at the walk's cut and list; its
+-- memo remembers only dead ends, and is for as many callers as the book has; and its state has the
+-- capacity `CAPACITY`.
 pub record IsWalk (book : List Page) (prefix : Prefix) (spec : SeqSpec) (walk : Walk)
     (places : List Place) : Type 0 where
   pub begins : IsPrefix spec book prefix
@@ -135,17 +137,18 @@ pub record IsWalk (book : List Page) (prefix : Prefix) (spec : SeqSpec) (walk : 
 abbrev pub order_of : List WalkFrame → List Place
 order_of frames = map (λ frame. frame.place) frames
 
--- A bound on the ways to put this many places, where at each of them no more may be tried than
--- there are callers: two more than the most callers that a book may have, to the power of this
--- many.
+-- A bound on the number of ways to put `depth` places one after another, where at each place no
+-- more choices are tried than a book may have callers: the greatest number of callers plus 2, to
+-- the power of `depth`.
 unfoldable pub ways : ℕ → ℕ
 ways zero = 1
 ways (suc depth) = (MAX_CALLERS + 2) * ways depth
 
--- A number for how much is left to try, where at most this many places follow the first cut: for
--- each frame one more than its choices, and in the end one more than these choices, each times the
--- ways of as many places as may still follow there. One choice of a frame weighs more than all
--- frames after it, where these have no more choices than there are callers.
+-- A number for how much is left to try, where at most `depth` places follow the first cut. Each
+-- frame adds one more than the number of its choices, and the end adds `choices` and one more, each
+-- times the bound `ways` for the places that may still follow there. One choice of a frame weighs
+-- more than all frames after it, where each of these has no more choices than a book may have
+-- callers.
 unfoldable pub weigh : ℕ → List WalkFrame → ℕ → ℕ
 weigh depth [] choices = (choices + 1) * ways depth
 weigh depth (frame ∷ frames) choices =
@@ -157,8 +160,8 @@ weight walk = weigh CAPACITY walk.frames.items (length walk.choices.items)
 
 -- The outcome of a step of the search is right: with `Found` the places of the prefix and then of
 -- the frames are a legal order; with `NoneLeft` the cut and the list of the prefix are a dead end;
--- and with `GoesOn` the walk is a right one, with the places of its choices still to be tried, and
--- weighs less than the number before.
+-- and with `GoesOn` the walk is sound as `IsWalk` says, with the places of its choices still to be
+-- tried, and weighs less than `before`.
 abbrev pub IsRightOutcome : List Page → Prefix → SeqSpec → ℕ → Walk → StepOutcome → Type 0
 IsRightOutcome book prefix spec before walk Found =
     IsLegalOrder spec book (prefix.places.items ++ order_of walk.frames.items)

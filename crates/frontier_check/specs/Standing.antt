@@ -19,15 +19,17 @@ pub record HasGrown (old new : List Page) : Type 0 where
   pub records : (call : Call) (r : Record) → record_of old call ≡ Some r
       → record_of new call ≡ Some r
 
--- For each caller, a cut counts no more calls than the caller had records before, or the book has
--- no more records of the caller than before: no call of the cut was answered since.
+-- No call of a cut was answered since the callers of a book had the numbers `before` of records:
+-- for each caller, the cut counts no more calls than this number, or the book has no more records
+-- of the caller than this number.
 abbrev pub IsQuiet : List ℕ → List ℕ → List Page → Type 0
 IsQuiet cut before book = (i : ℕ) → i < length book → (slice_index cut i ≤ slice_index before i)
     ⊎ (answers_of book i ≤ slice_index before i)
 
--- A mark is one of an order where the order begins with the places of a prefix that is put in this
--- book, or in one from which this book has grown; the mark has the number of these places, the cut
--- and the words of the prefix, and how many records of each caller that book had.
+-- A mark is one of an order of a book: the order begins with the places of a prefix that is put in
+-- this book or in an earlier one, from which this book has grown. The mark has the number of these
+-- places, the cut and the words of the prefix, and how many records of each caller the earlier book
+-- had.
 pub record IsMark (spec : SeqSpec) (book : List Page) (order : List Place)
     (mark : OrderMark) : Type 0 where
   pub earlier : List Page
@@ -41,16 +43,17 @@ pub record IsMark (spec : SeqSpec) (book : List Page) (order : List Place)
   pub words : prefix.here.words ≡ mark.words.items
   pub put : IsPut spec earlier prefix
 
--- These are marks of an order; the first of them counts no fewer places than the least number, and
--- each other one no fewer than the mark before it.
+-- Each of some marks is a mark of an order, and the marks are in the order of their places: at
+-- least `least` places are before the first mark, and before each other mark at least as many as
+-- before the one that precedes it.
 abbrev pub AreMarks : SeqSpec → List Page → List Place → ℕ → List OrderMark → Type 0
 AreMarks spec book order least [] = Unit {0}
 AreMarks spec book order least (mark ∷ marks) =
     (least ≤ mark.len) × IsMark spec book order mark
     × AreMarks spec book order mark.len marks
 
--- The marks of a kept order are marks of its places, in this book or in ones from which it has
--- grown.
+-- A kept order stands in a book: its marks are marks of its places, in this book or in earlier ones
+-- from which this book has grown.
 abbrev pub IsStandingFor : SeqSpec → List Page → KeptOrder → Type 0
 IsStandingFor spec book standing =
     AreMarks spec book standing.order.items 0 standing.marks.items
@@ -65,17 +68,17 @@ IsAsWide book mark = (length mark.cut ≡ length book) × (length mark.answered 
 abbrev pub StillStands : List Page → OrderMark → Type 0
 StillStands book mark = IsQuiet mark.cut mark.answered book × LeavesOpen book mark.cut
 
--- A mark is at the end of a prefix: it has the number of its places, its cut and its words, and
--- these numbers of records.
+-- A mark is at the end of a prefix: it has the number of the prefix's places, the prefix's cut and
+-- words, and the numbers `records` of records.
 pub record IsMarkAtEnd (prefix : Prefix) (records : List ℕ) (mark : OrderMark) : Type 0 where
   pub len : mark.len ≡ length prefix.places.items
   pub cut : mark.cut ≡ prefix.cut
   pub words : mark.words.items ≡ prefix.here.words
   pub answered : mark.answered ≡ records
 
--- In each book with these numbers of records in which a prefix is put, whatever the object is:
--- where the old marks are marks of the places of the prefix, the new marks are marks of these
--- places too.
+-- Where `marks` are marks of the places of a prefix, `more` are marks of these places too. This
+-- holds for each object, and in each book in which the prefix is put and which has of each caller
+-- as many records as `records` counts.
 abbrev pub AddsMarks : Prefix → List ℕ → List OrderMark → List OrderMark → Type 0
 AddsMarks prefix records marks more =
     (spec : SeqSpec) (book : List Page)

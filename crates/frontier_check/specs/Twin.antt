@@ -21,17 +21,17 @@ abbrev pub HasOperationOf : List Page → Place → Place → Type 0
 HasOperationOf book other place = IsCall book (call_at place)
     × (operation_of book (call_at place) ≡ operation_of book (call_at other))
 
--- The kept place is one of two, and its call serves for the call at the other one.
+-- The place `kept` is one of two places, and its call serves for the call at the other one.
 abbrev pub IsKeptOf : List Page → Place → Place → Place → Type 0
 IsKeptOf book a b kept = ((kept ≡ a) × ServesFor book (call_at a) (call_at b))
     ⊎ ((kept ≡ b) × ServesFor book (call_at b) (call_at a))
 
--- The choices are the old ones with a new one inserted at some index.
+-- The choices `items` are the choices `old` with the choice `new` inserted at some index.
 abbrev pub IsAdded : List Choice → Choice → List Choice → Type 0
 IsAdded old new items = (i : ℕ) × (items ≡ insert old i new)
 
--- In a book with one open, the choices are the old ones with one of them removed and another one
--- inserted: the place of the inserted one is that of the removed choice or that of the new choice,
+-- In a book with one open, the choices `items` are the choices `old` with one of them removed and a
+-- kept one inserted. The place of the kept choice is that of the removed choice or that of `new`,
 -- and its call serves for the call at the other of these two places.
 pub record IsExchanged (book : List Page) (old : List Choice) (new : Choice)
     (items : List Choice) : Type 0 where

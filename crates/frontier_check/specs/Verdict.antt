@@ -13,8 +13,8 @@ abbrev pub IsRight : SeqSpec → List Page → Verdict → Type 0
 IsRight spec book (Legal order) = IsLegalOrder spec book order.items
 IsRight spec book Illegal = HasLegalOrder spec book → ⊥
 
--- A guide has the places of the legal order that a verdict carries, and with `Illegal` those that
--- it had before.
+-- The places of a guide become those of the legal order that a verdict carries; with `Illegal` they
+-- stay.
 abbrev pub KeepsLastOrder : List Place → List Place → Verdict → Type 0
 KeepsLastOrder old new (Legal order) = new ≡ order.items
 KeepsLastOrder old new Illegal = new ≡ old

@@ -17,8 +17,8 @@ pub struct CallTurns {
 }
 
 impl CallTurns {
-    /// A call_turns for the calls after a prefix: first come the calls of a guide's later places,
-    /// in the order of these places; then the other answered calls, the one whose view counts the
+    /// The turns of the calls after a prefix: first come the calls of a guide's later places, in
+    /// the order of these places; then the other answered calls, the one whose view counts the
     /// fewest calls first; and last all others.
     pub fn new(
         alloc: Global,
@@ -45,8 +45,8 @@ impl CallTurns {
         Ok(call_turns)
     }
 
-    // Gives each answered call of a caller, from this number on, a turn after as many turns as the
-    // guide has later places: the more calls its view counts, the later its turn.
+    // Gives each answered call of a caller, from the number `first` on, a turn after those of the
+    // guide's `later` places: the more calls its view counts, the later its turn.
     fn guess(&mut self, book: &Book, caller: u32, first: u64, later: usize)
         requires { caller < length book.now }
     {
@@ -67,7 +67,7 @@ impl CallTurns {
     }
 
     // The index of a call's turn in the list of turns. `None` comes for a call that the prefix's
-    // cut holds, and for a caller or a number that the call_turns has no turn for.
+    // cut holds, and for a caller or a number that has no turn in this list.
     fn place_of(&self, caller: u32, number: u64) -> Option<usize> {
         if caller >= self.first.n() || number < self.first.get(caller) {
             return None;
@@ -80,8 +80,9 @@ impl CallTurns {
         Some(before.saturating_add(number as usize))
     }
 
-    /// The turn of a call. Beside the calls of the guide, those that leave the object's list as it
-    /// is (`stays`) come before those that may change it: to put them first hinders no other call.
+    /// The turn of a call. Of the calls that aren't the guide's, those that don't change the
+    /// object's list (`stays`) come before those that may change it: a call that doesn't change the
+    /// list hinders no other call when it comes first.
     pub fn turn(&self, caller: u32, number: u64, stays: bool) -> u64 {
         let turn = match self.place_of(caller, number) {
             Some(at) if at < self.turns.len() => self.turns[at],
@@ -95,8 +96,8 @@ impl CallTurns {
     }
 }
 
-// What is added to the turn of a call beside the guide's that may change the object's list: more
-// than any turn in the list of turns.
+// What is added to the turn of a call that isn't the guide's and may change the object's list. It
+// is more than any turn in the list of turns.
 const LATER: u64 = 1 << 32;
 
 // The greatest number of calls that a caller of a book has after a cut.

@@ -26,8 +26,8 @@ pub fn holds_answered(book: &Book, cut: &Cut) -> bool
 }
 
 // The place of a caller's next call after a prefix, with the reply that the object gives, if the
-// place may follow those of the prefix and the call is within a limit. The spare state has the list
-// after the call.
+// place may follow those of the prefix and the cut `limit` holds the call. The spare state has the
+// list after the call.
 fn next_place<S: SeqObject>(
     object: &S,
     book: &Book,
@@ -61,10 +61,10 @@ fn next_place<S: SeqObject>(
     }
 }
 
-// The least turns of calls that change the list of a prefix, by what they do. A call that makes the
-// list shorter has a lesser turn than all of these; `PUT` is for a call that makes it longer and
-// whose word a take is known to take out, `KEPT` for any other answered call that makes it longer,
-// where a guess goes by the takes, and `OTHER` for each other answered call that changes it.
+// The least turns of calls that change the list of a prefix. A call that makes the list shorter has
+// a turn below `PUT`. `PUT` is for a call that makes the list longer and whose word a take is known
+// to take out; `KEPT` for any other answered call that makes it longer, where a guess goes by the
+// takes; and `OTHER` for each other answered call that changes it.
 const PUT: u64 = 1 << 32;
 
 const KEPT: u64 = 2 << 32;
@@ -153,9 +153,9 @@ fn best_choice<S: SeqObject>(
     best
 }
 
-// Of two choices after a cut the one with the lesser turn, the found one where their turns are
-// equal, and where one is missing the other one. Where the found one has the turn `OTHER` and the
-// best one that turn or `UNSURE`, the turn becomes `UNSURE`.
+// The better one of two choices after a cut: the one with the lesser turn, `found` where their
+// turns are equal, and where one is missing the other one. Where `found` is the better one of two
+// and has the turn `OTHER`, its turn becomes `UNSURE`.
 fn better_of(
     _book: &Book,
     _cut: &Cut,
@@ -186,9 +186,9 @@ fn better_of(
     })
 }
 
-// The place of some caller's next call after a prefix, which is unanswered and held by `view`, if
+// The place of some caller's unanswered next call after a prefix, if `view` holds the call and
 // after it the object gives the recorded reply of another caller's next call. `None` comes where no
-// caller has such a call.
+// caller's next call is of this kind.
 fn enabling_place<S: SeqObject>(
     object: &S,
     book: &Book,
@@ -213,8 +213,8 @@ fn enabling_place<S: SeqObject>(
     None
 }
 
-// Whether, once a place is put after a prefix, the object gives the recorded reply of the next call
-// of some caller, which is answered and held by `view`.
+// Whether, once a place is put after a prefix, the object gives the recorded reply of some caller's
+// next call, which is answered and held by `view`.
 fn enables_recorded_reply<S: SeqObject>(
     object: &S,
     book: &Book,
@@ -284,7 +284,8 @@ fn place_after<S: SeqObject>(
     }
 }
 
-/// How many calls of a book a cut lacks. No clause says so: it costs or saves time alone.
+/// How many calls of a book a cut lacks. No clause says so: the number only decides how long a
+/// search takes.
 pub fn calls_after(book: &Book, cut: &Cut) -> u64
     requires { length cut.now ≡ length book.now }
 {
@@ -296,8 +297,8 @@ pub fn calls_after(book: &Book, cut: &Cut) -> u64
 }
 
 /// Puts places after those of a prefix, as long as the next one is guessed, and leaves a mark
-/// wherever the number of places is a multiple of `INTERVAL`. Whether the object gave the reply of
-/// each place that was put; no clause says how many are put.
+/// wherever the number of places is a multiple of `INTERVAL`. Answers whether the object gave the
+/// reply of each place that was put. No clause says how many places are put.
 pub fn put_fresh<S: SeqObject>(
     alloc: Global,
     object: &S,

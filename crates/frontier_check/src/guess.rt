@@ -6,12 +6,12 @@ use crate::walk::CAPACITY;
 use book_base::{Book, Call, Cut, NoMemory, SeqObject, State};
 use std::alloc::Global;
 
-/// What a guess of the next call after a cut goes by. For each caller, of its next call after the
-/// cut: how many calls its view counts, and how many calls are counted by the view of the call that
-/// takes out the word which it puts in.
+/// What a guess of the next call after a cut goes by. `counts` has for each caller how many calls
+/// the view of its next call counts. `taken` has for each caller whose next call puts a word in how
+/// many calls are counted by the view of the take of this word.
 ///
-/// Either is `u64::MAX` where it isn't known. No clause says what they are: they cost or save time
-/// alone.
+/// A number that isn't known is `u64::MAX`. No clause says what the numbers are: they only decide
+/// how long a search takes.
 #[derive(Drop)]
 pub struct Guess {
     pub counts: Cut,
@@ -20,7 +20,7 @@ pub struct Guess {
 }
 
 impl Guess {
-    /// What a guess goes by after this cut.
+    /// What a guess goes by after the cut `cut`.
     pub fn new<S: SeqObject>(
         alloc: Global,
         object: &S,
@@ -45,7 +45,8 @@ impl Guess {
         Ok(guess)
     }
 
-    /// Sets what a guess goes by for one caller to what its next call after this cut has.
+    /// Sets the numbers of `caller` that a guess goes by to those of its next call after the cut
+    /// `cut`.
     pub fn look<S: SeqObject>(
         &mut self,
         object: &S,
@@ -75,8 +76,8 @@ impl Guess {
         self.taken.set(caller, taken);
     }
 
-    /// Whether a call that puts a word in is guessed by the view of the call that takes this word
-    /// out.
+    /// Whether the turn of a call that puts a word in is guessed by the view of the take of this
+    /// word.
     pub fn guesses_by_takes(&self) -> bool {
         !self.takes.differ
     }
@@ -96,8 +97,8 @@ impl Guess {
     }
 }
 
-// How many calls the view of a caller's call with this number counts, and `u64::MAX` where that
-// call isn't answered.
+// How many calls the view of a caller's call with the number `number` counts, and `u64::MAX` where
+// that call isn't answered.
 fn count_of(book: &Book, caller: u32, number: u64) -> u64
     requires { caller < length book.now }
 {

@@ -7,8 +7,8 @@ use std::marker::Model;
 /// The last legal order that was found, with whose places the next search tries to begin; no places
 /// where no order was found yet.
 ///
-/// Clauses see a guide as the list of these places. Any places are right: they cost or save time
-/// alone.
+/// Clauses see a guide as the list of its places. A search is right with any places: they only
+/// decide how long it takes.
 #[derive(Debug, Drop)]
 pub struct Guide {
     order: Vec<Place>,

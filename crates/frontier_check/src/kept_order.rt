@@ -1,8 +1,7 @@
 use book_base::{Cut, Place};
 
 /// A mark in an order: how many places are before it, the cut and the words of the object's list
-/// that those places lead to, and how many records of each caller the book had in which they follow
-/// one another.
+/// after those places, and how many records of each caller the book had when the mark was left.
 #[derive(Debug, Drop)]
 pub struct OrderMark {
     pub len: usize,
@@ -12,7 +11,7 @@ pub struct OrderMark {
 }
 
 /// The last legal order that was found, with some marks in it. The next search begins after the
-/// places before the last mark for which these still follow one another in the grown book.
+/// last mark that still stands: the places before it still follow one another in the grown book.
 #[derive(Debug, Drop)]
 pub struct KeptOrder {
     pub order: Vec<Place>,

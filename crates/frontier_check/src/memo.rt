@@ -26,11 +26,11 @@ pub struct Memo {
 impl Memo {
     ghost use Rattle.frontier_check.specs.Memo.{IsMemo, Remembers, counts_at, words_at};
 
-    /// A memo of no pairs, for cuts of this many callers.
+    /// A memo without pairs, for cuts with one count for each of `callers` callers.
     pub fn new(alloc: Global, callers: usize) -> Memo
         // The pair of each entry lies in the memo's lists.
         ensures memo { IsMemo result }
-        // The memo is for cuts of this many callers.
+        // The memo is for cuts of `callers` callers.
         ensures callers { result.callers ≡ callers }
         // The memo has no entry.
         ensures empty { result.entries.items ≡ [] }
@@ -44,11 +44,12 @@ impl Memo {
         }
     }
 
-    /// Whether the table finds an entry of a pair. No clause says that it finds each remembered
-    /// pair: where it doesn't, that costs time alone.
+    /// Whether the memo's hash table finds an entry for a pair of a cut and a list. No clause says
+    /// that it finds each remembered pair: to miss one only costs time.
     pub fn remembers(&self, counts: &[u16], words: &[u64]) -> bool
         // The pair of each entry lies in the memo's lists.
         requires { IsMemo self.now }
+        // `true` is answered only for a pair that the memo remembers.
         ensures { IsTrue result → Remembers self.now counts.now words.now }
     {
         let size = self.slots.len();
@@ -69,7 +70,8 @@ impl Memo {
         false
     }
 
-    // Whether there is an entry with this index, for these counts and words.
+    // Whether the memo has an entry with the index `index`, and it is that of the pair of `counts`
+    // and `words`.
     fn is_at(&self, index: usize, counts: &[u16], words: &[u64]) -> bool
         requires { IsMemo self.now }
         ensures { IsTrue result → Remembers self.now counts.now words.now }
@@ -101,8 +103,8 @@ impl Memo {
         &self.words[entry.from as usize..entry.from as usize + entry.len as usize]
     }
 
-    /// Remembers a pair. The memo stays as it is where it has so many entries or words that an
-    /// index of the pair might not fit in 32 bits.
+    /// Remembers a pair of a cut and a list. The memo stays as it is where it has so many entries
+    /// or words that an index of the pair might not fit in 32 bits.
     pub fn remember(&mut self, alloc: Global, counts: &[u16], words: &[u64]) -> Result<(), NoMemory>
         // The pair of each entry lies in the memo's lists.
         requires memo { IsMemo self.old }
@@ -126,7 +128,8 @@ impl Memo {
         self.place(alloc, counts, words, index as u32 + 1)
     }
 
-    // Adds an entry for a pair after all others, which the table doesn't find yet.
+    // Adds an entry for a pair of a cut and a list after all other entries. The hash table doesn't
+    // find it yet.
     fn add(&mut self, counts: &[u16], words: &[u64]) -> Result<(), NoMemory>
         requires memo { IsMemo self.old }
         requires wide { length counts.now ≡ self.old.callers }
@@ -147,9 +150,9 @@ impl Memo {
         Ok(())
     }
 
-    // Lets the table find the entry of a pair by its number, which counts from 1. Where the entries
-    // are half as many as the slots or more, the table is made anew for all pairs. Nothing but the
-    // table changes.
+    // Lets the hash table find the entry of a pair by the entry's number `mark`, which counts from
+    // 1. Where the entries are half as many as the slots or more, the table is made anew for all
+    // pairs. Nothing but the table changes.
     fn place(
         &mut self,
         alloc: Global,
@@ -168,7 +171,8 @@ impl Memo {
         Ok(())
     }
 
-    // A table of twice as many slots, and of at least 64, which finds the entry of each pair.
+    // A hash table of twice as many slots as the memo's, and of at least 64, which finds the entry
+    // of each pair.
     fn wider(&self, alloc: Global) -> Result<Vec<u32>, NoMemory>
         requires { IsMemo self.now }
     {
@@ -186,8 +190,9 @@ impl Memo {
     }
 }
 
-// Puts the number of a pair's entry into the first free slot, from the slot on at which the pair is
-// sought first. The first slot follows the last one; where no slot is free, nothing changes.
+// Puts the number of a pair's entry into the first free slot of a hash table, from the slot on at
+// which the pair is sought first. The first slot follows the last one; where no slot is free,
+// nothing changes.
 fn mark_slot(slots: &mut [u32], counts: &[u16], words: &[u64], mark: u32) {
     let size = slots.len();
     let mut at = first_slot(counts, words, size);
@@ -203,7 +208,8 @@ fn mark_slot(slots: &mut [u32], counts: &[u16], words: &[u64], mark: u32) {
     }
 }
 
-// The slot at which a pair is sought first in a table of this size, and 0 where the size is 0.
+// The slot at which a pair is sought first in a hash table of `size` slots, and 0 where `size` is
+// 0.
 fn first_slot(counts: &[u16], words: &[u64], size: usize) -> usize
     ensures { 1 ≤ size → result < size }
 {

@@ -39,13 +39,14 @@ impl Prefix {
         })
     }
 
-    /// A prefix of the first of these places: those before the first place that isn't next after
+    /// A prefix of the first places of `places`: those before the first place that isn't next after
     /// the places before it, or whose call is preceded by an answered call that is at none of the
     /// places.
     ///
     /// `None` comes where the object gives another reply than a place has, or where an answered
     /// call is its caller's next after the prefix and has a view that doesn't hold the prefix's
-    /// cut. No clause says how many places are taken: that costs or saves time alone.
+    /// cut. No clause says how many places are taken: the number only decides how long a search
+    /// takes.
     pub fn following<S: SeqObject>(
         alloc: Global,
         object: &S,
@@ -63,8 +64,9 @@ impl Prefix {
         }
     }
 
-    // Puts these places after the prefix's own, up to the first one that isn't next or isn't within
-    // the limit. Whether the object gave the reply of each place that was put.
+    // Puts `places` after the prefix's own places, up to the first one that isn't next after those
+    // before it, or whose call the cut `limit` lacks. Answers whether the object gave the reply of
+    // each place that was put.
     fn put_all<S: SeqObject>(
         &mut self,
         object: &S,
@@ -89,9 +91,10 @@ impl Prefix {
         Ok(true)
     }
 
-    /// Puts these places after the prefix's own, up to the first one that isn't next or isn't
-    /// within the limit, and leaves a mark wherever the number of places is a multiple of
-    /// `INTERVAL`. Whether the object gave the reply of each place that was put.
+    /// Puts `places` after the prefix's own places, up to the first one that isn't next after those
+    /// before it, or whose call the cut `limit` lacks. Leaves a mark wherever the number of places
+    /// is a multiple of `INTERVAL`. Answers whether the object gave the reply of each place that
+    /// was put.
     pub fn put_marked<S: SeqObject>(
         &mut self,
         alloc: Global,
@@ -125,10 +128,10 @@ impl Prefix {
         Ok(true)
     }
 
-    /// Leaves a mark at the end of the prefix, with these numbers of records, if the number of
-    /// places is a multiple of `INTERVAL`. Where there are then more than `MOST_MARKS`, one of the
-    /// earlier half is removed, each time at another index: the earlier the places, the fewer the
-    /// marks.
+    /// Leaves a mark at the end of the prefix, with the numbers `records` of records, if the number
+    /// of places is a multiple of `INTERVAL`. Where this makes more than `MOST_MARKS` marks, one of
+    /// the earlier half is removed, each time at another index, so that fewer marks are at earlier
+    /// places.
     pub fn mark_at_interval(
         &self,
         alloc: Global,
@@ -143,8 +146,8 @@ impl Prefix {
         Ok(())
     }
 
-    // Leaves a mark at the end of the prefix, with these numbers of records. Where there are then
-    // more than `MOST_MARKS`, one of the earlier half is removed.
+    // Leaves a mark at the end of the prefix, with the numbers `records` of records. Where this
+    // makes more than `MOST_MARKS` marks, one of the earlier half is removed.
     fn leave_mark(
         &self,
         alloc: Global,
@@ -161,9 +164,9 @@ impl Prefix {
         Ok(())
     }
 
-    /// Leaves a mark at the end of the prefix, with these numbers of records, where the number of
-    /// places isn't a multiple of `INTERVAL`. Where it is one, a mark was left when the last place
-    /// was put, or the prefix has no places.
+    /// Leaves a mark at the end of the prefix, with the numbers `records` of records, where the
+    /// number of places isn't a multiple of `INTERVAL`. Where it is one, a mark was left when the
+    /// last place was put, or the prefix has no places.
     pub fn mark_end(
         &self,
         alloc: Global,
@@ -179,7 +182,7 @@ impl Prefix {
         Ok(())
     }
 
-    // A mark at the end of the prefix, with these numbers of records.
+    // A mark at the end of the prefix, with the numbers `records` of records.
     fn mark(&self, alloc: Global, records: &Cut) -> Result<OrderMark, NoMemory>
         ensures { IfOk result (IsMarkAtEnd self.now records.now) }
     {
@@ -192,8 +195,8 @@ impl Prefix {
     }
 
     /// Whether the call at a place is its caller's next call in the book after the prefix's cut and
-    /// is within the limit; and, where the call is answered, whether the place has the recorded
-    /// reply and the view holds the prefix's cut.
+    /// the cut `limit` holds it; and, where the call is answered, whether the place has the
+    /// recorded reply and the view holds the prefix's cut.
     pub fn may_take(&self, book: &Book, limit: &Cut, place: Place) -> bool
         requires wide { length self.now.cut ≡ length book.now }
         requires limit { length limit.now ≡ length book.now }
@@ -217,8 +220,8 @@ impl Prefix {
         book.reply(call) == reply && self.cut.within(book.view(call))
     }
 
-    /// Puts a place after the prefix's own; the cut and the list become those after its call.
-    /// Whether the object gave the reply of the place, which is put in either case.
+    /// Puts a place after the prefix's own places; the prefix's cut and list become those after its
+    /// call. Answers whether the object gave the reply of the place, which is put in either case.
     pub fn put<S: SeqObject>(
         &mut self,
         object: &S,
@@ -244,9 +247,10 @@ impl Prefix {
     }
 }
 
-/// While places are put one by one, a mark is left wherever their number is a multiple of this one.
-/// Such a mark may be removed later, where there are more than `MOST_MARKS`; one at another number
-/// of places is dropped when places are put after it.
+/// How many places are put between two marks: while places are put one by one, a mark is left
+/// wherever their number is a multiple of `INTERVAL`. Such a mark may be removed later, where there
+/// are more than `MOST_MARKS`. A mark at another number of places is dropped when places are put
+/// after it.
 pub const INTERVAL: usize = 32;
 
 /// How many marks are kept at most when one is left at an interval, since each has a copy of the
@@ -278,9 +282,9 @@ pub fn answers_in(book: &Book) -> Cut
     answered
 }
 
-// For each caller, the number after that of the call at its last one of these places, and the count
-// of the cut where no place is of this caller. It counts the calls in the cut and at the places,
-// where these are of calls that follow the cut.
+// A cut that counts for each caller the calls up to the one at the caller's last place in `places`,
+// or as many as `cut` where no place is the caller's. It counts the calls in `cut` and at the
+// places, where the calls at the places follow `cut`.
 fn calls_at(cut: &Cut, places: &[Place]) -> Cut
     ensures { length result ≡ length cut.now }
 {
@@ -293,11 +297,11 @@ fn calls_at(cut: &Cut, places: &[Place]) -> Cut
     calls
 }
 
-/// A limit for putting these places after a cut: for each caller, the least of the number of its
-/// calls in the cut and at the places, and of the counts in the views of answered calls that are
-/// their callers' next after all the places. A call whose number isn't below the limit is preceded
-/// by one of these answered calls, or is none of those at the places. No clause says so: it costs
-/// or saves time alone.
+/// A limit for putting `places` after a cut, as a cut itself. It counts for each caller the
+/// caller's calls in `cut` and at the places, but no more than the view of any answered call that
+/// is its caller's next after all the places. A call that the limit lacks is preceded by one of
+/// these answered calls, or is at none of the places. No clause says so: the limit only decides how
+/// long a search takes.
 pub fn limit_of(book: &Book, cut: &Cut, places: &[Place]) -> Cut
     requires { length cut.now ≡ length book.now }
     ensures { length result ≡ length book.now }

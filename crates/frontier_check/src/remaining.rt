@@ -12,8 +12,8 @@ use std::alloc::Global;
 /// there is one.
 ///
 /// The object is asked about a book of those calls alone, in which caller 0 first makes calls that
-/// lead to the prefix's list. No clause says that the places follow those of the prefix: whoever
-/// takes them puts them one by one.
+/// lead to the prefix's list. No clause says that the places follow those of the prefix, so the
+/// caller of this function has to put them one by one.
 pub fn decided_after<S: SeqObject>(
     alloc: Global,
     object: &S,
@@ -40,9 +40,9 @@ pub fn decided_after<S: SeqObject>(
     }
 }
 
-// Operations of a prefix's places that put in the words of its list, from the last word and the
-// last place on backward: each makes a list of its word alone of the object's first list. They are
-// fewer than the words where no place is found for a word.
+// Operations of a prefix's places that put in the words of the prefix's list, the last word first.
+// Each of them turns the object's first list into the list of its word alone. They are fewer than
+// the words where no place is found for a word.
 fn puts_of<S: SeqObject>(
     alloc: Global,
     object: &S,
@@ -79,8 +79,8 @@ fn operation_at(book: &Book, place: Place) -> Option<OpWord> {
     }
 }
 
-// The operation of the call at a place, if it makes a list of this word alone of the object's first
-// list.
+// The operation of the call at a place, if it turns the object's first list into the list of `word`
+// alone.
 fn put_at<S: SeqObject>(
     object: &S,
     book: &Book,
@@ -101,9 +101,9 @@ fn put_at<S: SeqObject>(
     }
 }
 
-// Adds answered calls of caller 0 to a book without calls, with these operations, the last one
-// first, each with the reply that the object gives and a view that holds caller 0's calls up to it.
-// Whether the book takes them all and they lead to the list of these words.
+// Adds answered calls of caller 0 to a book without calls, with the operations `puts`, the last one
+// first. Each has the reply that the object gives, and a view that holds caller 0's calls up to it.
+// Answers whether the book takes them all and they lead to the list `words`.
 fn add_puts<S: SeqObject>(
     alloc: Global,
     object: &S,
@@ -126,7 +126,7 @@ fn add_puts<S: SeqObject>(
     Ok(here.words() == words)
 }
 
-// A view that holds the calls of caller 0 up to the one with this number, and no others.
+// A view that holds the calls of caller 0 up to the one with the number `number`, and no others.
 fn view_of_first(left: &Book, number: u64) -> Cut {
     let mut view = Cut::zero(left.callers());
     // This call is for its contract, by which there is a caller 0.
@@ -135,7 +135,8 @@ fn view_of_first(left: &Book, number: u64) -> Cut {
     view
 }
 
-// Adds the calls of a book that a cut lacks. Whether the smaller book takes them all.
+// Adds those calls of `book` that a cut lacks to the smaller book `left`, as unanswered calls.
+// Answers whether `left` takes them all.
 fn add_calls(book: &Book, cut: &Cut, left: &mut Book) -> Result<bool, NoMemory>
     requires { length cut.now ≡ length book.now }
 {
@@ -149,8 +150,8 @@ fn add_calls(book: &Book, cut: &Cut, left: &mut Book) -> Result<bool, NoMemory>
     Ok(true)
 }
 
-// Adds the answers of those calls of a book that a cut lacks, where caller 0 has this many calls
-// before its own of the book. Whether the smaller book takes them all.
+// Adds the answers of those calls of `book` that a cut lacks to the smaller book `left`, in which
+// caller 0 has `before` other calls first. Answers whether `left` takes them all.
 fn add_answers(book: &Book, cut: &Cut, before: u64, left: &mut Book) -> Result<bool, NoMemory>
     requires { length cut.now ≡ length book.now }
 {
@@ -166,8 +167,8 @@ fn add_answers(book: &Book, cut: &Cut, before: u64, left: &mut Book) -> Result<b
     Ok(true)
 }
 
-// The view that counts of each caller the calls of a view that a cut lacks, and of caller 0 this
-// many calls more.
+// The view that counts of each caller those calls of `view` that a cut lacks, and of caller 0
+// `before` calls more.
 fn view_after(view: &Cut, cut: &Cut, before: u64) -> Cut
     requires { length view.now ≡ length cut.now }
 {
@@ -180,8 +181,8 @@ fn view_after(view: &Cut, cut: &Cut, before: u64) -> Cut
     after
 }
 
-// Adds an unanswered call of a caller to a book. Whether the book has the caller and takes the
-// call.
+// Adds an unanswered call of a caller to a book. Answers whether the book has the caller and takes
+// the call.
 fn add_call(left: &mut Book, caller: u32, op: OpWord) -> Result<bool, NoMemory> {
     if caller >= left.callers() {
         return Ok(false);
@@ -189,7 +190,8 @@ fn add_call(left: &mut Book, caller: u32, op: OpWord) -> Result<bool, NoMemory> 
     is_taken(left.add_call(caller, op))
 }
 
-// Adds an answer of a caller to a book. Whether the book has the caller and takes the answer.
+// Adds an answer of a caller to a book. Answers whether the book has the caller and takes the
+// answer.
 fn add_answer(left: &mut Book, caller: u32, reply: u64, view: Cut) -> Result<bool, NoMemory> {
     if caller >= left.callers() || view.n() != left.callers() {
         return Ok(false);
@@ -206,8 +208,8 @@ fn is_taken(added: Result<(), BookFault>) -> Result<bool, NoMemory> {
     }
 }
 
-// The places of an order of the smaller book without those of the first calls of caller 0, this
-// many, each with the number that its call has in the whole book.
+// The places of an order of the smaller book without those of caller 0's first `before` calls. Each
+// has the number that its call has in the whole book.
 fn places_after(
     alloc: Global,
     cut: &Cut,

@@ -9,9 +9,9 @@ use crate::walk::{CAPACITY, load};
 use book_base::{Book, Cut, NoMemory, Place, SeqObject, State};
 use std::alloc::Global;
 
-// Whether for each caller a cut counts no more calls than the caller had records before, or the
-// book has no more records of the caller than before: whether no call of the cut was answered
-// since.
+// Whether no call of a cut was answered since the callers had the numbers `before` of records: for
+// each caller, the cut counts no more calls than this number, or the book has no more records of
+// the caller than this number.
 fn is_quiet(book: &Book, cut: &Cut, before: &Cut) -> bool
     requires cut { length cut.now ≡ length book.now }
     requires before { length before.now ≡ length book.now }
@@ -82,9 +82,9 @@ fn prefix_at(
     Ok((prefix, later))
 }
 
-// How many of the first marks are kept where places are put after the mark with this index, before
-// which there are `len` places: those before that mark, and the mark itself where `len` is a
-// multiple of `INTERVAL`.
+// How many of an order's first marks are kept where places are put after the mark with the index
+// `index`, which has `len` places before it: the marks before it, and the mark itself where `len`
+// is a multiple of `INTERVAL`.
 fn kept_of(index: usize, len: usize) -> usize
     ensures { result ≤ index + 1 }
 {
@@ -120,7 +120,8 @@ pub fn resume<S: SeqObject>(
             Ok((Prefix::new(alloc, object, book)?, order))
         }
         Some(index) => {
-            // This call is for its contract, by which the book is valid and small.
+            // This call is for its contract, by which the book is valid and has no more callers and
+            // calls than a book may have.
             let _callers = book.callers();
             let found = prefix_at(alloc, order, &marks[index])?;
             let kept = kept_of(index, marks[index].len);

@@ -78,9 +78,9 @@ impl<S: SeqObject> Search<'_, S> {
         }
     }
 
-    /// Places that make a legal order after those of the prefix, if some are found within this many
-    /// steps. `None` says nothing of the book: there may be such places, and no clause says how far
-    /// the search looks.
+    /// Places that make a legal order after those of the prefix, if some are found within `steps`
+    /// steps. `None` says nothing of the book: it may have a legal order, and no clause says how
+    /// far the search looks.
     pub fn run_few(&self, steps: u64) -> Result<Option<Vec<Place>>, NoMemory>
         requires pruning_rules { ArePruningRules (S.spec self.now.object.now) self.now.book.now
             self.now.known.now }
@@ -161,7 +161,7 @@ impl<S: SeqObject> Search<'_, S> {
         }
     }
 
-    // Makes at most this many steps of a walk, until a legal order is found or nothing is left to
+    // Makes at most `steps` steps of a walk, until a legal order is found or nothing is left to
     // try. `None` may come in a book that has a legal order.
     fn go_few(
         &self,
@@ -315,14 +315,14 @@ impl<S: SeqObject> Search<'_, S> {
         StepOutcome::GoesOn
     }
 
-    // What is to be tried after a cut and at a list of the object, the best choice last. Where a
-    // place may be taken at once it is the only choice. Else there is a choice for the next call of
-    // each caller that is to be tried, if its place may come next, the call isn't known to be
-    // infeasible, and no other choice serves for it; in a book with one open an unanswered call
-    // that leaves the list as it is gets no choice.
+    // The choices that are to be tried after a cut and at a list of the object, the best one last.
+    // Where an answered call may be put at once, as `at_once` says, its place is the only choice.
+    // Else there is a choice for the next call of each caller that is to be tried, if its place may
+    // come next, the call isn't known to be infeasible, and no other choice serves for it; in a
+    // book with one open an unanswered call that leaves the list as it is gets no choice.
     //
-    // The next call of the caller `first` is answered and has the least view of all such calls, so
-    // that a next call may come next exactly where this view holds it.
+    // The next call of the caller `first` is answered and has the least view of all answered next
+    // calls, so that a next call may come next exactly where this view holds it.
     fn choices(
         &self,
         counts: &[u16],
@@ -388,8 +388,8 @@ impl<S: SeqObject> Search<'_, S> {
         }
     }
 
-    // The place of an answered call that may be taken at once after a cut and at a list, if one is
-    // found.
+    // The place of an answered read-only call that may come next after a cut and gets its recorded
+    // reply at a list, if one is found: it may be put at once, before anything else.
     fn at_once(
         &self,
         counts: &[u16],
@@ -462,7 +462,7 @@ impl<S: SeqObject> Search<'_, S> {
 
     // The least rank of the words of a list. `None` comes where no word has a rank, and where the
     // search isn't limited, as no call of the book has a limit. No clause says that a rank is
-    // found: where none is, that costs time alone.
+    // found: to find none only costs time.
     fn earliest(&self, here: &State) -> Option<u64>
         ensures { IfSome result (IsRankIn self.now.known.now.ranks here.now.words) }
     {
@@ -482,7 +482,9 @@ impl<S: SeqObject> Search<'_, S> {
     }
 
     // Whether the pruning rules say that a caller's next call is infeasible after a cut and at a
-    // list that has a word of at most this rank.
+    // list. They say so where the cut lacks a call of the next call's predecessor bound, or where
+    // the list has a word of a rank below the next call's limit; `earliest` is the least rank of
+    // the list's words.
     fn is_infeasible(&self, cut: &Cut, here: &State, earliest: Option<u64>, caller: u32) -> bool
         requires caller { caller < length cut.now }
         requires earliest { IfSome earliest (IsRankIn self.now.known.now.ranks here.now.words) }
@@ -566,7 +568,7 @@ fn counts_of(alloc: Global, cut: &Cut) -> Result<Vec<u16>, NoMemory>
     Ok(counts)
 }
 
-// Whether a call is unanswered, or this reply is its recorded one.
+// Whether a call is unanswered, or `reply` is its recorded reply.
 fn is_recorded(book: &Book, call: Call, reply: u64) -> bool
     requires { IsCall book.now call }
     ensures { IsTrue result ↔ ((r : Record) → record_of book.now call ≡ Some r → r.reply ≡ reply) }

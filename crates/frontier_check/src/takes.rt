@@ -15,12 +15,12 @@ struct Take {
     count: u64,
 }
 
-/// The takes after a cut, the one whose view counts the fewest calls first, and how many of the
-/// first ones a later cut holds; the operation of all takes, and two different operations of other
-/// calls, which may put words in; and in `differ` whether no guess goes by the takes, as they have
-/// several operations, or don't take out first what was put in first.
+/// The takes after a cut, the one whose view counts the fewest calls first; `passed` is how many of
+/// the first ones a later cut holds. `op` is the operation of all takes; `put` and `other` are two
+/// different operations of other calls, which may put words in. `differ` says that no guess goes by
+/// the takes, since they have several operations, or don't take out first what was put in first.
 ///
-/// No clause says what these are: they cost or save time alone.
+/// No clause says what the takes are: they only decide how long a search takes.
 #[derive(Drop)]
 pub struct Takes {
     takes: Vec<Take>,
@@ -60,8 +60,9 @@ impl Takes {
         Ok(takes)
     }
 
-    // Lists the takes of a caller, from the call with this number on, until one has another
-    // operation than those before it. Of the caller's other answered calls it keeps operations.
+    // Lists the takes of a caller, from the call with the number `first` on, until one has another
+    // operation than those before it. Of the caller's other answered calls, the operations are kept
+    // as `list_put` says.
     fn list_caller<S: SeqObject>(
         &mut self,
         object: &S,
@@ -103,8 +104,8 @@ impl Takes {
         }
     }
 
-    // Whether the takes take out first what was put in first, when two words are put in by the two
-    // kept operations, in either order; the answer is `true` too where no take is kept, or fewer
+    // Whether the takes take out first what was put in first, when the operations `put` and `other`
+    // put two words in, in either order. `true` is answered too where no take is kept, or fewer
     // than two operations that may put a word in.
     fn is_queue<S: SeqObject>(&self, object: &S, spare: &mut State) -> bool
         requires { spare.old.room ≡ CAPACITY }
@@ -129,9 +130,9 @@ impl Takes {
         self.passed = passed;
     }
 
-    /// How many calls are counted by the view of the take that takes out the word which a call puts
-    /// in. Of the takes that a cut lacks it is the first one with the reply that shows this word;
-    /// where there is none, or no guess goes by the takes, the answer is `u64::MAX`.
+    /// How many calls are counted by the view of the take of the word that `call` puts in. That
+    /// take is the first one outside the cut whose reply shows this word. Where there is none, or
+    /// no guess goes by the takes, the answer is `u64::MAX`.
     pub fn count_for<S: SeqObject>(
         &self,
         object: &S,
@@ -173,8 +174,9 @@ fn is_in(cut: &Cut, call: Call) -> bool {
     call.caller < cut.n() && cut.holds(call.caller, call.number)
 }
 
-/// The object's reply to an operation at the list of a state, which has the list after the
-/// operation then. `None` comes where the list fills the capacity, and the state stays as it is.
+/// The object's reply to an operation at the list of a state; the state gets the list after the
+/// operation. Where the list already fills the state's capacity, the answer is `None` and the state
+/// stays as it is.
 pub fn checked_step<S: SeqObject>(object: &S, state: &mut State, op: OpWord) -> Option<u64>
     ensures { state.new.room ≡ state.old.room }
 {

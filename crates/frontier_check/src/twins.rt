@@ -10,10 +10,10 @@ ghost use Rattle.frontier_check.specs.declared.choice.Choice.{Choice};
 use crate::choice::Choice;
 use book_base::{Book, Call, NoMemory, Place};
 
-/// Adds a choice to others, which are in the order of their turns, the least turn last. In a book
-/// with one open, where another choice has the same operation, one of the two is kept, whose call
-/// serves for that of the other, with the lesser turn of both. No clause says that this other
-/// choice is found: where it isn't, the search only tries more.
+/// Adds the choice `new` to `choices`, which are in the order of their turns, the least turn last.
+/// In a book with one open, where another choice has the same operation, only one of the two is
+/// kept: the one whose call serves for that of the other, with the lesser turn of both. No clause
+/// says that this other choice is found: where it isn't, the search only tries more.
 pub fn choose(
     book: &Book,
     one_open: bool,
@@ -36,8 +36,8 @@ pub fn choose(
     add(choices, kept_of(book, twin, new))
 }
 
-// The index of the first choice with the operation of a new one, if the book is known to have one
-// open and there is such a choice.
+// The index of the first choice that has the operation of the choice `new`, if the book is known to
+// have one open and there is such a choice.
 fn twin_of(book: &Book, one_open: bool, choices: &[Choice], new: Choice) -> Option<usize>
     requires open { IsTrue one_open → HasOneOpen book.now }
     requires call { IsCall book.now (call_at new.place) }
@@ -115,8 +115,8 @@ fn add(choices: &mut Vec<Choice>, new: Choice) -> Result<(), NoMemory>
     Ok(())
 }
 
-// The index of the first choice with a lesser turn than this one, and the number of choices where
-// no choice has a lesser turn.
+// The index of the first choice with a turn less than `turn`, and the number of choices where no
+// choice has such a turn.
 fn slot_of(choices: &[Choice], turn: u64) -> usize
     ensures { result ≤ length choices.now }
 {

@@ -77,11 +77,11 @@ pub fn check_from<S: SeqObject>(
 /// Looks for a legal order as `check` does, but first for one that begins with the places of the
 /// last order, as far as these still follow one another.
 ///
-/// `standing` is the order that the last call kept, for this object and for this book or one from
-/// which it has grown; the first call has none to give. `None` comes where the book has no legal
-/// order. The places before a mark are kept where the new records let them, and those after it are
-/// put one by one. A call mostly costs what is new and a copy of the object's list; no clause says
-/// how much.
+/// `standing` is the order that the last call of `check_after` kept, for this object and for this
+/// book or an earlier one from which this book has grown; the first call has none to give. `None`
+/// is answered where the book has no legal order. The places before a mark are kept where the new
+/// records let them, and those after it are put one by one. A call mostly costs what is new and a
+/// copy of the object's list; no clause says how much.
 pub fn check_after<S: SeqObject>(
     alloc: Global,
     object: &S,
@@ -166,8 +166,8 @@ fn check_on<S: SeqObject>(
 // How many times `check_before` puts calls after a mark: each time after an earlier mark.
 const TURNS_PUT: u32 = 3;
 
-// Looks for a legal order, first after the last marks of an order with calls put there as they are
-// guessed, then after fewer of its marks, and then anywhere.
+// Looks for a legal order: first after the last marks of an order, where calls are put as they are
+// guessed; then after ever earlier marks, as `check_at_marks` does; and then anywhere.
 fn check_before<S: SeqObject>(
     alloc: Global,
     object: &S,
@@ -202,10 +202,9 @@ fn check_before<S: SeqObject>(
     check_at_marks(alloc, object, book, order, marks)
 }
 
-// An order that begins as this one does up to the last of its marks for which the places before it
-// may still begin an order of the book, and continues with calls as they are guessed; and whether
-// it is a legal order, which it is where the places that remain are found soon. The marks become
-// those of the new order.
+// A new order, which begins with the places of `order` before its last mark that still stands, and
+// continues with calls as they are guessed; and whether the new order is legal, which it is where
+// the places that remain are found soon. The marks become those of the new order.
 fn order_put<S: SeqObject>(
     alloc: Global,
     object: &S,
@@ -232,8 +231,8 @@ fn order_put<S: SeqObject>(
     order_on(alloc, object, book, &[], prefix, marks, FIRST_STEPS)
 }
 
-// How many times `check_at_marks` begins after marks of an order. The first time it drops no mark,
-// and each other time twice as many as the time before, and one more.
+// How many times `check_at_marks` begins after a mark of an order. The first time it drops no mark,
+// and each other time it drops twice as many marks as the time before, and one more.
 const TURNS_BACK: u32 = 6;
 
 // Looks for a legal order, first after the last mark of an order and then after ever earlier ones,
@@ -272,10 +271,10 @@ fn check_at_marks<S: SeqObject>(
     check_anew(alloc, object, book, &order)
 }
 
-// An order that begins as this one does up to the last of its marks for which the places before it
-// may still begin an order of the book; and whether it is a legal order, which it is where the
-// places that remain are found soon: by the object, where it decides on an order of them, and else
-// by a search. The marks become those of the new order.
+// A new order, which begins with the places of `order` before its last mark that still stands; and
+// whether the new order is legal, which it is where the places that remain are found soon: by the
+// object, where it decides on an order of them, and else by a search. The marks become those of the
+// new order.
 fn order_after_mark<S: SeqObject>(
     alloc: Global,
     object: &S,
@@ -296,8 +295,8 @@ fn order_after_mark<S: SeqObject>(
     }
 }
 
-// An order that begins with the places of a prefix and then with as many of these places as follow
-// them; and whether it is a legal order, which it is where the places that remain are found soon.
+// An order that begins with the places of a prefix and then with those of `places`, as far as they
+// follow; and whether it is a legal order, which it is where the places that remain are found soon.
 // Where it isn't a legal order, no mark is left.
 fn order_by<S: SeqObject>(
     alloc: Global,
@@ -335,9 +334,9 @@ fn order_by<S: SeqObject>(
 }
 
 // An order that begins with the places of a prefix, and whether it is a legal order. It is one
-// where the places that remain are found in this many more steps than calls remain, with the later
-// places tried first; where they aren't, the order continues with the later places. The marks of
-// the prefix are marks of this order.
+// where the places that remain are found in `more` steps more than calls remain, with the places
+// `later` tried first; else the order continues with the places `later`. The marks of the prefix
+// are marks of this order.
 fn order_on<S: SeqObject>(
     alloc: Global,
     object: &S,
@@ -396,8 +395,8 @@ fn check_anew<S: SeqObject>(
     }
 }
 
-// Places that make a legal order after those of a prefix, if some are found in this many more steps
-// than calls remain, with the later places tried first. `None` says nothing of the book.
+// Places that make a legal order after those of a prefix, if some are found in `more` steps more
+// than calls remain, with the places `later` tried first. `None` says nothing of the book.
 fn rest_after<S: SeqObject>(
     alloc: Global,
     object: &S,
@@ -486,7 +485,7 @@ fn order_after<S: SeqObject>(
     Ok(Some(places))
 }
 
-// The places of a guide without the first ones, this many; no places where it has no more.
+// The places of a guide after its first `taken` ones; none where it has no more.
 fn later_of(guide: &[Place], taken: usize) -> &[Place] {
     if taken < guide.len() {
         &guide[taken..]
@@ -495,9 +494,9 @@ fn later_of(guide: &[Place], taken: usize) -> &[Place] {
     }
 }
 
-// Places that make a legal order after those of a prefix, if some are found in this many more steps
-// than calls remain, with the later places tried first and these pruning rules. `None` says nothing
-// of the book.
+// Places that make a legal order after those of a prefix, if some are found in `more` steps more
+// than calls remain, with the places `later` tried first and the pruning rules `known`. `None` says
+// nothing of the book.
 fn places_after<S: SeqObject>(
     alloc: Global,
     object: &S,
@@ -580,8 +579,8 @@ fn order_searched<S: SeqObject>(
     search.run()
 }
 
-// What the object looks at when it narrows which callers are tried, in a book with one open; `None`
-// in any other book, and where the object prepares nothing.
+// The sight by which the object narrows which callers are tried, in a book with one open; `None` in
+// any other book, and where the object prepares no sight.
 fn sight_of<S: SeqObject>(
     alloc: Global,
     object: &S,
@@ -599,7 +598,8 @@ fn sight_of<S: SeqObject>(
     }
 }
 
-// Whether a call of a book has a limit above 0. No clause says so: it costs or saves time alone.
+// Whether a call of a book has a limit above 0. No clause says so: the answer only decides how long
+// a search takes.
 fn has_limits(book: &Book, known: &PruningRules) -> bool {
     for caller in 0..book.callers() {
         for number in 0..book.calls(caller) {

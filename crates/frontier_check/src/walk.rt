@@ -11,8 +11,8 @@ use std::alloc::Global;
 /// more.
 pub const CAPACITY: u64 = MAX_CALLERS as u64 * MAX_CALLS + 1;
 
-/// A frame of a walk: the place that was put there, the words of the object's list before it, and
-/// the choices besides it that are still to be tried there.
+/// A frame of a walk: a place that was put, the words of the object's list before it, and the
+/// choices that are still to be tried in its stead.
 #[derive(Drop)]
 pub struct WalkFrame {
     pub place: Place,
@@ -20,9 +20,9 @@ pub struct WalkFrame {
     pub choices: Vec<Choice>,
 }
 
-/// A walk, which is where a search is: the frames that lead there from the prefix, the counts of
-/// the cut, the object's list, the choices that are still to be tried there with the best one last,
-/// and a memo of the dead ends that were found.
+/// A walk says where a search is: the frames that lead from the prefix to a cut and a list, the
+/// counts of this cut, the object's state with this list, the choices that are still to be tried at
+/// them, the best one last, and a memo of the dead ends that were found.
 ///
 /// Only `here` is a state of the object. A step changes it, and a retreat loads it with the words
 /// of the last frame.
@@ -57,9 +57,9 @@ pub fn places(alloc: Global, frames: &[WalkFrame]) -> Result<Vec<Place>, NoMemor
     Ok(order)
 }
 
-/// Makes these words the list of a state, which keeps its capacity.
+/// Makes `words` the list of a state, which keeps its capacity.
 pub fn load(state: &mut State, words: &[u64])
-    // The state has capacity for these words.
+    // The state has capacity for `words`.
     requires { length words.now ≤ state.old.room }
     ensures { state.new ≡ record state.old { words = words.now } }
 {
@@ -69,7 +69,7 @@ pub fn load(state: &mut State, words: &[u64])
     }
 }
 
-/// Makes this number the count of a caller among the counts of a cut. All other counts stay.
+/// Makes `number` the count of a caller among the counts of a cut. All other counts stay.
 pub fn set_count(counts: &mut Vec<u16>, caller: u32, number: u64)
     requires caller { caller < length counts.old.items }
     requires number { number ≤ MAX_CALLS }

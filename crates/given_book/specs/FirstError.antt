@@ -5,8 +5,8 @@ use Rattle.reports.specs.Findings.{Findings, IsFirstError}
 use Rattle.report_text.specs.ReportRules.{IsReportText}
 use Rattle.given_book.specs.Given.{HasEndAt, HasNoEnd}
 
--- The part is the bytes up to the first line `end` that comes after another line, with this line
--- `end`.
+-- The part is the beginning of the bytes, up to and with the first line `end` that isn't the first
+-- line of all.
 pub record IsUpToEnd (bytes part : List ℕ) : Type 0 where
   pub at : ℕ
   pub rest : List ℕ
@@ -14,12 +14,13 @@ pub record IsUpToEnd (bytes part : List ℕ) : Type 0 where
   pub first : (i : ℕ) (other : List ℕ) → i < at → ¬ (HasEndAt bytes i other)
   pub is : part ≡ take (at + 5) bytes
 
--- The part may be the text of a report: all bytes where no line after another one is `end`.
+-- The part is what may be the text of a report: the bytes up to and with the first line `end` that
+-- isn't the first line of all, or all bytes where no line after the first is `end`.
 abbrev pub IsReportPart : List ℕ → List ℕ → Type 0
 IsReportPart bytes part = IsUpToEnd bytes part ⊎ (HasNoEnd bytes × (part ≡ bytes))
 
 -- The input begins with the text of a report whose first error line, by caller and then by number,
--- is that of this call: the witness of a run is the book at what this line saw.
+-- is the line of this call. The witness of the report is the book at this line's seen cut.
 pub record IsFirstErrorGiven (bytes : List ℕ) (call : Call) : Type 0 where
   pub part : List ℕ
   pub is : IsReportPart bytes part

@@ -26,22 +26,22 @@ IsAfterVerdict bytes rest = (bytes ≡ codes "legal\n" ++ rest) ⊎ (bytes ≡ c
 abbrev pub BeginsAsVerdict : List ℕ → Type 0
 BeginsAsVerdict bytes = (rest : List ℕ) × IsAfterVerdict bytes rest
 
--- At this place the bytes have the end of a line, after it the line `end`, and after that the rest.
+-- At this place the bytes have a line feed, then the line `end`, and then `rest`.
 abbrev pub HasEndAt : List ℕ → ℕ → List ℕ → Type 0
 HasEndAt bytes at rest = drop at bytes ≡ codes "\nend\n" ++ rest
 
--- The rest is what comes after the first line `end` that comes after another line.
+-- `rest` is what comes after the first line `end` that isn't the first line of all.
 pub record IsAfterEnd (bytes rest : List ℕ) : Type 0 where
   pub at : ℕ
   pub has : HasEndAt bytes at rest
   pub first : (i : ℕ) (other : List ℕ) → i < at → ¬ (HasEndAt bytes i other)
 
--- No line after another one is `end`.
+-- No line but perhaps the first line of all is `end`.
 abbrev pub HasNoEnd : List ℕ → Type 0
 HasNoEnd bytes = (i : ℕ) (rest : List ℕ) → ¬ (HasEndAt bytes i rest)
 
--- The part is what comes after the report that the bytes begin with: nothing where the report has
--- no end.
+-- The part is what comes after the report that the bytes begin with: no bytes where the report has
+-- no line `end`.
 abbrev pub IsWitnessPart : List ℕ → List ℕ → Type 0
 IsWitnessPart bytes part = IsAfterEnd bytes part ⊎ (HasNoEnd bytes × (part ≡ []))
 
@@ -52,9 +52,9 @@ pub record BeginsOtherwise (bytes : List ℕ) : Type 0 where
   pub verdict : ¬ (BeginsAsVerdict bytes)
   pub old : ¬ (BeginsAsOldBook bytes)
 
--- This part of the bytes is read as a book's text, and in this version: what comes after a report
--- or after a verdict, in version 2; or all bytes, in version 1 where they begin with its title, and
--- else in version 2.
+-- This part of the bytes is read as a book's text in this version: after a report or a verdict what
+-- comes after it, in version 2; all bytes in version 1, where they begin with the title of a book
+-- of version 1; and otherwise all bytes in version 2.
 abbrev pub IsBookPart : List ℕ → Version → List ℕ → Type 0
 IsBookPart bytes version part =
     (BeginsAsReport bytes × (version ≡ Second) × IsWitnessPart bytes part)
@@ -62,14 +62,16 @@ IsBookPart bytes version part =
     ⊎ ((BeginsAsOldBook bytes × (version ≡ First) × (part ≡ bytes))
     ⊎ (BeginsOtherwise bytes × (version ≡ Second) × (part ≡ bytes))))
 
--- The input gives this book, of an object of this kind.
+-- The input gives this book, of an object of this kind: the part of it that is read as a book's
+-- text is the text of this book.
 pub record IsGiven (bytes : List ℕ) (kind : Kind) (book : List Page) : Type 0 where
   pub version : Version
   pub part : List ℕ
   pub is : IsBookPart bytes version part
   pub told : IsBookText version part kind book
 
--- The first fault of an input, with its line counted from the title of the book.
+-- The input's first fault: the first fault of its part that is read as a book's text, with the line
+-- counted from the title of the book.
 pub record IsFirstGivenFault (bytes : List ℕ) (fault : TextFault) : Type 0 where
   pub version : Version
   pub part : List ℕ

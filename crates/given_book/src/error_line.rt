@@ -12,9 +12,8 @@ use reports::Report;
 use std::alloc::Global;
 
 /// The call of the first error line, by caller and then by number, of the report that an input
-/// begins with: the witness after the report of a run is the book at the seen cut of that line.
-/// There is none where the input begins with no report's text, or with that of a report without an
-/// error.
+/// begins with; the witness after a run's report is the book at the seen cut of this line. `None`
+/// where the input doesn't begin with the text of a report, or where its report has no error.
 pub fn first_error(alloc: Global, bytes: &[u8]) -> Result<Option<Call>, NoMemory>
     // The call is that of the first error line, by caller and then by number, of the report that
     // the input begins with.

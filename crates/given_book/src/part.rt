@@ -6,7 +6,7 @@ ghost use Rattle.given_book.specs.Given.{BeginsAsReport, BeginsAsOldBook, IsAfte
 
 use text_fields::Version;
 
-/// The part of an input that is read as a book's text.
+/// The part of an input that is read as a book's text, and the version that it is read in.
 #[derive(Clone, Copy)]
 pub(crate) struct BookPart<'a> {
     pub(crate) version: Version,
@@ -63,7 +63,8 @@ fn begins_as_old_book(bytes: &[u8]) -> bool
     bytes.starts_with(b"book 1\n")
 }
 
-// The bytes after the first line `end`, and none where no line is `end`.
+// The bytes after the first line `end` that isn't the first line of all; no bytes where no line
+// after the first is `end`.
 fn after_end(bytes: &[u8]) -> &[u8]
     ensures { IsWitnessPart bytes.now result.now }
 {
@@ -73,8 +74,9 @@ fn after_end(bytes: &[u8]) -> &[u8]
     }
 }
 
-/// What may be the text of a report at the beginning of the bytes: up to the first line `end`, with
-/// it.
+/// What may be the text of a report at the beginning of the bytes: the bytes up to and with the
+/// first line `end` that isn't the first line of all, or all bytes where no line after the first is
+/// `end`.
 pub(crate) fn report_part(bytes: &[u8]) -> &[u8]
     ensures { IsReportPart bytes.now result.now }
 {
@@ -84,7 +86,7 @@ pub(crate) fn report_part(bytes: &[u8]) -> &[u8]
     }
 }
 
-// The first place where a line ends and the line `end` comes after it.
+// The first place at which a line feed stands before a line `end`.
 fn place_of_end(bytes: &[u8]) -> Option<usize>
     ensures within { IfSome result (λ at. at + 5 ≤ length bytes.now) }
     ensures found { IfSome result (λ at. HasEndAt bytes.now at (drop (at + 5) bytes.now)) }

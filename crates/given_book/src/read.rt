@@ -15,9 +15,9 @@ use text_fields::Version;
 /// version 1 or 2, or the witness that the whole output of a run has after its report, or that of
 /// monitors after their verdict.
 ///
-/// A text fault names the first line that is wrong, counted from the title of the book, and of its
-/// tests the first that it fails. A report or a verdict without a witness is refused as the text of
-/// a book that is cut in line 1.
+/// A text fault names the first line that is wrong, counted from the title of the book, and the
+/// first test that this line fails. A report or a verdict without a witness is refused as a book's
+/// text that is cut in line 1.
 pub fn read_given(alloc: Global, bytes: &[u8]) -> Result<(Kind, Book), ReadFault>
     // A kind and a book that are answered are those that the input gives.
     ensures found { IfOk result (λ (kind, book). IsGiven bytes.now kind book) }

@@ -14,8 +14,8 @@ use Rattle.call_handles.specs.Handles.{IsSound}
 abbrev pub coded_handle : Coded (Option Handle)
 coded_handle = coded_option the_row.coded
 
--- The pointer is to a box with this handle, whose parts belong together. Where there is no handle,
--- nothing is claimed of the pointer.
+-- The pointer is to a box with this handle, which is sound. Where there is no handle, nothing is
+-- claimed of the pointer.
 abbrev pub held_at : Ptr → Option Handle → Fml
 held_at p None = ftrue
 held_at p (Some h) = fsep (fex Global (λ heap. box_owns (ghosts.dealloc_token heap) the_row p h))

@@ -95,8 +95,8 @@ pub fn answered(alloc: Global, slot: &mut Slot, reply: u64) -> Option<CallAnswer
     // There is an answer exactly where the slot has a caller that has announced a call.
     ensures when { IsSome result ↔ IsCallers HasAnnounced (handle_in slot.old) }
     // With an answer the call has this reply, and the answer is right: delivered where the book at
-    // the cut that its caller has seen has a legal order, wrong where that book has none, or
-    // published and not judged.
+    // the cut that its caller has seen has a legal order, illegal where that book has none, or
+    // unjudged where the call is published and nobody has judged it.
     ensures ended { IfSome result (λ answer.
         Ends reply answer (handle_in slot.old) (handle_in slot.new)) }
     // Without an answer the handle is as it was.
@@ -201,7 +201,8 @@ pub fn judge(alloc: Global, slot: &mut Slot) -> Option<Judgement>
     replace_with(slot, alloc, judged_in)
 }
 
-// The witness of a handle, where it has one.
+// The text of the book of a caller's error or of a monitor's illegal round, where the handle has
+// such a book.
 fn witness_of(handle: &Handle, alloc: Global) -> Result<Option<Vec<u8>>, NoMemory>
     requires sound { IsSound handle.now }
     ensures when { IfOk result (λ found. IsSome found ↔ HasWitness (Some handle.now)) }
@@ -233,7 +234,8 @@ pub fn witness(alloc: Global, slot: &mut Slot) -> Result<Option<Vec<u8>>, NoMemo
     // There is a text exactly where the last call of the slot's caller was an error, or the slot's
     // monitor has made an illegal round.
     ensures when { IfOk result (λ found. IsSome found ↔ HasWitness (handle_in slot.old)) }
-    // The text is that of the book of the error, which has no legal order.
+    // The text is that of the book of the caller's error or of the monitor's illegal round, and
+    // this book has no legal order.
     ensures text { IfOk result (λ found. IfSome found (λ text.
         Witnesses (handle_in slot.old) text.items)) }
     // The handle is as it was.

@@ -22,7 +22,7 @@ impl Model for Held {
 }
 
 impl Held {
-    /// The pointer of a box.
+    /// The pointer to the handle of a box that was taken apart.
     pub(crate) fn of(loose: Loose<Handle, Global>) -> Held
         requires sound { IsSound loose.value }
         ensures { result.value ≡ Some loose.value }

@@ -1,5 +1,5 @@
-//! Handles in places of a program in another language: each place has a pointer to a box, or to
-//! nothing; and the calls on what is in such a place.
+//! Slots for handles in the memory of a program in another language. Each slot has a pointer to a
+//! box with a handle, or to nothing; the functions open, call and close the handle in a slot.
 #![tactic(auto)]
 
 mod calls;

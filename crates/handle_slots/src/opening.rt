@@ -78,8 +78,8 @@ fn next_in(table: &mut TableHandle, given: (Global, CallerRole)) -> Result<Optio
     }
 }
 
-// The handle, and what it gives where it is a table's: the handle in this role of the table's next
-// caller, where one is left.
+// The handle, and beside it a handle of the next caller, in this role, where the first one is that
+// of a table with a caller left to give.
 fn given_by(
     handle: Handle,
     given: (Global, CallerRole),
@@ -125,9 +125,9 @@ fn filled(mut place: Box<Handle>, handle: Handle) -> Box<Handle>
     place
 }
 
-/// Puts the handle in this role of the next caller of a table into the slot. The answer is whether
-/// it does; it doesn't where the first slot has no table, where this table has given all its
-/// callers, or where the second slot has a handle.
+/// Puts the handle of a table's next caller, in this role, into the slot. The answer is whether it
+/// does; it doesn't where the first slot has no table, where this table has given all its callers,
+/// or where the second slot has a handle.
 pub fn give(
     alloc: Global,
     role: CallerRole,

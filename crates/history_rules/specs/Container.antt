@@ -15,26 +15,28 @@ pub record Reading : Type 0 where
   pub shown : ℕ → Option ℕ
   pub values : List ℕ → List ℕ
 
--- the value that an operation of this effect puts in, and the value that it takes out, by what its
--- reply shows
+-- the value that an operation of this effect puts in, where it puts one in
 abbrev pub value_put : Effect → Option ℕ
 value_put (Puts v) = Some v
 value_put Takes = None
 value_put Neither = None
 
+-- the value that an operation of this effect takes out, where it takes and its reply shows a value
 abbrev pub value_taken : Effect → Option ℕ → Option ℕ
 value_taken (Puts v) shown = None
 value_taken Takes shown = shown
 value_taken Neither shown = None
 
--- the value that a step, which is an operation with its reply, puts in, and the value that it takes
--- out
+-- the value that a step puts in, where it puts one in; a step is an operation word with its reply
 abbrev pub put_by : Reading → ℕ × ℕ → Option ℕ
 put_by reading step = value_put (reading.deed step.0)
 
+-- the value that a step takes out, where it takes one out; a step is an operation word with its
+-- reply
 abbrev pub taken_by : Reading → ℕ × ℕ → Option ℕ
 taken_by reading step = value_taken (reading.deed step.0) (reading.shown step.1)
 
+-- 1 for true, 0 for false
 abbrev pub one_if : Bool → ℕ
 one_if true = 1
 one_if false = 0
@@ -63,7 +65,8 @@ pub record IsContainer (reading : Reading) (next : List ℕ → ℕ → List ℕ
   pub neither : (list : List ℕ) (op : ℕ) → reading.deed op ≡ Neither
       → reading.values (next list op).0 ≡ reading.values list
 
--- A queue: a put adds its value at the end, and a take gives out the first.
+-- A queue: a put adds its value at the end, a take gives out the first value, and nothing else
+-- changes what is held.
 pub record IsQueue (reading : Reading) (next : List ℕ → ℕ → List ℕ × ℕ) : Type 0 where
   pub put : (list : List ℕ) (op v : ℕ) → reading.deed op ≡ Puts v
       → reading.values (next list op).0 ≡ reading.values list ++ v ∷ []
@@ -72,7 +75,8 @@ pub record IsQueue (reading : Reading) (next : List ℕ → ℕ → List ℕ × 
   pub neither : (list : List ℕ) (op : ℕ) → reading.deed op ≡ Neither
       → reading.values (next list op).0 ≡ reading.values list
 
--- A stack: a put adds its value at the head of the list, and a take gives out the first value.
+-- A stack: a put adds its value at the head of the list, a take gives out the first value, and
+-- nothing else changes what is held.
 pub record IsStack (reading : Reading) (next : List ℕ → ℕ → List ℕ × ℕ) : Type 0 where
   pub put : (list : List ℕ) (op v : ℕ) → reading.deed op ≡ Puts v
       → reading.values (next list op).0 ≡ v ∷ reading.values list

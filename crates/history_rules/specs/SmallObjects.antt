@@ -7,14 +7,17 @@ use Rattle.book_base.specs.SeqSpec.{SeqSpec}
 use Rattle.book_base.specs.Book.{Page}
 use Rattle.history_rules.specs.Container.{Effect, Puts, Takes, Reading}
 
+-- what an operation of a small object does: 0 takes, and v + 1 puts in v
 abbrev pub sample_deed : ℕ → Effect
 sample_deed zero = Takes
 sample_deed (suc v) = Puts v
 
+-- the value that a reply of a small object to a take shows: none for 0, and v for v + 1
 abbrev pub sample_shown : ℕ → Option ℕ
 sample_shown zero = None
 sample_shown (suc v) = Some v
 
+-- how the operations, replies and lists of the small objects are read
 abbrev pub sample : Reading
 sample = record { deed = sample_deed; shown = sample_shown; values = λ list. list }
 
@@ -24,7 +27,7 @@ queue_next [] zero = ([], 0)
 queue_next (x ∷ rest) zero = (rest, suc x)
 queue_next list (suc v) = (list ++ v ∷ [], 0)
 
--- That queue, which begins empty.
+-- The sequential object of the small queue, which begins empty.
 abbrev pub queue_spec : SeqSpec
 queue_spec = record { init = []; next = queue_next }
 
@@ -34,16 +37,19 @@ stack_next [] zero = ([], 0)
 stack_next (x ∷ rest) zero = (rest, suc x)
 stack_next list (suc v) = (v ∷ list, 0)
 
+-- a page with these operation words and these records
 abbrev pub caller_page : List ℕ → List Record → Page
 caller_page operations records = record { operations = operations; records = records }
 
+-- a record with this reply and this view
 abbrev pub answer : ℕ → List ℕ → Record
 answer reply view = record { reply = reply; view = view }
 
+-- call `k` of caller `i`
 abbrev pub call_of : ℕ → ℕ → Call
 call_of i k = record { caller = i; number = k }
 
--- Both callers put in, caller 0 the value 5 and caller 1 the value 6, at once; then caller 1 takes
+-- A book of the small queue: at once caller 0 puts in 5 and caller 1 puts in 6; then caller 1 takes
 -- 6, and afterwards caller 0 takes 5.
 abbrev pub six_first : List Page
 six_first =

@@ -7,7 +7,7 @@ use Rattle.book_base.specs.Book.{Page, operation_of, record_of}
 use Rattle.book_base.specs.Next.{MayComeNext, Continues}
 use Rattle.book_base.specs.PruningRules.{Leaves}
 
--- the place of an answered call
+-- the place of an answered call, with its recorded reply
 abbrev pub answered_place : Call → Record → Place
 answered_place call r = record { caller = call.caller; number = call.number; reply = r.reply }
 
@@ -24,8 +24,8 @@ pub record MayStandAtOnce (book : List Page) (next : List ℕ → ℕ → List �
   pub gives : (next list (word_of book call)).1 ≡ r.reply
   pub leaves : Leaves next (word_of book call) r.reply
 
--- Where places continue an order from a cut and a list, some that begin with a call that may be
--- taken at once do.
+-- Where places continue an order from a cut and a list, and an answered call may be taken at once
+-- there, some places that begin with this call continue an order from there too.
 abbrev pub GoesOnWithIt : Type 0
 GoesOnWithIt = (book : List Page) (next : List ℕ → ℕ → List ℕ × ℕ) (cut list : List ℕ) (call : Call)
     (r : Record) (rest : List Place) → length book ≤ length cut

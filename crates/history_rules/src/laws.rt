@@ -1,5 +1,5 @@
-//! The rules, each the contract of a function with nothing in it. Each holds for every object that
-//! can be read as the rule asks, where the values concerned are put in once.
+//! Rules of histories, each the contract of a function with nothing in it. Each holds for every
+//! object that can be read as the rule asks, where the values concerned are put in once.
 
 ghost use Rattle.history_rules.specs.Rules.{QueueGivesInOrder, ContainerGivesWhatWasPut, EmptyBeforePut, PutsInOrder, PutIsCovered, TakenOnce, TakenNoMoreThanPut, InfeasibleUntilThen};
 ghost use Rattle.history_rules.specs.Standing.{GoesOnWithIt};
@@ -21,12 +21,14 @@ pub fn empty_takes_stand_before_puts()
     ensures { EmptyBeforePut }
 {}
 
-/// A queue's puts come in the order of their takes.
+/// In a queue, where the take of one value precedes that of another, the put of the first value
+/// comes before the put of the second.
 pub fn puts_stand_in_the_order_of_takes()
     ensures { PutsInOrder }
 {}
 
-/// A stack doesn't put a value on one that is taken before it.
+/// In a stack, where the take of x precedes the take of v, the put of v is infeasible while the
+/// stack holds x.
 pub fn puts_cover_nothing_taken_before()
     ensures { PutIsCovered }
 {}

@@ -14,27 +14,27 @@ use Rattle.hunts.specs.declared.trial.Catch.{Catch}
 use Rattle.hunts.specs.declared.runs.Settings.{Settings}
 use Rattle.hunts.specs.declared.runs.Hunted.{Hunted}
 
--- The seed of a run of a hunt.
+-- The seed of the run of a hunt that has this number, counted from 0.
 abbrev pub seed_at : Settings → ℕ → ℕ
 seed_at settings number = (settings.seed + number) % 2 ^ 64
 
--- The seeds of this many runs of a hunt, in order.
+-- The seeds of the first runs of a hunt, in order, of as many runs as the number says.
 abbrev pub first_seeds : Settings → ℕ → List ℕ
 first_seeds settings zero = []
 first_seeds settings (suc number) = first_seeds settings number ++ seed_at settings number ∷ []
 
 module _ {T : Type 0} (made : T → ℕ) (told : T → Option (List (ℕ × ℕ))) where
   -- A run was made of this plan over an object outside the world, and reports these findings. They
-  -- are of the plan's kind, and lawful by the object of that kind. With these passes, in order, the
-  -- object was asked for just the calls that their callers' lines determine, and where a pass tells
-  -- a list, this has the operations and the replies of these calls.
+  -- are of the plan's kind, and lawful by the object of that kind. With pass i the object was asked
+  -- for just the calls that the lines of caller i determine, and where the pass tells a list, this
+  -- has the operations and the replies of these calls.
   pub record IsRun (plan : Plan) (passes : List T) (findings : Findings) : Type 0 where
     pub kind : findings.kind ≡ plan.kind
     pub lawful : IsLawful (kind_spec plan.kind) (outside_shape (length plan.operations))
         plan.operations (run_allotments plan) findings.lines
     pub told_in : AreInOrder (IsToldIn made told (run_allotments plan) findings) passes
 
-  -- A run of the plan was made by some passes, and has these findings.
+  -- A run of this plan was made with some passes, and reports these findings.
   abbrev pub IsMade : Plan → Findings → Type 0
   IsMade plan findings = (passes : List T) × IsRun plan passes findings
 
@@ -54,7 +54,7 @@ module _ {T : Type 0} (made : T → ℕ) (told : T → Option (List (ℕ × ℕ)
     pub witness : IsWitness catch.report.lines catch.witness
     pub no_order : ¬ HasLegalOrder (kind_spec w.kind) catch.witness
 
-  -- All runs of a hunt before this one were made, and were quiet.
+  -- All runs of a hunt before the one of this number were made, and were quiet.
   abbrev pub AreQuietBefore : Settings → ℕ → Type 0
   AreQuietBefore settings number = (k : ℕ) → k < number
       → IsQuiet settings.workload (seed_at settings k)

@@ -9,17 +9,17 @@ use std::alloc::Global;
 
 /// Makes the objects that a hunt runs over: a new one for each run.
 pub trait Maker<B: BlackBox> {
-    /// An object for the callers of a script, and an unused pass for each of them, in order, with a
-    /// call for each of its operations. The object may keep the noise, and pause inside its calls
-    /// where it may be wrong.
+    /// Opens an object for the callers of a script, with an unused pass for each caller, in order,
+    /// with which one call may be made for each of its operations. The object may keep the noise,
+    /// and pause with it inside its calls, at steps where it may be wrong.
     fn open(
         &self,
         alloc: Global,
         script: &Script,
         noise: Noise,
     ) -> Result<(B, Vec<B::Pass>), NoMemory>
-        // There is an unused pass of the object for each caller of the script, in order, with a
-        // call for each of its operations.
+        // There is an unused pass of the object for each caller of the script, in order, with which
+        // one call may be made for each operation of its caller.
         ensures unused { IfOk result (λ r. AreUnusedPasses (B.is_own r.0) B.Pass.caller B.Pass.made
             B.Pass.cap script.now.operations r.1.items) };
 }

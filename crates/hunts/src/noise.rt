@@ -5,9 +5,9 @@ use std::thread::yield_now;
 /// How often noise yields the thread, and how many times in a row.
 #[derive(Clone, Copy, Debug, Default, PartialEq, Eq)]
 pub struct Loudness {
-    /// At how many of 256 pauses noise yields: at none where this is 0.
+    /// At how many of 256 pauses noise yields on average: at none where this is 0.
     pub share: u32,
-    /// How many times in a row noise yields at such a pause, at most.
+    /// How many times in a row noise yields the thread at one pause, at most.
     pub most: u32,
 }
 
@@ -31,7 +31,8 @@ impl Noise {
         }
     }
 
-    /// Yields the thread, or doesn't.
+    /// Makes one pause: it yields the thread some times in a row, or not at all, as the seed
+    /// decides for the number of this pause.
     pub fn pause(&self) {
         let drawn = draw(self.key, self.pauses.fetch_add(1, Ordering::SeqCst));
         if drawn % 256 < self.loudness.share {

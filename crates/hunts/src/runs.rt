@@ -33,17 +33,17 @@ pub struct Settings {
 pub struct Hunted {
     /// How many runs were made.
     pub runs: u64,
-    /// The catch of the last run. Where there is none, all runs were made.
+    /// The catch of the last run, where it had an error. Without a catch all runs were made.
     pub caught: Option<Catch>,
 }
 
-/// Runs the scripts of one seed after the other, each over a new object, until the report of a run
-/// has a witness, or as many runs are made as the settings say. Callers run in threads of their own
-/// where these can be had, with noise between their phases.
+/// Runs the script of each seed in turn, each over a new object, until the report of a run has a
+/// witness, or as many runs are made as the settings say. Callers run in threads of their own where
+/// these can be had, with noise between their phases.
 ///
-/// A catch is a fact about the object, and no matter of chance: the witness has no legal order.
-/// That there is none says no more than that no run had an error. A second hunt with the same seed
-/// makes the same scripts, in another interleaving.
+/// A catch is no matter of chance: its witness has no legal order, so the object is wrong. A hunt
+/// without a catch says no more than that no run had an error. A second hunt with the same seed
+/// makes the same scripts, but their steps may interleave differently.
 pub fn hunt<R: Threads + Sync, B: BlackBox + Sync + Drop, M: Maker<B>, W: Onlooker>(
     rt: &R,
     alloc: Global,

@@ -1,4 +1,4 @@
--- What a pass needs besides its seat.
+-- The tools of a pass: what it needs besides its seat of the log.
 use Rattle.std.specs.Prelude.{◌≡◌, ℕ, ◌*◌, ◌≤◌, [], vec_len, vec_capacity}
 use Rattle.lawful_objects.specs.declared.log_pass.Tools.{Tools}
 use Rattle.lawful_objects.specs.Scratches.{HasCapacity}

@@ -1,4 +1,4 @@
--- What a call of a tally and of a cell does to the word, and which form its reply has.
+-- What a call of a tally or of a cell does to its one word, and which form its reply has.
 use Rattle.std.specs.Prelude.{◌≡◌, ◌≢◌, ℕ, ◌+◌, ◌*◌, ◌%◌, ◌^◌, ◌<◌, ◌⊎◌, List, [], ◌∷◌, ◌++◌, All, length}
 use Rattle.book_base.specs.declared.TheConstants.{BAD}
 use Rattle.seq_objects.specs.Replies.{reply_done, reply_value}
@@ -21,19 +21,19 @@ write value = operation 1 value
 abbrev pub read : ℕ
 read = operation 2 0
 
--- The operation is no write.
+-- The operation isn't the write of any value below 2^32.
 abbrev pub IsNoWrite : ℕ → Type 0
 IsNoWrite op = (value : ℕ) → value < 2 ^ 32 → op ≢ write value
 
 -- A call of a tally: an increment adds 1 to the word in one step, and its reply is the word found;
--- any other operation makes no step, and its reply is bad.
+-- any other operation makes no step, and its reply is `bad`.
 pub record IsTallied (op reply : ℕ) (before after : List Deed) : Type 0 where
   pub counts : op ≡ increment → (found : ℕ) × (after ≡ before ++ Added 0 1 found ∷ [])
       × (reply ≡ reply_value found)
   pub other : op ≢ increment → (after ≡ before) × (reply ≡ BAD)
 
 -- A call of a cell: a write stores its value in one step; a read loads the word in one step, and
--- its reply is the word found; any other operation makes no step, and its reply is bad.
+-- its reply is the word found; any other operation makes no step, and its reply is `bad`.
 pub record IsCellCall (op reply : ℕ) (before after : List Deed) : Type 0 where
   pub writes : (value : ℕ) → value < 2 ^ 32 → op ≡ write value
       → (after ≡ before ++ Stored 0 value ∷ []) × (reply ≡ reply_done)
@@ -41,23 +41,24 @@ pub record IsCellCall (op reply : ℕ) (before after : List Deed) : Type 0 where
       × (reply ≡ reply_value found)
   pub other : IsNoWrite op → op ≢ read → (after ≡ before) × (reply ≡ BAD)
 
--- The form of a tally's reply: a value exactly to the increment, and else bad.
+-- The form of a tally's reply: a value to the increment, and `bad` to any other operation.
 pub record IsTallyReply (op reply : ℕ) : Type 0 where
   pub counts : op ≡ increment → (value : ℕ) × (reply ≡ reply_value value)
   pub other : op ≢ increment → reply ≡ BAD
 
--- The form of a cell's reply: done exactly to a write, a value exactly to the read, and else bad.
+-- The form of a cell's reply: `done` to a write, a value to the read, and `bad` to any other
+-- operation.
 pub record IsCellReply (op reply : ℕ) : Type 0 where
   pub writes : (value : ℕ) → value < 2 ^ 32 → op ≡ write value → reply ≡ reply_done
   pub reads : op ≡ read → (value : ℕ) × (reply ≡ reply_value value)
   pub other : IsNoWrite op → op ≢ read → reply ≡ BAD
 
--- Each pair of a tally's calls has the form of a tally's replies.
+-- Each reply of a tally's calls has the form of a tally's reply to its operation.
 abbrev pub TalliesAreFormed : Type 0
 TalliesAreFormed = (pairs : List (ℕ × ℕ)) (before after : List Deed)
     → AreCalls IsTallied pairs before after → All (λ pair. IsTallyReply pair.0 pair.1) pairs
 
--- Each pair of a cell's calls has the form of a cell's replies.
+-- Each reply of a cell's calls has the form of a cell's reply to its operation.
 abbrev pub CellsAreFormed : Type 0
 CellsAreFormed = (pairs : List (ℕ × ℕ)) (before after : List Deed)
     → AreCalls IsCellCall pairs before after → All (λ pair. IsCellReply pair.0 pair.1) pairs
@@ -71,14 +72,14 @@ abbrev pub cell_may : ℕ → Deed → Type 0
 cell_may caller deed = ((value : ℕ) × (deed ≡ Stored 0 value))
     ⊎ ((found : ℕ) × (deed ≡ Loaded 0 found))
 
--- A history that ends with an increment of a caller, with the reply to it: the number of increments
--- before it, modulo 2^64.
+-- The history ends with an increment of caller `who`, which found the number of accesses before it,
+-- modulo 2^64; and `reply` gives this number.
 pub record IsCounted (who reply : ℕ) (history : List Access) : Type 0 where
   pub before : List Access
   pub ends : history ≡ before ++ access who (Added 0 1 (length before % 2 ^ 64)) ∷ []
   pub told : reply ≡ reply_value (length before % 2 ^ 64)
 
--- An access that is a load.
+-- The access is a load.
 abbrev pub IsLoad : Access → Type 0
 IsLoad a = (found : ℕ) × (a.deed ≡ Loaded 0 found)
 
@@ -88,8 +89,8 @@ IsLastStored word history =
     (All IsLoad history × (word ≡ 0)) ⊎ ((before rest : List Access) × (who : ℕ)
     × (history ≡ before ++ access who (Stored 0 word) ∷ rest) × All IsLoad rest)
 
--- A history that ends with a load of a caller, and the reply to it: the word that the last store
--- before the load stored, or 0 where there is none.
+-- The history ends with a load of caller `who`, which found the word that the last store before it
+-- stored, or 0 where there is no store before it; and `reply` gives this word.
 pub record IsLastRead (who reply : ℕ) (history : List Access) : Type 0 where
   pub before : List Access
   pub word : ℕ
@@ -97,12 +98,12 @@ pub record IsLastRead (who reply : ℕ) (history : List Access) : Type 0 where
   pub ends : history ≡ before ++ access who (Loaded 0 word) ∷ []
   pub told : reply ≡ reply_value word
 
--- The word of a tally is the number of its increments modulo 2^64.
+-- The word of a tally is the number of increments in its history, modulo 2^64.
 abbrev pub TalliesCount : Type 0
 TalliesCount = (history : List Access) → IsLawfulHistory tally_may history
     → word_at 0 history ≡ length history % 2 ^ 64
 
--- The word of a cell is the last one stored, or 0 where none was.
+-- The word of a cell is the last one stored in its history, or 0 where none was stored.
 abbrev pub CellsHoldTheLast : Type 0
 CellsHoldTheLast = (history : List Access) → IsLawfulHistory cell_may history
     → IsLastStored (word_at 0 history) history

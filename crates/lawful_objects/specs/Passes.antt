@@ -1,4 +1,4 @@
--- What a pass of a box tells, and whose it is.
+-- The passes of a box: their callers, their calls, and the log that they saw.
 use Rattle.std.specs.Prelude.{◌≡◌, ℕ, ◌*◌, ◌<◌, ◌≤◌, List, [], map, All, length, vec_len, vec_capacity}
 use Rattle.std.specs.List.{range_with_len}
 use Rattle.shared_log.specs.declared.entry.Entry.{Entry}
@@ -30,11 +30,11 @@ cap_of_pass p = cap_of_seat p.seat
 abbrev pub pairs_in : LogPass → List (ℕ × ℕ)
 pairs_in p = p.tools.pairs.items
 
--- The log that a pass last saw: it ends with its caller's last call.
+-- The log that a pass last saw: up to its caller's last call, and empty before the first one.
 abbrev pub log_in : LogPass → List Entry
 log_in p = log_of p.seat
 
--- The pass has made no call, and may make this many.
+-- The pass has made no call, and may make `calls` calls.
 pub record IsFresh (calls : ℕ) (p : LogPass) : Type 0 where
   pub made : made_with p ≡ 0
   pub cap : cap_of_pass p ≡ calls
@@ -53,9 +53,9 @@ module _ {M : Type 0} where
   abbrev pub machine_in : LogBox M → M
   machine_in b = b.machine
 
-  -- The pass is one of this box, with capacity for all calls of its caller. Its pairs are those of
-  -- its caller's calls in its log; and where this log isn't empty, its scratch holds what the
-  -- machine keeps of it.
+  -- The pass belongs to this box and has capacity for all calls of its caller. Its pairs are its
+  -- caller's calls in the log that it saw, each with the machine's reply; and where this log isn't
+  -- empty, the pass's scratch holds what the machine keeps of it.
   pub record IsPassOf (reply_to : M → List Entry → ℕ) (has_seen : M → List Entry → Scratch → Type 0)
       (b : LogBox M) (p : LogPass) : Type 0 where
     pub seat : IsSeatOf b.log p.seat

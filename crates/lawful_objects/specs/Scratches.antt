@@ -1,4 +1,4 @@
--- The capacities of a scratch.
+-- The scratches of machines: a new one, and their capacities.
 use Rattle.std.specs.Prelude.{◌≡◌, ℕ, ◌+◌, ◌*◌, ◌<◌, [], None, replicate, vec_len}
 use Rattle.book_base.specs.State.{Contents}
 use Rattle.lawful_objects.specs.declared.scratch.Scratch.{Scratch}
@@ -7,19 +7,19 @@ use Rattle.lawful_objects.specs.declared.scratch.Scratch.{Scratch}
 abbrev pub empty_state : ℕ → Contents
 empty_state room = record { words = []; room = room }
 
--- A new scratch: both states are empty, with capacity for one word more than n callers have calls,
--- and no operation waits.
+-- The scratch is new: both its states are empty, with capacity for one word more than n callers
+-- with `cap` calls each have calls, and no operation waits.
 pub record IsClear (n cap : ℕ) (s : Scratch) : Type 0 where
   pub state : s.state ≡ empty_state (n * cap + 1)
   pub other : s.other ≡ empty_state (n * cap + 1)
   pub waiting : s.waiting.items ≡ replicate n None
 
--- The states have capacity for more than this many words.
+-- Both states of the scratch have capacity for more than `count` words.
 pub record HasCapacity (count : ℕ) (s : Scratch) : Type 0 where
   pub state : count < s.state.room
   pub other : count < s.other.room
 
--- The scratch has the capacities that it had before.
+-- The scratch `after` has the capacities of the scratch `before`, and is for as many callers.
 pub record KeepsCapacity (before after : Scratch) : Type 0 where
   pub state : after.state.room ≡ before.state.room
   pub other : after.other.room ≡ before.other.room

@@ -21,9 +21,9 @@ LoadsFindTheLast history = (before rest : List Access) (who found : ℕ)
 abbrev pub increments_in : Transcript → ℕ
 increments_in t = count_by (λ pair. pair.0 == increment) t.pairs
 
--- The calls of all n callers of a tally are of this one history of increments. It has as many
--- increments as the transcripts, each found the number of those before it, and the word is left as
--- their number, modulo 2^64.
+-- The calls of all n callers of a tally are of this one history of increments. The history has as
+-- many increments as the transcripts, each found the number of those before it, and the word is
+-- left as the number of all, modulo 2^64.
 pub record TellOneTally (n : ℕ) (history : List Access)
     (transcripts : List Transcript) : Type 0 where
   pub told : AreOfOneHistory tally_may (λ _. IsTallied) n history transcripts

@@ -1,14 +1,14 @@
--- Which passes are those of a tally, and of a cell.
+-- Which passes belong to a tally, and which to a cell.
 use Rattle.shared_words.specs.declared.words_pass.WordsPass.{WordsPass}
 use Rattle.shared_words.specs.Passes.{IsPassOf}
 use Rattle.lawful_objects.specs.declared.tally.Tally.{Tally}
 use Rattle.lawful_objects.specs.declared.word_cell.WordCell.{WordCell}
 use Rattle.lawful_objects.specs.Forms.{tally_may, cell_may, IsTallied, IsCellCall}
 
--- The pass is one of this tally.
+-- The pass belongs to this tally.
 abbrev pub IsTallyPass : Tally → WordsPass → Type 0
 IsTallyPass t p = IsPassOf tally_may (λ _. IsTallied) t.word p
 
--- The pass is one of this cell.
+-- The pass belongs to this cell.
 abbrev pub IsCellPass : WordCell → WordsPass → Type 0
 IsCellPass c p = IsPassOf cell_may (λ _. IsCellCall) c.word p

@@ -1,5 +1,5 @@
 //! Worked histories of a tally and of a cell: which transcripts two callers may have of them, and
-//! which not.
+//! which they can't have.
 
 ghost use Rattle.std.specs.Prelude.{List, [], ◌∷◌};
 ghost use Rattle.seq_objects.specs.Replies.{reply_value};
@@ -31,7 +31,7 @@ pub fn tallies_are_told()
     // No history whatever has two increments that both reply 0.
     ensures no_history { (history : List Access) → ¬ TellOneTally 2 history
         (counts_once 0 (reply_value 0) ∷ counts_once 1 (reply_value 0) ∷ []) }
-    // An increment can't add 2.
+    // An increment of a tally can't add 2 to the word.
     ensures twice { ¬ TellOneTally 1 (access 0 (deeds.Added 0 2 0) ∷ [])
         (counts_once 0 (reply_value 0) ∷ []) }
 {}
@@ -48,7 +48,7 @@ pub fn cells_are_told()
     // A read can't reply with another word than it found.
     ensures another_reply { ¬ TellOneCell 2 (stored_then_loaded 7 7)
         (writes_7 ∷ reads_value 0 ∷ []) }
-    // A write can't store another word.
+    // A write of 7 can't store 8.
     ensures another_word { ¬ TellOneCell 2 (stored_then_loaded 8 8)
         (writes_7 ∷ reads_value 8 ∷ []) }
     // A read can't swap the word that it finds for 0.

@@ -1,12 +1,13 @@
-//! What the replies of lawful objects and the pairs of their callers are.
+//! Laws of lawful objects: of the replies to a log, the pairs of one caller, and the words of a
+//! tally and of a cell.
 
 ghost use Rattle.lawful_objects.specs.Replays.{LastReplyIsNext};
 ghost use Rattle.lawful_objects.specs.Pairs.{PairsHaveTheCalls};
 ghost use Rattle.lawful_objects.specs.Forms.{TalliesAreFormed, CellsAreFormed, TalliesCount, CellsHoldTheLast};
 ghost use Rattle.lawful_objects.specs.Together.{TalliesAreCounted, CellsAreRead};
 
-/// The reply to the last operation of a log is the object's at the list that the operations before
-/// it leave.
+/// The reply to the last operation of a log is the one that the sequential object gives at the list
+/// that the operations before it leave.
 #[tactic(auto, using(crate::proofs::Replaying::last_reply_is_next))]
 pub fn last_reply_is_next()
     ensures { LastReplyIsNext }
@@ -18,28 +19,29 @@ pub fn pairs_have_the_calls()
     ensures { PairsHaveTheCalls }
 {}
 
-/// Each reply of a tally has the form of a tally's replies, and each of a cell that of a cell's.
+/// Each reply of a tally's calls has the form of a tally's replies, and each reply of a cell's
+/// calls has the form of a cell's replies.
 #[tactic(auto, using(crate::proofs::Forming::tallies_are_formed, crate::proofs::Forming::cells_are_formed))]
 pub fn replies_are_formed()
-    // Each reply of a tally's calls has the form of a tally's replies: a value exactly to the
-    // increment, and else `bad`.
+    // Each reply of a tally's calls has the form of a tally's replies: a value to the increment,
+    // and `bad` to any other operation.
     ensures tallies { TalliesAreFormed }
-    // Each reply of a cell's calls has the form of a cell's replies: done exactly to a write, a
-    // value exactly to the read, and else `bad`.
+    // Each reply of a cell's calls has the form of a cell's replies: `done` to a write, a value to
+    // the read, and `bad` to any other operation.
     ensures cells { CellsAreFormed }
 {}
 
-/// The word of a tally is the number of its increments modulo 2^64, and that of a cell is the last
-/// one stored, or 0 where none was.
+/// The word of a tally is the number of increments in its history, modulo 2^64, and the word of a
+/// cell is the last one stored in its history, or 0 where none was stored.
 #[tactic(auto, using(crate::proofs::Counting::tallies_count, crate::proofs::Counting::cells_hold_the_last))]
 pub fn words_are_of_histories()
-    // The word of a tally is the number of its increments modulo 2^64.
+    // The word of a tally is the number of increments in its history, modulo 2^64.
     ensures tallies { TalliesCount }
-    // The word of a cell is the last one stored, or 0 where none was.
+    // The word of a cell is the last one stored in its history, or 0 where none was stored.
     ensures cells { CellsHoldTheLast }
 {}
 
-/// Which words the accesses of a tally's history, and of a cell's, found.
+/// Which words the increments of a tally and the loads of a cell found.
 pub fn accesses_find_what_was_left()
     // Each increment of a tally found the number of increments before it, modulo 2^64.
     ensures tallies { TalliesAreCounted }

@@ -25,26 +25,26 @@ impl<M: Machine> LogBox<M> {
     ghost use Rattle.lawful_objects.specs.Equipment.{AreReady};
     ghost use Rattle.shared_log.specs.Seats.{log_of, AreSeatsOf};
 
-    /// Makes one call of the pass's caller: it is appended to the log, and answered from the log up
-    /// to it. It takes no memory.
+    /// Makes one call of the pass's caller: appends it to the log, and returns the machine's reply
+    /// to the log up to it. Takes no memory.
     pub fn make(&self, pass: &mut LogPass, op: OpWord) -> u64
-        // The pass is one of this box.
+        // The pass belongs to this box.
         requires own { IsPassOf M.reply_to M.has_seen self.now pass.old }
         // The pass has made fewer calls than it may make.
         requires left { made_with pass.old < cap_of_pass pass.old }
-        // The pass is still one of this box.
+        // The pass still belongs to this box.
         ensures own { IsPassOf M.reply_to M.has_seen self.now pass.new }
         // The pass keeps its caller and how many calls it may make.
         ensures same { (caller_of_pass pass.new ≡ caller_of_pass pass.old)
             × (cap_of_pass pass.new ≡ cap_of_pass pass.old) }
         // The pass has made one call more.
         ensures made { made_with pass.new ≡ made_with pass.old + 1 }
-        // The log that the pass saw is the one that it saw before, then others' calls, and this
-        // call as the last one.
+        // The log that the pass saw is the one that it saw before, then calls of other callers, and
+        // this call as the last one.
         ensures log { IsAfterCall (caller_of_pass pass.old) op (log_in pass.old) (log_in pass.new) }
         // The reply is that of the machine to the log up to this call.
         ensures reply { result ≡ M.reply_to (machine_in self.now) (log_in pass.new) }
-        // The pass has this operation and this reply after the calls that it had.
+        // The pass's calls are those that it had, and then this operation with this reply.
         ensures pairs { pairs_in pass.new ≡ pairs_in pass.old ++ (op, result) ∷ [] }
     {
         let known = pass.seat.log().len();
@@ -56,7 +56,7 @@ impl<M: Machine> LogBox<M> {
         reply
     }
 
-    // Gives each seat its tools.
+    // Makes a pass of each seat with its tools.
     fn equip(
         &self,
         seats: Vec<LogSeat>,
@@ -86,8 +86,8 @@ impl<M: Machine> LogBox<M> {
 impl<M: Machine + Drop> LogBox<M> {
     ghost use Rattle.lawful_objects.specs.Passes.{callers_in, cap_in, machine_in, caller_of_pass, made_with, cap_of_pass, pairs_in, log_in, ArePassesOf, IsFresh};
 
-    /// A box for `n` callers with `cap` calls each, and a pass for each caller, in order. The log
-    /// is empty.
+    /// Opens a box for `n` callers with `cap` calls each, with a pass for each caller, in order.
+    /// Its log is empty.
     pub fn open(
         alloc: Global,
         machine: M,
@@ -125,13 +125,14 @@ impl<M: Machine + Drop> LogBox<M> {
         }
     }
 
-    /// The one log of all calls. The passes of all callers come back, in order. It takes no memory.
+    /// Takes the passes of all callers back, in order, and returns the one log of all calls. Takes
+    /// no memory.
     pub fn close(self, passes: Vec<LogPass>) -> Vec<Entry>
         // The passes are those of all callers of this box, in order.
         requires passes { ArePassesOf M.reply_to M.has_seen self passes.items }
         // Each entry of the log is a call of one of the box's callers.
         ensures callers { All (λ e. e.caller < callers_in self) result.items }
-        // The log that each pass saw is a prefix of the answered one.
+        // The log that each pass saw is a prefix of the returned one.
         ensures prefixes { All (λ p. BeginsWith result.items (log_in p)) passes.items }
         // Each pass has the calls of its caller in the log, each with the machine's reply to the
         // log up to it.
@@ -158,24 +159,24 @@ impl<M: Machine> BlackBox for LogBox<M> {
     ghost tells_each = { λ b pass pairs own told. ap (λ (l : List (ℕ × ℕ)). length l) (sym (same_Some (pairs_in pass) pairs told)) ∙ own.count };
 
     fn call(&self, pass: &mut LogPass, announced: &Announced) -> u64
-        // The pass is one of this box.
+        // The pass belongs to this box.
         requires own { IsPassOf M.reply_to M.has_seen self.now pass.old }
         // The pass is that of the announced call's caller.
         requires caller { caller_of_pass pass.old ≡ who_announced announced.now }
         // The pass has made fewer calls than it may make.
         requires left { made_with pass.old < cap_of_pass pass.old }
-        // The pass is still one of this box.
+        // The pass still belongs to this box.
         ensures own { IsPassOf M.reply_to M.has_seen self.now pass.new }
         // The pass has made one call more.
         ensures made { made_with pass.new ≡ made_with pass.old + 1 }
         // The pass keeps its caller and how many calls it may make.
         ensures same { (caller_of_pass pass.new ≡ caller_of_pass pass.old)
             × (cap_of_pass pass.new ≡ cap_of_pass pass.old) }
-        // The pass tells one call more, with this operation and this reply.
+        // The pass's told list has one entry more at its end: this operation with this reply.
         ensures told { Some (pairs_in pass.new)
             ≡ told_after (op_announced announced.now) result (Some (pairs_in pass.old)) }
-        // The log that the pass saw is the one that it saw before, then others' calls, and the
-        // announced call as the last one.
+        // The log that the pass saw is the one that it saw before, then calls of other callers, and
+        // the announced call as the last one.
         ensures log { IsAfterCall (caller_of_pass pass.old) (op_announced announced.now)
             (log_in pass.old) (log_in pass.new) }
         // The reply is that of the machine to the log up to this call.

@@ -7,7 +7,7 @@ use drv_wrapper::ObjectPass;
 use shared_log::{Entry, LogSeat, Seated};
 use std::alloc::Global;
 
-/// What a pass needs besides its seat.
+/// What a pass needs besides its seat: its machine's scratch, and its calls with their replies.
 #[derive(Drop)]
 pub(crate) struct Tools {
     pub(crate) scratch: Scratch,
@@ -17,7 +17,7 @@ pub(crate) struct Tools {
 impl Tools {
     ghost use Rattle.lawful_objects.specs.Equipment.{AreReady};
 
-    // The tools of each of `n` callers with `cap` calls.
+    // New tools for each of `n` callers with `cap` calls each.
     pub(crate) fn for_all(alloc: Global, n: u32, cap: u64) -> Result<Vec<Tools>, NoMemory>
         requires some_callers { 1 ≤ n }
         requires few_callers { n ≤ MAX_CALLERS }
@@ -53,7 +53,7 @@ impl LogPass {
         &self.tools.pairs
     }
 
-    /// The log up to the caller's last call.
+    /// The log up to the caller's last call; it is empty before the first one.
     pub fn log(&self) -> &[Entry]
         ensures { result.now ≡ log_in self.now }
     {

@@ -6,19 +6,20 @@ ghost use Rattle.lawful_objects.specs.Scratches.{HasCapacity, KeepsCapacity};
 use crate::scratch::Scratch;
 use shared_log::Entry;
 
-/// How an object answers from the log of all calls: by a reply to the last entry of a log.
+/// What answers a call from the log of all calls up to it: a machine has a reply to the last entry
+/// of each log.
 pub trait Machine {
     /// The reply to the last entry of a log.
     ghost reply_to: { Self → List Item → ℕ };
 
-    /// What the scratch holds after the machine has answered a log, if that is of use for the next
-    /// answer. A machine that leaves this out keeps nothing there.
+    /// What the scratch holds after the machine has answered a log, where that is of use for the
+    /// next answer. A machine that doesn't define this keeps nothing in the scratch.
     ghost has_seen: { Self → List Item → Tool → Type 0 } = { λ machine log scratch. Unit {0} };
 
     /// The reply to the last entry of the log.
     ///
-    /// The machine may use the scratch as it likes: its capacities stay, and its contents before
-    /// don't matter.
+    /// The machine may use the scratch as it likes, but keeps its capacities. What the scratch
+    /// holds before doesn't matter.
     fn answer(&self, log: &[Entry], scratch: &mut Scratch) -> u64
         // The log has at least one entry.
         requires some { 0 < length log.now }

@@ -15,7 +15,8 @@ pub struct Plain<S: SeqObject> {
 impl<S: SeqObject> Plain<S> {
     ghost use Rattle.lawful_objects.specs.Replays.{list_after, last_reply};
 
-    // Makes the operations of a log, and answers the reply to the last one.
+    // Applies the operations of a log to the state, and returns the reply to the last one, or 0
+    // where the log is empty.
     fn replay(&self, log: &[Entry], state: &mut State) -> u64
         requires room { length state.old.words + length log.now ≤ state.old.room }
         ensures list { state.new ≡ record state.old {

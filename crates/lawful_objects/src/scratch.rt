@@ -6,12 +6,12 @@ use std::alloc::Global;
 
 /// What a machine works on while it answers, so that it takes no memory.
 ///
-/// What it holds between two answers doesn't matter.
+/// Between two answers it may hold what the machine keeps of the log for its next answer.
 #[derive(Debug, Drop)]
 pub struct Scratch {
     pub state: State,
     pub other: State,
-    /// The operation that waits of each caller, where one does.
+    /// For each caller the operation of it that waits, where one does.
     pub waiting: Vec<Option<OpWord>>,
 }
 

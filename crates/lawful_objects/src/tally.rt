@@ -36,8 +36,8 @@ impl Tally {
     ghost use Rattle.shared_words.specs.Passes.{caller_of_seat, history_of, deeds_of, callers_of, cap_of, caller_of_pass, made_with, cap_of_pass, pairs_in, history_in, transcript_of, IsSeatOf, IsFreshPass};
     ghost use Rattle.lawful_objects.specs.WordObjects.{IsTallyPass};
 
-    /// A tally for `n` callers with `cap` calls each, and a pass for each caller, in order. The
-    /// count is 0.
+    /// Opens a tally for `n` callers with `cap` calls each, with a pass for each caller, in order.
+    /// Its count is 0.
     pub fn open(alloc: Global, n: u32, cap: u64) -> Result<(Tally, Vec<WordsPass>), NoMemory>
         // There is at least one caller.
         requires some_callers { 1 ≤ n }
@@ -51,7 +51,7 @@ impl Tally {
         ensures tally { IfOk result (λ r. (callers_of r.0.word ≡ n) × (cap_of r.0.word ≡ cap)) }
         // The passes are those of all callers, in order.
         ensures callers { IfOk result (λ r. map caller_of_pass r.1.items ≡ range_with_len 0 n) }
-        // Each pass is one of this tally.
+        // Each pass belongs to this tally.
         ensures own { IfOk result (λ r. All (IsTallyPass r.0) r.1.items) }
         // Each pass has made no call, and may make as many as the cap.
         ensures fresh { IfOk result (λ r. All (IsFreshPass cap) r.1.items) }
@@ -60,7 +60,8 @@ impl Tally {
         Ok((Tally { word }, passes))
     }
 
-    // Makes the step of an operation, and answers the reply to it.
+    // Makes the addition where the operation is the increment, and returns the reply to the
+    // operation.
     fn reply(&self, seat: &mut WordSeat, op: OpWord) -> u64
         requires { IsSeatOf tally_may self.now.word seat.old }
         ensures seat { IsSeatOf tally_may self.now.word seat.new }
@@ -76,25 +77,26 @@ impl Tally {
         value_reply(self.word.add(seat, 0, 1))
     }
 
-    /// Makes one call of the pass's caller. It takes no memory.
+    /// Makes one call of the pass's caller, and returns its reply. Takes no memory.
     pub fn make(&self, pass: &mut WordsPass, op: OpWord) -> u64
-        // The pass is one of this tally.
+        // The pass belongs to this tally.
         requires own { IsTallyPass self.now pass.old }
         // The pass has made fewer calls than it may make.
         requires left { made_with pass.old < cap_of_pass pass.old }
-        // The pass is still one of this tally.
+        // The pass still belongs to this tally.
         ensures own { IsTallyPass self.now pass.new }
         // The pass keeps its caller and how many calls it may make.
         ensures same { (caller_of_pass pass.new ≡ caller_of_pass pass.old)
             × (cap_of_pass pass.new ≡ cap_of_pass pass.old) }
-        // The pass has this operation and this reply after the calls that it had.
+        // The pass's calls are those that it had, and then this operation with this reply.
         ensures pairs { pairs_in pass.new ≡ pairs_in pass.old ++ (op, result) ∷ [] }
-        // The reply is a value exactly to the increment, and else `bad`.
+        // The reply is a value to the increment, and `bad` to any other operation.
         ensures form { IsTallyReply op result }
-        // The accesses that the pass knew are the first of those that it knows.
+        // The history that the pass knew before the call is a prefix of the one that it knows after
+        // it.
         ensures history { IsPrefix (history_in pass.old) (history_in pass.new) }
-        // The last access is this increment, and its reply gives the number of increments before
-        // it, modulo 2^64.
+        // After an increment, the last access that the pass knows is this increment, and the reply
+        // gives the number of increments before it, modulo 2^64.
         ensures counted { op ≡ increment
             → IsCounted (caller_of_pass pass.old) result (history_in pass.new) }
     {
@@ -103,16 +105,16 @@ impl Tally {
         reply
     }
 
-    /// Takes the passes of all callers back, in order, and drops the tally. It takes no memory.
+    /// Takes the passes of all callers back, in order, and drops the tally. Takes no memory.
     pub fn close(self, passes: Vec<WordsPass>)
         // The passes are those of all callers, in order.
         requires callers { map caller_of_pass passes.items
             ≡ range_with_len 0 (callers_of self.word) }
-        // Each pass is one of this tally.
+        // Each pass belongs to this tally.
         requires own { All (IsTallyPass self) passes.items }
         // The passes are of one history of increments. The history has as many increments as the
-        // calls of the passes, each found the number of those before it, and the word is left as
-        // their number, modulo 2^64.
+        // passes have calls of the increment, each found the number of those before it, and the
+        // word is left as the number of all, modulo 2^64.
         ensures history { (history : List Access)
             × TellOneTally (callers_of self.word) history (map transcript_of passes.items) }
     {

@@ -13,14 +13,14 @@ use seq_objects::{DONE, value_reply};
 use shared_words::{SharedWords, Usage, WordSeat, WordsPass};
 use std::alloc::Global;
 
-/// The operation word of the write of 0; the words of writes are from this one on, and below that
-/// of the read.
+/// The operation word of the write of 0. The operation word of the write of a value is this one
+/// plus the value.
 const WRITE_0: OpWord = 1 << 32;
 
 /// The operation word of the read.
 const READ: OpWord = 2 << 32;
 
-/// Callers load the one word and store into it, and do nothing else.
+/// Callers of a cell load its one word and store into it, and do nothing else.
 pub struct LoadsAndStores;
 
 impl Usage for LoadsAndStores {
@@ -40,8 +40,8 @@ impl WordCell {
     ghost use Rattle.shared_words.specs.Passes.{caller_of_seat, history_of, deeds_of, callers_of, cap_of, caller_of_pass, made_with, cap_of_pass, pairs_in, history_in, transcript_of, IsSeatOf, IsFreshPass};
     ghost use Rattle.lawful_objects.specs.WordObjects.{IsCellPass};
 
-    /// A cell for `n` callers with `cap` calls each, and a pass for each caller, in order. Its
-    /// value is 0.
+    /// Opens a cell for `n` callers with `cap` calls each, with a pass for each caller, in order.
+    /// Its value is 0.
     pub fn open(alloc: Global, n: u32, cap: u64) -> Result<(WordCell, Vec<WordsPass>), NoMemory>
         // There is at least one caller.
         requires some_callers { 1 ≤ n }
@@ -55,7 +55,7 @@ impl WordCell {
         ensures cell { IfOk result (λ r. (callers_of r.0.word ≡ n) × (cap_of r.0.word ≡ cap)) }
         // The passes are those of all callers, in order.
         ensures callers { IfOk result (λ r. map caller_of_pass r.1.items ≡ range_with_len 0 n) }
-        // Each pass is one of this cell.
+        // Each pass belongs to this cell.
         ensures own { IfOk result (λ r. All (IsCellPass r.0) r.1.items) }
         // Each pass has made no call, and may make as many as the cap.
         ensures fresh { IfOk result (λ r. All (IsFreshPass cap) r.1.items) }
@@ -64,7 +64,7 @@ impl WordCell {
         Ok((WordCell { word }, passes))
     }
 
-    // Makes the step of an operation, and answers the reply to it.
+    // Makes the store of a write or the load of a read, and returns the reply to the operation.
     fn reply(&self, seat: &mut WordSeat, op: OpWord) -> u64
         requires { IsSeatOf cell_may self.now.word seat.old }
         ensures seat { IsSeatOf cell_may self.now.word seat.new }
@@ -84,25 +84,26 @@ impl WordCell {
         DONE
     }
 
-    /// Makes one call of the pass's caller. It takes no memory.
+    /// Makes one call of the pass's caller, and returns its reply. Takes no memory.
     pub fn make(&self, pass: &mut WordsPass, op: OpWord) -> u64
-        // The pass is one of this cell.
+        // The pass belongs to this cell.
         requires own { IsCellPass self.now pass.old }
         // The pass has made fewer calls than it may make.
         requires left { made_with pass.old < cap_of_pass pass.old }
-        // The pass is still one of this cell.
+        // The pass still belongs to this cell.
         ensures own { IsCellPass self.now pass.new }
         // The pass keeps its caller and how many calls it may make.
         ensures same { (caller_of_pass pass.new ≡ caller_of_pass pass.old)
             × (cap_of_pass pass.new ≡ cap_of_pass pass.old) }
-        // The pass has this operation and this reply after the calls that it had.
+        // The pass's calls are those that it had, and then this operation with this reply.
         ensures pairs { pairs_in pass.new ≡ pairs_in pass.old ++ (op, result) ∷ [] }
-        // The reply is done exactly to a write, a value exactly to the read, and else `bad`.
+        // The reply is `done` to a write, a value to the read, and `bad` to any other operation.
         ensures form { IsCellReply op result }
-        // The accesses that the pass knew are the first of those that it knows.
+        // The history that the pass knew before the call is a prefix of the one that it knows after
+        // it.
         ensures history { IsPrefix (history_in pass.old) (history_in pass.new) }
-        // The last access is this read, and its reply gives the last word stored before it, or 0
-        // where none was.
+        // After a read, the last access that the pass knows is its load, and the reply gives the
+        // last word stored before it, or 0 where none was stored.
         ensures last { op ≡ read
             → IsLastRead (caller_of_pass pass.old) result (history_in pass.new) }
     {
@@ -111,12 +112,12 @@ impl WordCell {
         reply
     }
 
-    /// Takes the passes of all callers back, in order, and drops the cell. It takes no memory.
+    /// Takes the passes of all callers back, in order, and drops the cell. Takes no memory.
     pub fn close(self, passes: Vec<WordsPass>)
         // The passes are those of all callers, in order.
         requires callers { map caller_of_pass passes.items
             ≡ range_with_len 0 (callers_of self.word) }
-        // Each pass is one of this cell.
+        // Each pass belongs to this cell.
         requires own { All (IsCellPass self) passes.items }
         // The passes are of one history of stores and loads. Each load found what the last store
         // before it stored, and the word is left as the last one stored; both are 0 where no store

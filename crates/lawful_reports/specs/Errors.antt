@@ -22,15 +22,15 @@ WitnessesHaveNoOrder =
     → IsLawful spec s operations allotments lines → IsWitness lines book
     → ¬ HasLegalOrder spec book
 
--- No run that ends with the calls of these lines has a linearizable object history, whatever its
--- program, its cap and the verdicts.
+-- No run that ends with the calls of these lines has a linearizable object history, whatever the
+-- run's program and cap, and whatever the verdicts of the lines.
 abbrev pub NoLinearizableRunHasTheseCalls : SeqSpec → List (List Line) → Type 0
 NoLinearizableRunHasTheseCalls spec lines =
     (t : Shape) (steps : List Step) → IsRun t steps → map calls_in (end_of t steps).locals
     ≡ calls_of lines → ¬ IsLinearizable spec (history_of t steps)
 
--- No run over linearizable object calls leaves the calls of a lawful report in which a line is an
--- error.
+-- Where a lawful report has an error line, no run that ends with the report's calls has a
+-- linearizable object history.
 abbrev pub NoRunLeavesAnError : Type 0
 NoRunLeavesAnError =
     (spec : SeqSpec) (s : Shape) (operations : List (List ℕ))
@@ -38,9 +38,9 @@ NoRunLeavesAnError =
     → IsLawful spec s operations allotments lines → list_any any_error lines ≡ true
     → NoLinearizableRunHasTheseCalls spec lines
 
--- No run that ends with these lines, each with the right verdict, has a linearizable object
--- history. This says less than that no run with their calls has one: the lines of no run have a
--- false error.
+-- No run that ends with the calls of these lines, and for which each verdict is right, has a
+-- linearizable object history. Lines with a false error meet this, since they are the lines of no
+-- run.
 abbrev pub NoLinearizableRunHasTheseLines : SeqSpec → List (List Line) → Type 0
 NoLinearizableRunHasTheseLines spec lines =
     (t : Shape) (steps : List Step) → IsRun t steps

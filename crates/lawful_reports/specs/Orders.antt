@@ -20,7 +20,8 @@ StandsWith book order call operation reply =
     ≡ Some (record { caller = call.caller; number = call.number; reply = reply }))
     × (operation_of book call ≡ Some operation)
 
--- Each delivered line has a place in this order of a book, with its operation and its reply.
+-- Each delivered line's call has a place in this order of a book, with the line's operation and
+-- reply.
 abbrev pub DeliveredLinesStandIn : List (List Line) → List Page → List Place → Type 0
 DeliveredLinesStandIn lines book order =
     (call : Call) (line : Line) (r : Record) (cut : List ℕ) → line_at lines call ≡ Some line
@@ -31,7 +32,7 @@ DeliveredLinesStandIn lines book order =
 abbrev pub delivered_book : Shape → List (List Line) → List Page
 delivered_book s lines = book_at (delivered_cut s.callers lines) (book_of_lines lines)
 
--- All delivered replies of a lawful report have places in one order, which is legal.
+-- All delivered replies of a lawful report have places in one legal order of its delivered book.
 abbrev pub DeliveredRepliesStandInOneOrder : Type 0
 DeliveredRepliesStandInOneOrder =
     (spec : SeqSpec) (s : Shape) (operations : List (List ℕ))

@@ -15,13 +15,12 @@ ghost use Rattle.report_laws.specs.Cases.{five_and_six, fifty, sixty, both_deliv
 ghost use Rattle.lawful_reports.specs.Errors.{NoLinearizableRunHasTheseCalls, NoLinearizableRunHasTheseLines};
 ghost use Rattle.lawful_reports.specs.Cases.{with_second, with_first, after_an_error, AreNoReport, StandInOrder, first_place};
 
-/// The delivered lines of the run have places in the order of their calls, and not in an order that
-/// leaves one of them out or has another reply. Lines of which none is delivered have places in the
-/// empty order.
+/// Delivered lines have places in the order of their calls, and not in an order that leaves one of
+/// them out or has another reply. Lines of which none is delivered have places in the empty order.
 pub fn delivered_lines_stand_in_an_order()
     // Both delivered lines have places in the order of the two calls, each with its reply.
     ensures both { StandInOrder both_delivered (first_place 0 50 ∷ first_place 1 60 ∷ []) }
-    // Where no line is delivered, the empty order has all delivered lines.
+    // Where no line is delivered, the empty order has places for all delivered lines.
     ensures none { StandInOrder both_failed [] }
     // The delivered lines don't both have places in an order that lacks the second call.
     ensures one_left_out { ¬ StandInOrder both_delivered (first_place 0 50 ∷ []) }
@@ -30,34 +29,37 @@ pub fn delivered_lines_stand_in_an_order()
         (first_place 0 50 ∷ first_place 1 61 ∷ []) }
 {}
 
-/// The lines of a run over linearizable calls of an object that gives ten times the operation are
-/// no lawful report where they are errors. What refuses such false errors is that runs over
-/// linearizable calls do end with their calls. That no such run ends with their lines, verdicts
-/// included, wouldn't refuse them, since this holds of every false error.
+/// Two error lines are no lawful report for the object that gives ten times the operation, since a
+/// run with their calls has a linearizable history. To ask that no run with a linearizable history
+/// has the lines with right verdicts isn't enough: each false error meets that, since no run leaves
+/// one.
 pub fn false_errors_are_refused()
-    // One of the lines is an error.
+    // Of two error lines at least one is an error.
     ensures errors { list_any any_error both_failed ≡ true }
     // The steps of the two whole calls are a run.
     ensures run { IsRun pair two_calls }
-    // The calls of the lines are those of the locals after the run.
+    // The calls of two error lines are those of the locals after a run of two whole calls.
     ensures calls { map calls_in (locals_after two_calls) ≡ calls_of both_failed }
-    // The history of the run is linearizable for the object that gives ten times the operation.
+    // The history of a run of two whole calls is linearizable for the object that gives ten times
+    // the operation.
     ensures linearizable { IsLinearizable tenfold (history_of pair two_calls) }
-    // The lines as errors are no lawful report for that object, whatever the operations and the
-    // allotments.
+    // Two error lines are no lawful report for the object that gives ten times the operation,
+    // whatever the callers, the operations and the allotments.
     ensures no_report { AreNoReport tenfold both_failed }
-    // No run with a linearizable history has these lines with these verdicts.
+    // No run with a linearizable history has two error lines, each with the right verdict, for the
+    // object that gives ten times the operation.
     ensures of_the_lines { NoLinearizableRunHasTheseLines tenfold both_failed }
-    // Some run with a linearizable history has the calls of these lines.
+    // Some run with a linearizable history has the calls of the two error lines, for the object
+    // that gives ten times the operation.
     ensures of_the_calls { ¬ NoLinearizableRunHasTheseCalls tenfold both_failed }
-    // The lines as errors are a lawful report for the object that always gives 0.
+    // Two error lines are a lawful report for the object that always gives 0.
     ensures lawful { IsLawful silent pair five_and_six (5 ∷ 5 ∷ []) both_failed }
-    // No run with a linearizable history has these calls for the object that always gives 0.
+    // No run with a linearizable history has the calls of the two error lines, for the object that
+    // always gives 0.
     ensures of_lawful_calls { NoLinearizableRunHasTheseCalls silent both_failed }
 {}
 
-/// Lines that aren't those of the run's locals, nor of the locals after the run's first part, in
-/// which the first caller has its record and the second has announced its call.
+/// Lines that differ in anything from what a run's locals have aren't the lines of these locals.
 pub fn other_lines_are_refused()
     // Lines that leave out a call aren't those of the locals.
     ensures call_left_out { ¬ AreLinesOf silent (locals_after (take 24 two_calls))
@@ -82,35 +84,35 @@ pub fn other_lines_are_refused()
     // Lines that leave out a seen cut aren't those of the locals.
     ensures cut_left_out { ¬ AreLinesOf tenfold (locals_after two_calls)
         (with_second (unchecked 6 sixty ∷ [])) }
-    // Lines with a call more aren't those of the locals.
+    // Lines with one call more than the locals have aren't those of the locals.
     ensures call_more { ¬ AreLinesOf tenfold (locals_after two_calls)
         (with_second (delivered 6 sixty (1 ∷ 1 ∷ []) ∷ pending 7 ∷ [])) }
-    // Lines with a false error aren't those of the locals, though all their calls are right.
+    // Lines with a false error aren't those of the locals, though they tell all calls rightly.
     ensures false_error { ¬ AreLinesOf tenfold (locals_after two_calls) first_failed }
-    // Lines that miss an error aren't those of the locals.
+    // Lines that deliver what is an error aren't those of the locals.
     ensures missed_error { ¬ AreLinesOf silent (locals_after two_calls) both_delivered }
 {}
 
-/// Reports that aren't lawful, each by one part of what makes a report lawful: `report_laws` has
-/// such a case for each part that has none here and doesn't follow from the others.
+/// Reports that aren't lawful, each because it fails one part of `IsLawful`. A part without a case
+/// here has one in `report_laws`, or follows from the other parts.
 pub fn wrong_reports_are_refused()
-    // A report with an operation other than its caller was given isn't lawful.
+    // A report whose line has another operation than its caller was given isn't lawful.
     ensures operations { ¬ IsLawful tenfold pair ((5 ∷ []) ∷ (7 ∷ []) ∷ [])
         (5 ∷ 5 ∷ []) both_delivered }
-    // A report with a line beyond the operations isn't lawful.
+    // A report with more lines of a caller than the caller has operations isn't lawful.
     ensures beyond_operations { ¬ IsLawful tenfold pair five_and_six (6 ∷ 5 ∷ [])
         (with_first (delivered 5 fifty (1 ∷ 0 ∷ []) ∷ pending 0 ∷ [])) }
-    // A report with a call that is judged beyond its caller's stop isn't lawful.
+    // A report with a call that is judged after its caller's stop isn't lawful.
     ensures beyond_stop { ¬ IsLawful tenfold pair five_and_six (4 ∷ 5 ∷ []) both_delivered }
-    // A report with an error beyond a stop isn't lawful.
+    // A report with an error that is judged after its caller's stop isn't lawful.
     ensures error_beyond_stop { ¬ IsLawful silent pair five_and_six (4 ∷ 5 ∷ []) both_failed }
-    // A report with a line after an error isn't lawful.
+    // A report with a line after an error line of the same caller isn't lawful.
     ensures after_error { ¬ IsLawful silent pair ((5 ∷ 7 ∷ []) ∷ (6 ∷ []) ∷ [])
         (10 ∷ 5 ∷ []) after_an_error }
     // Lines with a view that lacks its own call are no lawful report.
     ensures view_without_call { AreNoReport tenfold
         (with_first (delivered 5 (answer 50 (0 ∷ 1 ∷ [])) (1 ∷ 0 ∷ []) ∷ [])) }
-    // Lines with a seen cut that lacks a caller's count are no lawful report.
+    // Lines with a seen cut that has too few counts are no lawful report.
     ensures narrow_cut { AreNoReport tenfold (with_first (delivered 5 fifty (1 ∷ []) ∷ [])) }
     // Lines with a seen cut that lacks its own call are no lawful report.
     ensures cut_without_call { AreNoReport tenfold

@@ -9,13 +9,14 @@ pub fn delivered_replies_stand_in_one_order()
     ensures { DeliveredRepliesStandInOneOrder }
 {}
 
-/// The witness of the first error has no legal order.
+/// The witness of a lawful report, which is the book at its first error line's seen cut, has no
+/// legal order.
 pub fn witnesses_have_no_order()
     ensures { WitnessesHaveNoOrder }
 {}
 
-/// Where a line is an error, no run over linearizable object calls ends with the calls of the
-/// report, whatever the verdicts on them (Herlihy and Wing 1990).
+/// Where a line of a lawful report is an error, no run that ends with the report's calls has a
+/// linearizable object history (Herlihy and Wing 1990).
 pub fn no_run_leaves_an_error()
     ensures { NoRunLeavesAnError }
 {}

@@ -1,5 +1,5 @@
-//! What a lawful report says, in plain words: of its delivered lines, of its error lines, and which
-//! reports are none.
+//! What a lawful report says of its delivered lines and of its error lines, and which reports
+//! aren't lawful.
 #![tactic(auto)]
 
 pub mod cases;

@@ -11,31 +11,35 @@ use Rattle.object_orders.specs.Effects.{Effects, IsOrderOfEffects}
 use Rattle.log_program.specs.LogWords.{number_of, low_place, high_place, ticket_place, ticket_of}
 use Rattle.log_program.specs.LogProgram.{list_of, log_shape}
 
--- The operation of the call that a ticket names, by the words; a free place has none.
+-- The operation of the call that a ticket names, read off the object words, as a list of one; the
+-- empty list for 0, the word of a free place.
 abbrev pub operation_at : (ℕ → ℕ) → ℕ → List ℕ
 operation_at word zero = []
 operation_at word (suc number) = joined (word (low_place number)) (word (high_place number)) ∷ []
 
--- The operations of the tickets below place p of the log, in order.
+-- The operations of the tickets below place p of the log, in order, read off the object words.
 abbrev pub operations_below : (ℕ → ℕ) → ℕ → ℕ → List ℕ
 operations_below word total zero = []
 operations_below word total (suc p) =
     operations_below word total p ++ operation_at word (word (ticket_place total p))
 
--- The last place of the log, of those below the given one, that has this ticket.
+-- The last place of the log below the given one that has this ticket; none where no place below it
+-- has the ticket.
 abbrev pub place_with : (ℕ → ℕ) → ℕ → ℕ → ℕ → Option ℕ
 place_with word total ticket zero = None
 place_with word total ticket (suc p) =
     if word (ticket_place total p) == ticket then Some p else place_with word total ticket p
 
--- The reply of the call with this number, whose ticket is at place p.
+-- The reply of the call with this number, read off the object words, given the place p of its
+-- ticket; none where the ticket has no place.
 abbrev pub reply_there : SeqSpec → (ℕ → ℕ) → ℕ → ℕ → Option ℕ → Option ℕ
 reply_there spec word total number None = None
 reply_there spec word total number (Some p) =
     Some (spec.next (list_of spec.next spec.init (operations_below word total p))
     (joined (word (low_place number)) (word (high_place number)))).1
 
--- The reply of the call with this number, where its ticket is placed.
+-- The reply of the call with this number, read off the object words; none where its ticket isn't
+-- placed.
 abbrev pub reply_of_number : SeqSpec → (ℕ → ℕ) → ℕ → ℕ → Option ℕ
 reply_of_number spec word total number =
     reply_there spec word total number (place_with word total (ticket_of number) total)
@@ -60,7 +64,7 @@ pub record HasPlace (s : Shape) (w : World) (call : Call) (p : ℕ) : Type 0 whe
   pub ticket : object_word s w (ticket_place (s.callers * s.cap) p)
       ≡ ticket_of (number_of s.cap call.caller call.number)
 
--- A call that comes before another in an order has its ticket at a lower place.
+-- A call that comes before another in an order has its ticket at a lower place of the log.
 abbrev pub IsInTicketOrder : Shape → World → List Done → Type 0
 IsInTicketOrder s w order =
     (p q : ℕ) (a b : Done) → p < q → slice_get order p ≡ Some a → slice_get order q ≡ Some b
@@ -75,7 +79,7 @@ LogsLinearize =
     → IsLinearizable spec (history_of (log_shape spec n cap) steps)
 
 -- The object history of every run of a log has a linearization of just the calls whose tickets are
--- placed, each with its reply, by the places of their tickets.
+-- placed, each with its reply, in the order of the places of their tickets.
 abbrev pub LogOrdersAreOfTickets : Type 0
 LogOrdersAreOfTickets =
     (spec : SeqSpec) (n cap : ℕ) (steps : List Step)

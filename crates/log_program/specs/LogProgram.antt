@@ -9,23 +9,25 @@ use Rattle.world_core.specs.CallSteps.{operation_now, steps_now, all_steps_of}
 use Rattle.object_orders.specs.OneWord.{is_reply}
 use Rattle.log_program.specs.LogWords.{number_of, low_place, high_place, ticket_of, known, is_known, is_first_unfilled, placed_at, is_named_below, known_log}
 
--- A step stores the low word of the operation, which this call hasn't stored yet.
+-- Whether a step stores the low word of the operation of the call under way, which this call hasn't
+-- stored yet.
 abbrev pub is_low_store : ℕ → Local → Object_step → Bool
 is_low_store number l step =
     step.place == low_place number && (step.new == low_of (operation_now l)
     && not (is_known (known (low_place number) (steps_now l))))
 
--- A step stores the high word of the operation, once the low word is stored and the high one isn't
--- yet.
+-- Whether a step stores the high word of the operation of the call under way, once the low word is
+-- stored and while the high word isn't.
 abbrev pub is_high_store : ℕ → Local → Object_step → Bool
 is_high_store number l step =
     step.place == high_place number
     && (step.new == high_of (operation_now l) && (is_known (known (low_place number) (steps_now l))
     && not (is_known (known (high_place number) (steps_now l)))))
 
--- A step exchanges 0 for the call's ticket at the first place of the log that the caller doesn't
--- know to be filled, and leaves a ticket that it finds there. Both words of the operation are
--- stored, and the call has no place in the log yet.
+-- Whether a step tries for a place of the log with the ticket of the call under way. It is at the
+-- first place that the caller doesn't know to be filled, and exchanges 0 for the ticket, or leaves
+-- a ticket that it finds. Both words of the operation are stored, and the call has no place in the
+-- log yet.
 abbrev pub is_exchange : ℕ → ℕ → Local → Object_step → Bool
 is_exchange total number l step =
     not (nat_lt step.place (2 * total))
@@ -35,37 +37,41 @@ is_exchange total number l step =
     && (not (is_known (placed_at total (ticket_of number) (steps_now l)))
     && step.new == (if step.old == 0 then ticket_of number else step.old)))))
 
--- A place is for a word of the operation of a call whose ticket is known to be below the call's
--- own.
+-- Whether an object word, by its place, is one of the operation of a call whose ticket is known to
+-- be below place p of the log, that of a call's own ticket; no where the own ticket isn't placed.
 abbrev pub is_named_before : Option ℕ → ℕ → List Object_step → ℕ → Bool
 is_named_before None total steps place = false
 is_named_before (Some p) total steps place = is_named_below total steps place p
 
--- A step loads a word of the operation of a call whose ticket is known to be below the call's own,
--- once the own ticket is placed.
+-- Whether a step loads, and leaves as it is, a word of the operation of a call whose ticket is
+-- known to be below the own ticket of the call under way, which is placed.
 abbrev pub is_load : ℕ → ℕ → Local → Object_step → Bool
 is_load total number l step =
     step.new == step.old && is_named_before (placed_at total (ticket_of number) (steps_now l)) total
     (all_steps_of l) step.place
 
--- The list of a sequential object after some operations.
+-- The list of a sequential object after some operations, made one after another from a given list
+-- on.
 abbrev pub list_of : (List ℕ → ℕ → List ℕ × ℕ) → List ℕ → List ℕ → List ℕ
 list_of next list [] = list
 list_of next list (operation ∷ operations) = list_of next (next list operation).0 operations
 
--- The reply of a sequential object to an operation after those of a log, where the log is known.
+-- The reply of a sequential object to an operation after those of a log; none where the log isn't
+-- known.
 abbrev pub reply_after : SeqSpec → ℕ → Option (List ℕ) → Option ℕ
 reply_after spec operation None = None
 reply_after spec operation (Some operations) =
     Some (spec.next (list_of spec.next spec.init operations) operation).1
 
--- The reply to an operation whose ticket is at place p of the log, as far as some steps show.
+-- The reply to an operation whose ticket is at place p of the log; none where some steps don't show
+-- all operations of the tickets below p, or the ticket has no place.
 abbrev pub known_reply : SeqSpec → ℕ → ℕ → List Object_step → Option ℕ → Option ℕ
 known_reply spec total operation steps None = None
 known_reply spec total operation steps (Some p) =
     reply_after spec operation (known_log total steps p)
 
--- The steps that a call of a caller may make.
+-- Whether the call under way of caller i may make an object step: it stores a word of its
+-- operation, tries for a place of the log, or loads a word.
 abbrev pub log_may_step : ℕ → ℕ → ℕ → Local → Object_step → Bool
 log_may_step n cap i l step =
     is_low_store (number_of cap i l.published) l step
@@ -73,8 +79,8 @@ log_may_step n cap i l step =
     || (is_exchange (n * cap) (number_of cap i l.published) l step
     || is_load (n * cap) (number_of cap i l.published) l step))
 
--- The reply that a call may get: that of the sequential object after the operations of the tickets
--- below the call's own.
+-- Whether the call under way of caller i may get a reply: that of the sequential object after the
+-- operations of the tickets below the call's own, all of which the caller knows.
 abbrev pub log_may_reply : SeqSpec → ℕ → ℕ → ℕ → Local → ℕ → Bool
 log_may_reply spec n cap i l reply =
     is_reply
@@ -91,6 +97,7 @@ log_program spec n cap =
       may_reply = log_may_reply spec n cap;
     }
 
--- A world of n callers and a cap for the log of a sequential object.
+-- The shape of a world of n callers with at most cap calls each, for the log of a sequential
+-- object.
 abbrev pub log_shape : SeqSpec → ℕ → ℕ → Shape
 log_shape spec n cap = record { callers = n; cap = cap; program = log_program spec n cap }

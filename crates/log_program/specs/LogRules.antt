@@ -15,11 +15,11 @@ use Rattle.log_program.specs.LogProgram.{log_shape}
 abbrev pub total_of : Shape → ℕ
 total_of s = s.callers * s.cap
 
--- The ticket at place p of the log.
+-- The ticket at place p of the log, or 0 where the place is free.
 abbrev pub ticket_at : Shape → World → ℕ → ℕ
 ticket_at s w p = object_word s w (ticket_place (total_of s) p)
 
--- The low word of an operation for 0, and else its high word.
+-- A word of an operation, by a number: the low word for 0, and the high word for any other number.
 abbrev pub half_of : ℕ → ℕ → ℕ
 half_of zero operation = low_of operation
 half_of (suc h) operation = high_of operation
@@ -30,7 +30,7 @@ pub record IsCallOf (s : Shape) (w : World) (i k operation : ℕ) : Type 0 where
   pub few : k < s.cap
   pub there : slice_get (local_of w i).operations k ≡ Some operation
 
--- A place is for a word of the operation of an announced call, and that word is there.
+-- An object word, by its place, is for a word of the operation of an announced call, and has it.
 pub record HoldsOperation (s : Shape) (w : World) (place : ℕ) : Type 0 where
   pub i : ℕ
   pub k : ℕ

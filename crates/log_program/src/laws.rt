@@ -14,7 +14,7 @@ pub fn log_rules_hold()
     ensures tickets { TicketsStay }
 {}
 
-/// A call finds a place in the log: while it has none, some place is free.
+/// A call finds a place in the log: as long as its ticket isn't placed, some place is free.
 pub fn some_place_is_free()
     ensures { SomePlaceIsFree }
 {}

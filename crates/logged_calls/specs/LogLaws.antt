@@ -6,8 +6,8 @@ use Rattle.world_core.specs.Calls.{Made}
 use Rattle.report_lines.specs.Phases.{asked, operations_of, answers_in}
 use Rattle.logged_calls.specs.Logged.{IsLoggedBy}
 
--- Call k of caller i has an entry in a log, after entries of which k are the caller's, and its
--- reply is the answer to the log up to this entry.
+-- Call k of caller i has an entry in the log, before which the log has exactly k entries of this
+-- caller, and its reply is the answer to the log up to its entry.
 pub record IsAnsweredIn (answer : List Entry → ℕ) (log : List Entry)
     (i k op reply : ℕ) : Type 0 where
   pub before : List Entry
@@ -16,8 +16,9 @@ pub record IsAnsweredIn (answer : List Entry → ℕ) (log : List Entry)
   pub number : length (calls_by i before) ≡ k
   pub replied : reply ≡ answer (before ++ entry i op ∷ [])
 
--- An entry after some others is of one of n callers, and is the operation of the next call that
--- this caller asked the object for.
+-- The entry e, which stands after the entries `before`, is of one of n callers. It has the
+-- operation of that caller's first call without an entry in `before`, and the object was asked for
+-- this call.
 pub record IsOfCall (n : ℕ) (phases : ℕ → ℕ) (calls : ℕ → List Made) (before : List Entry)
     (e : Entry) : Type 0 where
   pub caller : e.caller < n
@@ -25,7 +26,8 @@ pub record IsOfCall (n : ℕ) (phases : ℕ → ℕ) (calls : ℕ → List Made)
   pub operation : slice_get (operations_of (calls e.caller))
       (length (calls_by e.caller before)) ≡ Some e.op
 
--- Each answered call has an entry in the log, and was answered from the log up to it.
+-- Each answered call has an entry in the log, and its reply is the answer to the log up to this
+-- entry.
 abbrev pub AnswersComeFromTheLog : Type 0
 AnswersComeFromTheLog =
     (answer : List Entry → ℕ) (n : ℕ) (phases : ℕ → ℕ) (calls : ℕ → List Made)

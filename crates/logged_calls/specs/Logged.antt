@@ -1,4 +1,5 @@
--- Which object answered the calls of n callers: all of them from one log, or each reply by a form.
+-- Which object answered the calls of n callers: all calls from one log, or each with a reply of the
+-- form that its operation has.
 use Rattle.std.specs.Prelude.{◌≡◌, ℕ, ◌<◌, List, take, All}
 use Rattle.shared_log.specs.declared.entry.Entry.{Entry}
 use Rattle.shared_log.specs.Entries.{calls_by}
@@ -18,6 +19,6 @@ pub record IsLoggedBy (answer : List Entry → ℕ) (n : ℕ) (phases : ℕ → 
   pub replies : (i : ℕ) → i < n
       → take (answered (phases i)) (pairs_of answer log i) ≡ answers_in (calls i)
 
--- The reply of each answered call of n callers has this form for its operation.
+-- Each answered call of n callers has an operation and a reply that fit by `form`.
 abbrev pub AreFormed : (ℕ → ℕ → Type 0) → ℕ → (ℕ → List Made) → Type 0
 AreFormed form n calls = (i : ℕ) → i < n → All (λ pair. form pair.0 pair.1) (answers_in (calls i))

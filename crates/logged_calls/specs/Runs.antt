@@ -20,13 +20,13 @@ pub record HaveMadePhases (s : Shape) (operations : ℕ → List ℕ) (phases : 
   pub together : AreTogether s locals
   pub made : (i : ℕ) → i < s.callers → HasMade (operations i) (phases i) (local_at locals i)
 
--- A call under way that was announced and not asked has no object step yet, and to one that was
--- asked and has no view the program allows a reply.
+-- Of each caller: a call under way that was announced and not asked has no object step yet, and for
+-- one that was asked and has no view the program allows the caller some reply.
 abbrev pub HaveAskedInTurn : Shape → (ℕ → ℕ) → List Local → Type 0
 HaveAskedInTurn s phases locals = (i : ℕ) → i < s.callers
     → KeepsAsked s.program i (phases i) (local_at locals i)
 
--- The calls of every run of the log of a sequential object are in one log, and its answers are that
+-- The calls of every run over the log of a sequential object are in one log, whose answers are that
 -- object's, whatever the first list, the transition function, the number of callers and the cap.
 abbrev pub RunsOfLogsAreLogged : Type 0
 RunsOfLogsAreLogged =
@@ -36,16 +36,16 @@ RunsOfLogsAreLogged =
     → HaveAskedInTurn (log_shape spec n cap) phases locals
     → IsLoggedBy (last_reply spec.next spec.init) n phases (λ i. calls_in (local_at locals i))
 
--- In every run of a tally the reply of each answered call is a value exactly to an increment, and
--- else bad.
+-- In every run over a tally the reply to an answered call is a value for an increment, and bad for
+-- anything else.
 abbrev pub RunsOfTalliesAreFormed : Type 0
 RunsOfTalliesAreFormed =
     (n cap : ℕ) (operations : ℕ → List ℕ) (phases : ℕ → ℕ) (locals : List Local)
     → HaveMadePhases (one_word_shape n cap tally) operations phases locals
     → AreFormed IsTallyReply n (λ i. calls_in (local_at locals i))
 
--- In every run of a cell the reply of each answered call is done exactly to a write, a value
--- exactly to the read, and else bad.
+-- In every run over a cell the reply to an answered call is done for a write, a value for the read,
+-- and bad for anything else.
 abbrev pub RunsOfCellsAreFormed : Type 0
 RunsOfCellsAreFormed =
     (n cap : ℕ) (operations : ℕ → List ℕ) (phases : ℕ → ℕ) (locals : List Local)

@@ -5,7 +5,8 @@
 ghost use Rattle.logged_calls.specs.LogLaws.{AnswersComeFromTheLog, EntriesAreOfCalls};
 ghost use Rattle.logged_calls.specs.Runs.{RunsOfLogsAreLogged, RunsOfTalliesAreFormed, RunsOfCellsAreFormed};
 
-/// Each answered call has an entry in the log, and its reply is the answer to the log up to it.
+/// Each answered call has an entry in the log, and its reply is the answer to the log up to this
+/// entry.
 pub fn answers_come_from_the_log()
     ensures { AnswersComeFromTheLog }
 {}
@@ -15,21 +16,21 @@ pub fn entries_are_of_calls()
     ensures { EntriesAreOfCalls }
 {}
 
-/// The calls of every run of a log are in one log, from which all of them were answered: a call
-/// that was announced and not asked isn't in it, and one that was asked is, whether or not its
-/// caller has its record.
+/// The calls of every run over the log of a sequential object are in one log, from which all of
+/// them were answered. A call that was announced and not asked isn't in the log; one that was asked
+/// is, whether or not its caller has its record.
 pub fn runs_of_logs_are_logged()
     ensures { RunsOfLogsAreLogged }
 {}
 
-/// In every run of a tally an answered increment has a value for its reply, and in every run of a
-/// cell an answered write has done and an answered read a value; an operation that the object
-/// doesn't know is answered bad.
+/// In every run over a tally an answered increment has a value for its reply. In every run over a
+/// cell an answered write has `done`, and an answered read a value. An operation that the object
+/// doesn't know is answered `bad`.
 pub fn runs_of_words_are_formed()
-    // In each run of a tally the reply of each answered call is a value exactly to an increment,
-    // and else `bad`.
+    // In each run over a tally the reply to an answered call is a value for an increment, and `bad`
+    // for anything else.
     ensures tallies { RunsOfTalliesAreFormed }
-    // In each run of a cell the reply of each answered call is done exactly to a write, a value
-    // exactly to the read, and else `bad`.
+    // In each run over a cell the reply to an answered call is `done` for a write, a value for the
+    // read, and `bad` for anything else.
     ensures cells { RunsOfCellsAreFormed }
 {}

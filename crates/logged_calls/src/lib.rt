@@ -1,4 +1,5 @@
-//! Which object answered the calls of a run: all of them from one log, or each reply by a form.
+//! Which object answered the calls of a run: all calls from one log, or each with a reply of the
+//! form that its operation has.
 #![tactic(auto)]
 
 pub mod cases;

@@ -17,18 +17,20 @@ use Rattle.monitor.specs.Monitors.{caller_of, local_of, own_of, IsMonitorOf}
 use Rattle.monitor.specs.Watching.{IsFresh}
 
 module _ {P : Type 0} where
-  -- The bench holds a caller with this local, live and idle.
+  -- Bench `b` holds caller i live and idle, with local `l`.
   pub record IsFreeOn (b : Bench P) (i : ℕ) (l : Local) : Type 0 where
     pub here : on_bench b i ≡ Some l
     pub stance : stance_on b i ≡ Some ready
     pub idle : IsIdle l
 
-  -- Caller i is on one bench as it is on the other, with its stance.
+  -- Bench `c` has the local and the stance of caller i that bench `b` has, or neither bench has
+  -- any.
   pub record IsUnmoved (b c : Bench P) (i : ℕ) : Type 0 where
     pub local : on_bench c i ≡ on_bench b i
     pub stance : stance_on c i ≡ stance_on b i
 
-  -- A watch is that of caller i, which had this local, before its first round.
+  -- The watch `w` has made no round: its monitor is caller i with local `l`, belongs to `r` and
+  -- `b`, has found no witness, and may make `most` rounds.
   pub record IsWatchOf (meaning : P → ℕ → ℕ → Meaning) (r : Rows P) (b : Board) (i : ℕ) (l : Local)
       (most : ℕ) (w : Watch P) : Type 0 where
     pub monitor : Monitor P
@@ -38,7 +40,8 @@ module _ {P : Type 0} where
     pub local : local_of monitor ≡ l
     pub rounds : w.rounds ≡ most
 
-  -- A watch is that of caller i, which had this local, after its rounds.
+  -- The watch `w` has made its rounds: its monitor is caller i of the rows `r`, with the progress
+  -- of local `l`, and made at most `most` rounds, unless it lacked memory.
   pub record HasWatchedAs (spec : SeqSpec) (meaning : P → ℕ → ℕ → Meaning) (r : Rows P) (i : ℕ)
       (l : Local) (most : ℕ) (w : Watch P) : Type 0 where
     pub monitor : Monitor P
@@ -49,7 +52,7 @@ module _ {P : Type 0} where
     pub rounds : w.wants_memory ≡ false
         → HasMadeRounds spec r.callers most l (local_of monitor) (own_of monitor)
 
-  -- The monitor of a watch is at hand, and its caller is off the bench.
+  -- The watch `w` has its monitor, whose caller is one of the rows `r` and isn't on the bench `b`.
   pub record IsAtHand (meaning : P → ℕ → ℕ → Meaning) (r : Rows P) (b : Bench P)
       (w : Watch P) : Type 0 where
     pub monitor : Monitor P
@@ -57,8 +60,9 @@ module _ {P : Type 0} where
     pub of : IsMonitorOf meaning r monitor
     pub gone : on_bench b (who_of (caller_of monitor)) ≡ None
 
-  -- The caller of a watch came back to the bench with its local unchanged, live and idle, and
-  -- handed over what it had found.
+  -- From bench `b` to bench `c` the caller of watch `w` came back, live and idle, with its local
+  -- unchanged, and all other callers stayed. `left` has the own witness of the watch's monitor, and
+  -- whether it lacked memory.
   pub record ComesBack (b c : Bench P) (w : Watch P) (left : Left) : Type 0 where
     pub monitor : Monitor P
     pub here : w.monitor ≡ Some monitor
@@ -67,8 +71,9 @@ module _ {P : Type 0} where
     pub wanted : left.wants_memory ≡ w.wants_memory
     pub others : (i : ℕ) → i ≢ who_of (caller_of monitor) → IsUnmoved b c i
 
-  -- Caller i, which had this local, is back on the bench, live and idle: its progress is the same,
-  -- and it made its rounds, unless it wanted memory.
+  -- Caller i, which left the bench with local `l`, is back on it, live and idle, with its progress
+  -- unchanged. Unless it lacked memory, it made its rounds, at most `most`, with the own witness
+  -- that `left` has.
   pub record IsBackFrom (spec : SeqSpec) (n : ℕ) (b : Bench P) (i : ℕ) (l : Local) (most : ℕ)
       (left : Left) : Type 0 where
     pub local : Local

@@ -17,11 +17,11 @@ placed_in c = c.placed
 abbrev pub known_in : Claim → Option Witness
 known_in c = c.note.known
 
--- The note of a claim is one of this board.
+-- A claim belongs to a board: the claim's note is one of that board.
 abbrev pub IsClaimOn : Board → Claim → Type 0
 IsClaimOn b c = c.note.cell ≡ cell_name b.cell
 
--- The notes of two claims are of one board.
+-- Two claims belong to one board.
 abbrev pub AreOnOne : Claim → Claim → Type 0
 AreOnOne c d = c.note.cell ≡ d.note.cell
 
@@ -30,10 +30,10 @@ pub record HasSameFindings (c d : Claim) : Type 0 where
   pub own : own_in d ≡ own_in c
   pub placed : placed_in d ≡ placed_in c
 
--- A witness on the board is known afterwards; it is the one that was known before, where one was.
+-- Afterwards a monitor knows a witness on the board: the one that it knew before, if it knew one.
 abbrev pub Knows : Option Witness → Option Witness → Type 0
 Knows before after = (w : Witness) × (after ≡ Some w) × Agrees before w
 
--- Where both know a witness on the board, they know the same one.
+-- Two monitors agree on the witness on their board: where both know one, they know the same one.
 abbrev pub Agree : Option Witness → Option Witness → Type 0
 Agree known other = (w v : Witness) → known ≡ Some w → other ≡ Some v → w ≡ v

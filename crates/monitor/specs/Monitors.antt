@@ -19,19 +19,19 @@ use Rattle.monitor.specs.declared.round.Round.TheVariants.{Legal, Illegal}
 use Rattle.monitor.specs.Claims.{own_in, placed_in, known_in, IsClaimOn, AreOnOne}
 use Rattle.monitor.specs.Rounds.{HasScannedOnce, IsLegalAt, IsIllegalAt}
 
--- A monitor scanned M once, whatever cut that scan gave.
+-- From local `l` to local `m` a caller scanned M once, whatever cut the scan gave.
 abbrev pub HasScannedSome : Local → Local → Type 0
 HasScannedSome l m = (cut : List ℕ) × HasScannedOnce cut l m
 
--- A monitor scanned M once, and gathered a book at the cut that it was given, at a table of n
--- callers.
+-- From local `l` to local `m` a monitor of a table of n callers scanned M once, and gathered the
+-- book in `g` at the cut that the scan gave.
 pub record HasGathered (n : ℕ) (l m : Local) (g : Gathered) : Type 0 where
   pub once : HasScannedOnce g.cut l m
   pub book : IsGathered n m g.cut g.book
 
--- What a round found, by the caller's local before and after it and by the own witness: either the
--- book at the cut of its one scan has a legal order, and there is no own witness; or that book has
--- none, and is the own witness.
+-- What a round found, by its caller's local before the round (`l`) and after it (`m`). Legal: the
+-- book gathered at the cut of the round's one scan of M has a legal order, and the monitor has no
+-- own witness. Illegal: that book has no legal order, and is the own witness.
 abbrev pub HasFound : SeqSpec → ℕ → Local → Local → Option Witness → Round → Type 0
 HasFound spec n l m own (Legal cut) = HasScannedOnce cut l m × IsLegalAt spec n m cut
     × (own ≡ None)
@@ -45,15 +45,16 @@ abbrev pub IsKeptAfter : ℕ → Round → Option Gathered → Type 0
 IsKeptAfter n (Legal cut) kept = IsSomeAnd kept (λ g. (length g.book ≡ n) × (g.cut ≡ cut))
 IsKeptAfter n (Illegal cut) kept = kept ≡ None
 
--- The counter ticked for a round's scan, at most as often as a scan may take a word, and then once
--- for each word of the round's book that the book kept before lacks.
+-- The counter of steps rose from `ticks` to `ticks'` by at most as many words as a scan of n
+-- callers may take, and by the number of words of the book in `g` that the book kept before lacks.
 pub record TicksForBook (n : ℕ) (before : Option Gathered) (g : Gathered)
     (ticks ticks' : ℕ) : Type 0 where
   pub scan : ℕ
   pub few : scan ≤ most_words n
   pub new : TicksForNew n before g (ticks + scan) ticks'
 
--- The counter ticked for a round's scan and for its book, which is kept after a legal round, and is
+-- In a round the counter of steps rose by the words of the scan, and by the words of the round's
+-- book that the book kept before lacks. The round's book is the kept one after a legal round, and
 -- the own witness after an illegal one.
 abbrev pub TicksForRound : ℕ → Option Gathered → Option Gathered → Option Witness → ℕ → ℕ
     → Round → Type 0
@@ -87,11 +88,11 @@ module _ {P : Type 0} where
   abbrev pub kept_by : Monitor P → Option Gathered
   kept_by m = m.gathered
 
-  -- A monitor is one of this board.
+  -- A monitor belongs to a board.
   abbrev pub IsOn : Board → Monitor P → Type 0
   IsOn b m = IsClaimOn b m.claim
 
-  -- Two monitors are of one board.
+  -- Two monitors belong to one board.
   abbrev pub AreOfOne : Monitor P → Monitor P → Type 0
   AreOfOne m k = AreOnOne m.claim k.claim
 
@@ -101,17 +102,19 @@ module _ {P : Type 0} where
     pub idle : IsIdle (local_with c)
     pub stance : stance_of c ≡ ready
 
-  -- A monitor is a resting caller of these rows, which has gathered the book that it keeps.
+  -- A monitor belongs to these rows: its caller is one of them, live and idle, and has gathered the
+  -- book that the monitor keeps.
   pub record IsMonitorOf (meaning : P → ℕ → ℕ → Meaning) (r : Rows P) (m : Monitor P) : Type 0 where
     pub resting : IsResting meaning r m.caller
     pub gathered : IsGatheredBy (local_with m.caller) m.gathered
 
-  -- A monitor is one of the rows that a caller is of, whichever these are.
+  -- The monitor m belongs to whatever rows the caller c is one of.
   abbrev pub Becomes : Caller P → Monitor P → Type 0
   Becomes c m = (meaning : P → ℕ → ℕ → Meaning) (r : Rows P) → IsCallerOf meaning r c
       → IsMonitorOf meaning r m
 
-  -- The monitor k is m at a later moment: one of these rows and this board, with the number of m.
+  -- The monitor k is m at a later moment: it belongs to these rows and this board, and its caller
+  -- has the number of m's.
   pub record IsLater (meaning : P → ℕ → ℕ → Meaning) (r : Rows P) (b : Board)
       (m k : Monitor P) : Type 0 where
     pub monitor : IsMonitorOf meaning r k

@@ -11,29 +11,32 @@ use Rattle.report_lines.specs.Phases.{progress_of}
 use Rattle.collect_scan.specs.Given.{AddsCut}
 use Rattle.monitor.specs.declared.witness.Witness.{Witness}
 
--- A caller made one scan of M, which gave this cut, and peeked words; its progress is the same.
+-- From local `l` to local `m` a caller made one scan of M, which gave this cut, and peeked words;
+-- its progress is unchanged.
 pub record HasScannedOnce (cut : List ℕ) (l m : Local) : Type 0 where
   pub adds : AddsCut M cut l m
   pub progress : progress_of m ≡ progress_of l
 
 module _ (spec : SeqSpec) (n : ℕ) where
-  -- The book that a caller of n gathered at this cut has a legal order.
+  -- A caller of n with local `l` has gathered a book at this cut that has a legal order.
   pub record IsLegalAt (l : Local) (cut : List ℕ) : Type 0 where
     pub book : List Page
     pub gathered : IsGathered n l cut book
     pub order : HasLegalOrder spec book
 
-  -- The book of this witness is one that a caller of n gathered at its cut, and has no legal order.
+  -- The witness has the book that a caller of n with local `l` gathered at its cut, and this book
+  -- has no legal order.
   pub record IsIllegalAt (l : Local) (w : Witness) : Type 0 where
     pub gathered : IsGathered n l w.cut w.book
     pub none : ¬ HasLegalOrder spec w.book
 
-  -- A scan of M gave this cut, and the book that was gathered at it has a legal order.
+  -- The given cut is that of a legal round: a scan of M gave it, and the book that a caller with
+  -- local `l` gathered at it has a legal order.
   pub record IsLegalRound (l : Local) (given : Given) : Type 0 where
     pub region : given.region ≡ M
     pub legal : IsLegalAt l given.cut
 
-  -- Each of these rounds is legal.
+  -- Each of these given cuts is that of a legal round.
   abbrev pub AreLegal : Local → List Given → Type 0
   AreLegal l rounds = (k : ℕ) (given : Given) → slice_get rounds k ≡ Some given
       → IsLegalRound l given
@@ -46,14 +49,15 @@ module _ (spec : SeqSpec) (n : ℕ) where
     pub legal : AreLegal l before
     pub illegal : IsIllegalAt l w
 
-  -- The rounds of a monitor that may make this many: they are this many, and all legal; or they are
-  -- at most this many, and the last one is illegal, with the own witness.
+  -- The rounds of a monitor that may make `most` of them. Without an own witness there are `most`
+  -- rounds, all legal. With one there are at most `most`, and the last round alone is illegal, with
+  -- this witness.
   abbrev pub AreRounds : ℕ → Local → List Given → Option Witness → Type 0
   AreRounds most l rounds None = (length rounds ≡ most) × AreLegal l rounds
   AreRounds most l rounds (Some w) = (length rounds ≤ most) × EndsIllegal l rounds w
 
-  -- A monitor made its rounds: their cuts follow those that its caller had been given before, and
-  -- the caller's progress is the same.
+  -- From local `l` to local `m` a monitor made its rounds, at most `most`: their cuts follow those
+  -- that its caller had been given before, and its progress is unchanged.
   pub record HasMadeRounds (most : ℕ) (l m : Local) (own : Option Witness) : Type 0 where
     pub rounds : List Given
     pub cuts : m.cuts ≡ l.cuts ++ rounds

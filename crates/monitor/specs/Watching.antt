@@ -18,15 +18,15 @@ module _ {P : Type 0} where
     pub on : IsOn b m
     pub none : own_of m ≡ None
 
-  -- The monitor of a watch is at hand, and has found no witness.
+  -- A watch may begin: it has a monitor of these rows and this board that has found no witness.
   pub record IsReady (meaning : P → ℕ → ℕ → Meaning) (r : Rows P) (b : Board)
       (w : Watch P) : Type 0 where
     pub monitor : Monitor P
     pub here : w.monitor ≡ Some monitor
     pub fresh : IsFresh meaning r b monitor
 
-  -- The monitor m has become k: its progress is the same, and it made its rounds, unless it wanted
-  -- memory.
+  -- The monitor m has become k: its progress is unchanged, and it made its rounds, at most `most`,
+  -- unless it lacked memory (`wanted`).
   pub record HasGoneRound (spec : SeqSpec) (meaning : P → ℕ → ℕ → Meaning) (r : Rows P) (b : Board)
       (most : ℕ) (m k : Monitor P) (wanted : Bool) : Type 0 where
     pub later : IsLater meaning r b m k
@@ -34,7 +34,7 @@ module _ {P : Type 0} where
     pub rounds : wanted ≡ false
         → HasMadeRounds spec r.callers most (local_of m) (local_of k) (own_of k)
 
-  -- The monitor of a watch is back from its rounds.
+  -- The watch `w` has become `d`: its monitor has made its rounds, unless it lacked memory.
   pub record HasWatched (spec : SeqSpec) (meaning : P → ℕ → ℕ → Meaning) (r : Rows P) (b : Board)
       (w d : Watch P) : Type 0 where
     pub before : Monitor P

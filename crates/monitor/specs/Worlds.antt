@@ -23,15 +23,16 @@ published_of locals = map (λ (l : Local). l.published) locals
 abbrev pub published_book : List Local → List Page
 published_book locals = book_at (published_of locals) (book_in locals)
 
--- A witness is the book of these callers' calls at its cut, which they have published, and has no
--- legal order.
+-- A witness is right for the calls of these locals: its cut counts published records alone, and its
+-- book is that of the calls at this cut, and has no legal order.
 pub record IsWitnessOf (spec : SeqSpec) (locals : List Local) (w : Witness) : Type 0 where
   pub published : IsPublished locals w.cut
   pub book : w.book ≡ book_at w.cut (book_in locals)
   pub none : ¬ HasLegalOrder spec w.book
 
--- A round is right for the calls of these locals: its cut is published, and the book at it has a
--- legal order, or the own witness is that book and has none.
+-- What a round found is right for the calls of these locals: its cut counts published records
+-- alone. After a legal round the book at the cut has a legal order. After an illegal round the own
+-- witness is the book at the cut, and has no legal order.
 abbrev pub IsRightRound : SeqSpec → List Local → Option Witness → Round → Type 0
 IsRightRound spec locals own (Legal cut) = IsPublished locals cut
     × HasLegalOrder spec (book_at cut (book_in locals))
@@ -59,8 +60,8 @@ pub record AreJudgedRounds (spec : SeqSpec) (book : List Page) (most : ℕ)
       ⊎ ((last : Given) × (slice_get rounds (length rounds - 1) ≡ Some last)
       × ¬ HasLegalOrder spec (book_at last.cut book))
 
--- The cuts of the rounds that caller i made, which follow the cuts that it had before, are those of
--- rounds over the calls of all callers.
+-- The cuts of the rounds that caller i made follow the cuts that it had before. They are those of
+-- rounds over the book of all callers' calls.
 abbrev pub RoundsAreJudged : Type 0
 RoundsAreJudged =
     (spec : SeqSpec) (s : Shape) (locals : List Local) (i most : ℕ)
@@ -70,7 +71,7 @@ RoundsAreJudged =
     → (rounds : List Given) × ((local_at locals i).cuts ≡ before.cuts ++ rounds)
     × AreJudgedRounds spec (book_in locals) most rounds
 
--- The own witness that rounds of caller i found is a witness of the calls of all callers.
+-- The own witness that rounds of caller i found is right for the calls of all callers.
 abbrev pub OwnIsAWitness : Type 0
 OwnIsAWitness =
     (spec : SeqSpec) (s : Shape) (locals : List Local) (i most : ℕ)
@@ -79,7 +80,8 @@ OwnIsAWitness =
     → HasMadeRounds spec s.callers most before (local_at locals i) (Some w)
     → IsWitnessOf spec locals w
 
--- Where there is a witness, the book of all published records has no legal order.
+-- Where a witness is right for the calls of some locals, the book of all published records has no
+-- legal order.
 abbrev pub WitnessesAreFinal : Type 0
 WitnessesAreFinal =
     (spec : SeqSpec) (s : Shape) (locals : List Local) (w : Witness)

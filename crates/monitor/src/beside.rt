@@ -16,8 +16,8 @@ use std::thread::Threads;
 use work_halves::{Work, work_with_two};
 use world_core::Program;
 
-/// What a monitor leaves: its own witness, whether the board took a copy of it, and whether the
-/// monitor wanted memory.
+/// What a monitor leaves after its rounds: its own witness, whether the board took a copy of that
+/// witness, and whether the monitor lacked memory in a round.
 #[derive(Debug, Drop)]
 pub struct Left {
     pub own: Option<Witness>,
@@ -25,7 +25,7 @@ pub struct Left {
     pub wants_memory: bool,
 }
 
-// Takes a caller off its bench to watch.
+// Takes a caller off its bench, and makes a watch of it that may make `rounds` rounds.
 fn take_off<P: Program>(
     rows: &Rows<P>,
     bench: &mut Bench<P>,
@@ -49,7 +49,7 @@ fn take_off<P: Program>(
     }
 }
 
-// Brings the caller of a watch back to its bench.
+// Brings the caller of a watch back to its bench, and answers what its monitor leaves.
 fn bring_back<P: Program>(rows: &Rows<P>, bench: &mut Bench<P>, watch: Watch<P>) -> Left
     requires bench { IsBenchOf P.meaning rows.now bench.old }
     requires watch { IsAtHand P.meaning rows.now bench.old watch }
@@ -71,7 +71,7 @@ fn bring_back<P: Program>(rows: &Rows<P>, bench: &mut Bench<P>, watch: Watch<P>)
     }
 }
 
-// Lets two watches work while workers work, all side by side.
+// Lets two watches make their rounds while the workers do their work, all side by side.
 fn work_beside<
     R: Threads + Sync,
     C: Sync,
@@ -99,9 +99,10 @@ fn work_beside<
     (first, second)
 }
 
-/// Lets two callers of a bench watch while workers work, all side by side.
+/// Lets callers `one` and `other` of a bench be monitors while the workers do their work, all side
+/// by side.
 ///
-/// All workers have worked when it returns, and both callers are back.
+/// When it returns, all workers are done, and both callers are back on the bench.
 pub fn watch_beside<
     R: Threads + Sync,
     C: Sync,
@@ -120,29 +121,31 @@ pub fn watch_beside<
     other: u32,
     rounds: u64,
 ) -> (Left, Left)
-    // The bench is one of these rows.
+    // The bench is a bench of `rows`.
     requires bench { IsBenchOf P.meaning rows.now bench.old }
-    // Each worker is ready for what the workers share.
+    // Each worker is ready to work with `shared`.
     requires ready { All (λ w. W.ready w shared.now) all.old }
-    // The two callers that watch are different ones.
+    // `one` and `other` are two different callers.
     requires apart { one ≢ other }
     // The bench holds both callers, free for their next calls.
     requires free { HoldsFree bench.old one × HoldsFree bench.old other }
-    // The bench is still one of these rows.
+    // The bench is still a bench of `rows`.
     ensures bench { IsBenchOf P.meaning rows.now bench.new }
     // Each worker has done its work.
     ensures done { AllZip (λ w d. W.done w shared.now d) all.old all.new }
-    // The bench has each other caller as before.
+    // The bench has the local and the stance of each caller but `one` and `other` as before.
     ensures others { (i : ℕ) → i ≢ one → i ≢ other → IsUnmoved bench.old bench.new i }
-    // The one caller is back on the bench, with its progress as before, and made its rounds unless
-    // it wanted memory.
+    // Caller `one` is back on the bench, live and idle, with its progress as before. Unless it
+    // lacked memory, it made `rounds` legal rounds, or at most `rounds` of which the last one
+    // alone is illegal.
     ensures one { (l : Local) → on_bench bench.old one ≡ Some l
         → IsBackFrom (S.spec sequential.now) rows.now.callers bench.new one l rounds result.0 }
-    // The other caller is back on the bench, with its progress as before, and made its rounds
-    // unless it wanted memory.
+    // Caller `other` is back on the bench, live and idle, with its progress as before. Unless it
+    // lacked memory, it made `rounds` legal rounds, or at most `rounds` of which the last one
+    // alone is illegal.
     ensures other { (l : Local) → on_bench bench.old other ≡ Some l
         → IsBackFrom (S.spec sequential.now) rows.now.callers bench.new other l rounds result.1 }
-    // A caller of whose witness the board took a copy has an own witness.
+    // Where the board took a copy of a monitor's own witness, this monitor has an own witness.
     ensures placed { (result.0.placed ≡ true → is_some result.0.own ≡ true)
         × (result.1.placed ≡ true → is_some result.1.own ≡ true) }
 {

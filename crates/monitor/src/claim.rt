@@ -39,7 +39,7 @@ impl Claim {
 
     /// Keeps a witness as the monitor's own, and tries once to put a copy of it on the board.
     ///
-    /// Where memory is wanted, the board isn't tried, and nothing is kept.
+    /// Where memory for the copy is lacking, the witness isn't kept, and the board isn't tried.
     pub fn keep(&mut self, alloc: Global, board: &Board, witness: Witness) -> Result<(), NoMemory>
         requires board { IsClaimOn board.now self.old }
         requires nothing { own_in self.old ≡ None }
@@ -62,14 +62,14 @@ impl Claim {
         self.own.as_ref()
     }
 
-    /// Whether the board took its copy of the own witness.
+    /// Whether the board took a copy of the monitor's own witness.
     pub fn placed(&self) -> bool
         ensures { result ≡ placed_in self.now }
     {
         self.placed
     }
 
-    /// The witness on the board, which is known from then on.
+    /// The witness on the board, if there is one. The claim knows it from then on.
     pub fn known<'a>(&mut self, board: &'a Board) -> Option<&'a Witness>
         requires board { IsClaimOn board.now self.old }
         ensures board { IsClaimOn board.now self.new }

@@ -11,9 +11,11 @@ pub fn rounds_are_right()
 
 /// What the rounds of a watch found is right for the calls of all callers.
 pub fn rounds_are_judged()
-    // The cuts of a watch are those of rounds over the calls of all callers.
+    // At each cut of a watch's rounds but the last, the book of all callers' calls has a legal
+    // order. At the last cut it has none, unless the watch made all rounds that it may make.
     ensures rounds { RoundsAreJudged }
-    // The own witness that a watch left is a witness of all callers' calls.
+    // The own witness that a watch left is the book of all callers' calls at its cut. This cut
+    // counts published records alone, and the book has no legal order.
     ensures own { OwnIsAWitness }
 {}
 

@@ -16,9 +16,9 @@ use world_core::{Outside, Program, Region};
 
 /// A caller that makes no calls: round by round it judges what the others have published.
 ///
-/// It keeps the book that it gathered last, so that a round peeks only what is new. The rounds of a
-/// watch are for one object: each of their searches begins after those places of the last order
-/// that still stand.
+/// It keeps the book that it gathered last, so that a round peeks only the words that this book
+/// lacks. [`Monitor::round_after`], by which a watch makes its rounds, also begins each search
+/// after those places of the last order that still stand.
 #[derive(Drop)]
 pub struct Monitor<P = Outside> {
     caller: Caller<P>,
@@ -44,14 +44,14 @@ impl<P: Program> Monitor<P> {
         requires idle { IsIdle (local_with caller) }
         // The caller makes calls, means to begin no scan, and keeps no reply.
         requires live { stance_of caller ≡ ready }
-        // The monitor is one of each table that the caller is one of.
+        // The monitor belongs to whatever rows `caller` is one of.
         ensures monitor { Becomes caller result }
-        // The monitor has this caller.
+        // The monitor's caller is `caller`.
         ensures caller { caller_of result ≡ caller }
-        // The monitor is one of this board.
+        // The monitor belongs to `board`.
         ensures board { IsOn board.now result }
         // The monitor has no own witness, the board took no copy of one, and the monitor knows no
-        // witness on it.
+        // witness on the board.
         ensures nothing { (own_of result ≡ None) × (placed_by result ≡ false)
             × (known_by result ≡ None) }
     {
@@ -62,10 +62,10 @@ impl<P: Program> Monitor<P> {
         }
     }
 
-    // Makes one scan of M, and gathers the book at the cut that it gave, which grows from the kept
-    // book. It answers the book with what of the kept order stands in it.
+    // Makes one scan of M, and grows the kept book to the one at the scan's cut. It answers that
+    // book, and what of the kept order in `standing` still stands in it.
     //
-    // No book is kept after it.
+    // Afterwards the monitor keeps no book.
     fn look<L: Ledger>(
         &mut self,
         alloc: Global,
@@ -96,8 +96,8 @@ impl<P: Program> Monitor<P> {
 
     /// Scans M, gathers the book at the scan's cut, and judges it (Castañeda and Rodríguez 2023).
     ///
-    /// Where the book has no legal order it is the own witness from then on, and the board is tried
-    /// once with a copy. Where memory is wanted, the board isn't tried.
+    /// A book without a legal order becomes the monitor's own witness, and the monitor tries once
+    /// to put a copy of it on the board. Where memory is lacking, the board isn't tried.
     pub fn round<S: SeqObject, L: Ledger>(
         &mut self,
         alloc: Global,
@@ -106,36 +106,37 @@ impl<P: Program> Monitor<P> {
         board: &Board,
         steps: &mut Steps<L>,
     ) -> Result<Round, NoMemory>
-        // The monitor is one of these rows.
+        // The monitor's caller is one of `rows`, live and idle, and has gathered the kept book.
         requires rows { IsMonitorOf P.meaning rows.now self.old }
-        // The monitor is one of this board.
+        // The monitor belongs to `board`.
         requires board { IsOn board.now self.old }
         // The monitor has no own witness.
         requires none { own_of self.old ≡ None }
-        // The monitor is still one of these rows and of this board, with the same number.
+        // The monitor still belongs to `rows` and `board`, and its caller's number is unchanged.
         ensures later { IsLater P.meaning rows.now board.now self.old self.new }
         // The monitor's caller has scanned M once.
         ensures scanned { HasScannedSome (local_of self.old) (local_of self.new) }
-        // A round is legal exactly with a book at the cut of its scan that has a legal order, and
-        // illegal exactly with one that has none and is the own witness.
+        // After a legal round the book that was gathered at the cut of the round's scan has a legal
+        // order, and the monitor has no own witness. After an illegal round that book has no legal
+        // order, and is the monitor's own witness.
         ensures found { IfOk result (HasFound (S.spec object.now) rows.now.callers
             (local_of self.old) (local_of self.new) (own_of self.new)) }
-        // A monitor with an own witness knows the witness on the board, which is the one that it
-        // knew before, where it knew one.
+        // A monitor that has an own witness afterwards knows a witness on the board: the one that
+        // it knew before, if it knew one.
         ensures known { IfSome (own_of self.new)
             (λ w. Knows (known_by self.old) (known_by self.new)) }
         // The board took a copy of the own witness only where the monitor knew no witness before.
         ensures first { placed_by self.new ≡ true → known_by self.old ≡ None }
-        // After a legal round the monitor keeps its book, at the cut of its scan, and after an
-        // illegal one none.
+        // After a legal round the monitor keeps the book at the cut of the round's scan, and after
+        // an illegal round it keeps no book.
         ensures kept { IfOk result (λ r. IsKeptAfter rows.now.callers r (kept_by self.new)) }
-        // Without an own witness the monitor knows what it knew of the board.
+        // Where the monitor has no own witness afterwards, its knowledge of the board is as before.
         ensures unfound { own_of self.new ≡ None → (known_by self.new ≡ known_by self.old)
             × (placed_by self.new ≡ placed_by self.old) }
         // After want of memory the monitor has no own witness.
         ensures err { OnErr result (own_of self.new ≡ None) }
-        // The counter of steps has risen by what the scan takes, and by the words of the round's
-        // book that the kept one lacks.
+        // The counter of steps has risen by the number of words that the scan took, and by the
+        // number of words of the round's book that the kept book lacks.
         ensures ticks { IfOk result
             (TicksForRound rows.now.callers (kept_by self.old) (kept_by self.new)
             (own_of self.new) steps.old steps.new) }
@@ -146,9 +147,9 @@ impl<P: Program> Monitor<P> {
         self.round_after(alloc, object, rows, board, &mut standing, steps)
     }
 
-    /// Makes a round as [`Monitor::round`] does, with a search that begins after those places of a
-    /// kept order that still stand, for this object. Afterwards `standing` is what stands of an
-    /// order in the book that is kept then.
+    /// Makes a round as [`Monitor::round`] does, but its search begins after those places of the
+    /// kept order in `standing` that still stand. Afterwards `standing` has the legal order of the
+    /// round's book, or nothing where the round was illegal or memory was lacking.
     pub fn round_after<S: SeqObject, L: Ledger>(
         &mut self,
         alloc: Global,
@@ -158,41 +159,43 @@ impl<P: Program> Monitor<P> {
         standing: &mut Option<KeptOrder>,
         steps: &mut Steps<L>,
     ) -> Result<Round, NoMemory>
-        // The monitor is one of these rows.
+        // The monitor's caller is one of `rows`, live and idle, and has gathered the kept book.
         requires rows { IsMonitorOf P.meaning rows.now self.old }
-        // The monitor is one of this board.
+        // The monitor belongs to `board`.
         requires board { IsOn board.now self.old }
         // The monitor has no own witness.
         requires none { own_of self.old ≡ None }
-        // The kept order stands in the book that the monitor keeps, for this object.
+        // The kept order in `standing` stands in the book that the monitor keeps, judged by
+        // `object`.
         requires stands { OrderStandsIn (S.spec object.now) (kept_by self.old) standing.old }
-        // The monitor is still one of these rows and of this board, with the same number.
+        // The monitor still belongs to `rows` and `board`, and its caller's number is unchanged.
         ensures later { IsLater P.meaning rows.now board.now self.old self.new }
         // The monitor's caller has scanned M once.
         ensures scanned { HasScannedSome (local_of self.old) (local_of self.new) }
-        // A round is legal exactly with a book at the cut of its scan that has a legal order, and
-        // illegal exactly with one that has none and is the own witness.
+        // After a legal round the book that was gathered at the cut of the round's scan has a legal
+        // order, and the monitor has no own witness. After an illegal round that book has no legal
+        // order, and is the monitor's own witness.
         ensures found { IfOk result (HasFound (S.spec object.now) rows.now.callers
             (local_of self.old) (local_of self.new) (own_of self.new)) }
-        // A monitor with an own witness knows the witness on the board, which is the one that it
-        // knew before, where it knew one.
+        // A monitor that has an own witness afterwards knows a witness on the board: the one that
+        // it knew before, if it knew one.
         ensures known { IfSome (own_of self.new)
             (λ w. Knows (known_by self.old) (known_by self.new)) }
         // The board took a copy of the own witness only where the monitor knew no witness before.
         ensures first { placed_by self.new ≡ true → known_by self.old ≡ None }
-        // After a legal round the monitor keeps its book, at the cut of its scan, and after an
-        // illegal one none.
+        // After a legal round the monitor keeps the book at the cut of the round's scan, and after
+        // an illegal round it keeps no book.
         ensures kept { IfOk result (λ r. IsKeptAfter rows.now.callers r (kept_by self.new)) }
-        // The order that is kept afterwards stands in the book that the monitor keeps then, for
-        // this object.
+        // The order in `standing` afterwards stands in the book that the monitor keeps then, judged
+        // by `object`.
         ensures stands { OrderStandsIn (S.spec object.now) (kept_by self.new) standing.new }
-        // Without an own witness the monitor knows what it knew of the board.
+        // Where the monitor has no own witness afterwards, its knowledge of the board is as before.
         ensures unfound { own_of self.new ≡ None → (known_by self.new ≡ known_by self.old)
             × (placed_by self.new ≡ placed_by self.old) }
         // After want of memory the monitor has no own witness.
         ensures err { OnErr result (own_of self.new ≡ None) }
-        // The counter of steps has risen by what the scan takes, and by the words of the round's
-        // book that the kept one lacks.
+        // The counter of steps has risen by the number of words that the scan took, and by the
+        // number of words of the round's book that the kept book lacks.
         ensures ticks { IfOk result
             (TicksForRound rows.now.callers (kept_by self.old) (kept_by self.new)
             (own_of self.new) steps.old steps.new) }
@@ -223,26 +226,26 @@ impl<P: Program> Monitor<P> {
         self.claim.own()
     }
 
-    /// Whether the board took its copy of the monitor's own witness.
+    /// Whether the board took a copy of the monitor's own witness.
     pub fn placed(&self) -> bool
         ensures { result ≡ placed_by self.now }
     {
         self.claim.placed()
     }
 
-    /// The witness on the board, which this monitor knows from then on.
+    /// The witness on the board, if there is one. The monitor knows it from then on.
     pub fn known<'a>(&mut self, board: &'a Board) -> Option<&'a Witness>
-        // The monitor is one of this board.
+        // The monitor belongs to `board`.
         requires board { IsOn board.now self.old }
-        // The monitor is still one of this board.
+        // The monitor still belongs to `board`.
         ensures board { IsOn board.now self.new }
         // The monitor keeps its caller.
         ensures caller { caller_of self.new ≡ caller_of self.old }
-        // The monitor's own witness, whether the board took a copy of it, and the book that it
-        // keeps stay.
+        // The monitor's own witness, whether the board took a copy of it, and the book that the
+        // monitor keeps stay as they are.
         ensures findings { (own_of self.new ≡ own_of self.old)
             × (placed_by self.new ≡ placed_by self.old) × (kept_by self.new ≡ kept_by self.old) }
-        // No witness is answered only where the monitor knows none, before and after.
+        // Where no witness is answered, the monitor knows none, before and after.
         ensures none { IfNone result ((known_by self.old ≡ None) × (known_by self.new ≡ None)) }
         // A witness that is answered is known from then on, and is the one that was known before,
         // where one was.
@@ -258,7 +261,7 @@ impl<P: Program> Monitor<P> {
     /// Where both monitors know a witness on their board, they know the same one. It takes no
     /// memory.
     pub fn agree(&mut self, other: &mut Monitor<P>)
-        // The two monitors are of one board.
+        // Both monitors belong to one board.
         requires { AreOfOne self.old other.old }
         // Both monitors stay as they are.
         ensures same { (self.new ≡ self.old) × (other.new ≡ other.old) }

@@ -12,7 +12,8 @@ use std::sync::ledger::{Blank, Ledger};
 use work_halves::Work;
 use world_core::{Outside, Program};
 
-/// What the watches of a table share.
+/// What all watches of a table share: the allocator, the rows, the board, and the sequential object
+/// by which they judge.
 #[derive(Drop)]
 pub struct Watched<'a, S, P: Program = Outside> {
     pub alloc: Global,
@@ -21,15 +22,16 @@ pub struct Watched<'a, S, P: Program = Outside> {
     pub sequential: &'a S,
 }
 
-/// A monitor, how many rounds it may make, and whether it wanted memory in one of them.
+/// A monitor at work, how many rounds it may make, and whether it lacked memory in one of them. The
+/// monitor is `None` only while it makes its rounds.
 pub struct Watch<P = Outside> {
     pub monitor: Option<Monitor<P>>,
     pub rounds: u64,
     pub wants_memory: bool,
 }
 
-// Makes rounds of the monitor, up to the first illegal one, and at most this many. It also answers
-// whether the monitor wanted memory.
+// Lets a monitor make rounds up to the first illegal one, at most `rounds` of them. The flag in
+// the answer says whether a round ended for want of memory.
 fn make_rounds<P: Program, S: SeqObject, L: Ledger>(
     monitor: Monitor<P>,
     shared: &Watched<S, P>,
@@ -59,7 +61,7 @@ fn make_rounds<P: Program, S: SeqObject, L: Ledger>(
     (monitor, false)
 }
 
-// Makes the rounds of a monitor with a counter made of this blank.
+// Makes the rounds of a monitor, with a counter of steps that is made from `blank`.
 fn make_counted<P: Program, S: SeqObject, L: Ledger>(
     monitor: Monitor<P>,
     shared: &Watched<S, P>,
@@ -75,7 +77,7 @@ fn make_counted<P: Program, S: SeqObject, L: Ledger>(
     make_rounds(monitor, shared, rounds, &mut steps)
 }
 
-// Makes the rounds of a monitor with a counter of its own.
+// Makes the rounds of a monitor, with a counter of steps that this function makes.
 fn make_alone<P: Program, S: SeqObject>(
     monitor: Monitor<P>,
     shared: &Watched<S, P>,

@@ -11,7 +11,7 @@ pub struct Witness {
 }
 
 impl Witness {
-    /// An equal witness.
+    /// A copy of the witness, equal to it.
     pub fn copy(&self, alloc: Global) -> Result<Witness, NoMemory>
         ensures { IfOk result (λ copy. copy ≡ self.now) }
     {

@@ -12,7 +12,8 @@ use monitor::Witness;
 use seq_objects::Kind;
 use std::alloc::Global;
 
-/// Writes the text of an answer. All of the text is built before its first byte is written.
+/// Writes the text of the answer of a monitored run. All of the text is built before its first byte
+/// is written.
 pub(crate) fn write_answer<K: Sink>(
     alloc: Global,
     kind: Kind,
@@ -31,7 +32,7 @@ pub(crate) fn write_answer<K: Sink>(
     }
 }
 
-/// The status that comes with an answer.
+/// The status that comes with the answer of a monitored run: `Found` where there is a witness.
 fn status_of(answer: &Option<Witness>) -> Status
     ensures { result ≡ status_of answer.now }
 {
@@ -41,7 +42,7 @@ fn status_of(answer: &Option<Witness>) -> Status
     }
 }
 
-/// The text of an answer.
+/// The text of the answer of a monitored run.
 fn answer_text(alloc: Global, kind: Kind, answer: &Option<Witness>) -> Result<Vec<u8>, NoMemory>
     ensures { IfOk result (λ text. IsAnswerText kind answer.now text.items) }
 {

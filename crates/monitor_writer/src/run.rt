@@ -25,10 +25,10 @@ use std::alloc::Global;
 use std::thread::Threads;
 use world_core::{Outside, Program};
 
-/// Runs all callers of a script over any object behind the trait, each in a thread of its own where
-/// one can be had: none judges a call, and two monitors judge beside them what is published
-/// (Castañeda and Rodríguez 2023). It writes `legal` where the book of all published records has a
-/// legal order for the script's kind, and else `illegal` and the text of a witness.
+/// Runs all callers of a script over an object under test, each in a thread of its own where one
+/// can be had. The callers judge no call; beside them two monitors judge what is published
+/// (Castañeda and Rodríguez 2023). Writes `legal` where the book of all published records has a
+/// legal order for the script's kind, and otherwise `illegal` and the text of a witness.
 ///
 /// The bench holds two callers more than the script has, all unused, and each of the script's
 /// callers has its pass of the object, unused too; afterwards the bench holds them all again, and
@@ -49,23 +49,23 @@ where
     // script; the bench is that of the rows and holds each of these callers, ready and idle,
     // without a call.
     requires begins { MayBegin ⟦<Outside as Program>⟧.meaning script.now 2 rows.now bench.old }
-    // There is a pass of the object's own for each caller of the script, in order, with which no
-    // call was made, and which has a call for each operation of its caller.
+    // For each caller of the script, in order, there is a pass of the object's own. No call was
+    // made with it, and it may make a call for each operation of its caller.
     requires passes { AreUnusedPasses (B.is_own object.now) B.Pass.caller B.Pass.made B.Pass.cap
         script.now.operations passes.old.items }
 
-    // Whatever the answer, the bench is still one of these rows, and holds all their callers.
+    // Whatever the answer, the bench still belongs to these rows, and holds all their callers.
     ensures bench { IsBenchOf ⟦<Outside as Program>⟧.meaning rows.now bench.new
         × HoldsAll bench.new }
     // There is one pass for each caller of the script.
     ensures all_passes { vec_len passes.new ≡ length script.now.operations }
     // The list of passes has at least the capacity that it had.
     ensures capacity { vec_capacity passes.old ≤ vec_capacity passes.new }
-    // Each pass is one of this object's, and that of its caller, in order.
+    // Each pass is the object's own, and the pass of the caller at its place.
     ensures passes { AreInOrder (IsOwnPass (B.is_own object.now) B.Pass.caller) passes.new.items }
-    // Each caller of the script is back on the bench with its pass, and has made a prefix of its
-    // phases: at most as many as the script gives it; its pass counts those of its calls that were
-    // asked.
+    // Each caller of the script is back on the bench with its pass, and has made the first phases
+    // of its calls, at most as many as the script gives it. Its pass counts those of its calls for
+    // which the object was asked.
     ensures back { (i : ℕ) → i < length script.now.operations → IsBackOn
         ⟦<Outside as Program>⟧.meaning rows.now (fits_own (B.is_own object.now) B.Pass.caller)
         (own_count B.Pass.made B.Pass.cap B.Pass.told) script.now.operations
@@ -74,41 +74,43 @@ where
     // Both monitors are back on the bench, ready and idle, without a call.
     ensures monitors { (i : ℕ) → IsMonitor script.now i → IsUnused bench.new i }
 
-    // Want of memory aside, each caller of the script has made exactly the phases that the script
-    // gives it, and no monitor has made a call.
+    // Unless the status is `NoMemory`, each caller of the script has made exactly the phases that
+    // the script gives it, and no monitor has made a call.
     ensures made { ¬ (result ≡ Status.NoMemory) → HaveMadeAll script.now (locals_on bench.new) }
-    // Want of memory aside, each caller of the script whose allotment ends between two calls, or
-    // after all of them, is free for its next call.
+    // Unless the status is `NoMemory`, each caller of the script whose allotment ends between two
+    // calls, or after all of them, is free for its next call.
     ensures free { ¬ (result ≡ Status.NoMemory) → AreFreeAgain script.now bench.new }
-    // Want of memory aside, the object was asked with each pass for exactly the calls that the
-    // script lets its caller ask. What the pass tells, where it tells anything, begins with the
-    // operations and the replies of the caller's records, and is at most one pair longer.
+    // Unless the status is `NoMemory`, the object was asked with each pass for exactly the calls
+    // that the script lets its caller ask. The told list of the pass, where it has one, begins with
+    // the operations and the replies of the caller's records, and has at most one pair more.
     ensures told { ¬ (result ≡ Status.NoMemory)
         → AreInOrder
         (IsToldAll B.Pass.made B.Pass.told script.now (locals_on bench.new)) passes.new.items }
-    // Want of memory aside, the cuts that each monitor was given in this run are those of its
-    // rounds over the calls of all callers. There are at most as many as the script has calls, and
-    // one more. At each cut but the last the book has a legal order. Where there are fewer cuts
-    // than that, the book at the last one has no legal order.
+    // Unless the status is `NoMemory`, the cuts that each monitor was given in this run are those
+    // of its rounds over the calls of all callers. Their number is at most the number of the
+    // script's calls plus 1. At each cut but the last the book has a legal order. Where the number
+    // of cuts is less than that, the book at the last cut has no legal order.
     ensures rounds { ¬ (result ≡ Status.NoMemory) → (i : ℕ) (l : Local) → IsMonitor script.now i
         → on_bench bench.old i ≡ Some l
         → HasMonitored (kind_spec script.now.kind) script.now (locals_on bench.new) i l }
 
-    // The headline: what was written, with each status, is right for the locals on the bench.
+    // The returned status and the text written are right for the records that the locals on the
+    // bench have published. After a failed write only a part of the text is written, and without
+    // memory nothing is.
     ensures ends { EndsWriting (IsMonitorText script.now.kind (locals_on bench.new))
         result (K.taken sink.old) (K.taken sink.new) }
 
-    // Where the book of all published records has no legal order, the status is `Found`, failed
-    // writes and want of memory aside.
+    // Where the book of all published records has no legal order, the status is `Found`,
+    // `WriteFault` or `NoMemory`.
     ensures found { ¬ HasLegalRecords script.now.kind (locals_on bench.new)
         → (result ≡ Status.Found) ⊎ (result ≡ Status.WriteFault) ⊎ (result ≡ Status.NoMemory) }
-    // Where the book of all published records has a legal order, the status is `Fine`, failed
-    // writes and want of memory aside.
+    // Where the book of all published records has a legal order, the status is `Fine`, `WriteFault`
+    // or `NoMemory`.
     ensures fine { HasLegalRecords script.now.kind (locals_on bench.new)
         → (result ≡ Status.Fine) ⊎ (result ≡ Status.WriteFault) ⊎ (result ≡ Status.NoMemory) }
 
-    // The status is `WriteFault` only where the sink's count of faults rose in this call, and
-    // another one only where that count stayed; with `NoMemory` the sink is as it was.
+    // With the status `WriteFault` the sink's count of faults rose in this call; with any other
+    // status the count stayed as it was. With `NoMemory` the whole sink stayed as it was.
     ensures faults { LeavesSink K.faults result sink.old sink.new }
 {
     let kind = script.kind();

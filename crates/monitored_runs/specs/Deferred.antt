@@ -13,7 +13,7 @@ abbrev pub HavePage : List Line → Local → Type 0
 HavePage own l = page_with (map made_of own) ≡ page_with (calls_in l)
 
 -- A client made all phases of its allotment, whatever the replies to its calls, and its lines have
--- its page.
+-- the operations and the records of its calls.
 pub record HasDeferred (operations : List ℕ) (allotment p : ℕ) (l : Local)
     (own : List Line) : Type 0 where
   pub page : HavePage own l
@@ -21,7 +21,7 @@ pub record HasDeferred (operations : List ℕ) (allotment p : ℕ) (l : Local)
   pub made : HasMade operations allotment l
 
 -- Each client whose calls end without a judgement makes all phases of its allotment, and its lines
--- have its page.
+-- have the operations and the records of its calls.
 abbrev pub DeferringClientsMakeAll : Type 0
 DeferringClientsMakeAll =
     (object : SeqSpec) (n : ℕ) (operations : List ℕ) (allotment p : ℕ) (l : Local)
@@ -29,7 +29,8 @@ DeferringClientsMakeAll =
     → HasLeftAt (SaysDeferred object) n operations allotment p l own
     → HasDeferred operations allotment p l own
 
--- The lines of each caller have its page. A monitor has no line and no call.
+-- There is a list of lines for each local, with the operations and the records of its calls. The
+-- list of a monitor, which makes no call, is empty.
 pub record HavePages (locals : List Local) (lines : List (List Line)) : Type 0 where
   pub as_many : length lines ≡ length locals
   pub pages : (i : ℕ) → i < length lines → HavePage (lines_at lines i) (local_at locals i)

@@ -44,15 +44,16 @@ pub record HaveMadeAll (plan : Plan) (locals : List Local) : Type 0 where
       (slice_index (run_allotments plan) i) (local_at locals i)
   pub none : (i : ℕ) → IsMonitor plan i → progress_of (local_at locals i) ≡ no_progress
 
--- What the pass of caller i counts, where it counts its calls: exactly the calls of the caller's
--- allotment; and it tells, where it tells anything, an operation and a reply for each of them.
+-- The pass of caller i, where it counts calls, counts exactly those that the caller's allotment
+-- lets it ask the object for. Where it tells calls, it tells an operation and a reply for each of
+-- them.
 abbrev pub IsCountedAll : {T : Type 0} → (T → Option PassCount) → Plan → List Local → ℕ → T → Type 0
 IsCountedAll count plan locals i pass =
     IfSome (count pass) (IsCountOf (slice_index (run_allotments plan) i) (local_at locals i))
 
--- With the pass of caller i the object was asked exactly for the calls of the caller's allotment.
--- What the pass tells, where it tells anything, begins with the operations and the replies of the
--- caller's records, and is at most one pair longer.
+-- With the pass of caller i just as many calls were made as the caller's allotment lets it ask the
+-- object for. What the pass tells, where it tells anything, begins with the operations and the
+-- replies of the caller's records, and is at most one pair longer.
 pub record IsToldAll {T : Type 0} (made : T → ℕ) (told : T → Option (List (ℕ × ℕ))) (plan : Plan)
     (locals : List Local) (i : ℕ) (pass : T) : Type 0 where
   pub asked_for : made pass ≡ asked (slice_index (run_allotments plan) i)
@@ -60,8 +61,8 @@ pub record IsToldAll {T : Type 0} (made : T → ℕ) (told : T → Option (List 
       (IsTold (slice_index (run_allotments plan) i) (calls_in (local_at locals i)))
 
 module _ (spec : SeqSpec) where
-  -- The cuts that monitor i was given, after those that it had in this local, are those of its
-  -- rounds over the calls of all callers.
+  -- The cuts that monitor i was given, after those of its local `before`, are those of its rounds
+  -- over the calls of all callers.
   abbrev pub HasMonitored : Plan → List Local → ℕ → Local → Type 0
   HasMonitored plan locals i before =
       (rounds : List Given) × ((local_at locals i).cuts ≡ before.cuts ++ rounds)
@@ -75,8 +76,8 @@ module _ {P : Type 0} where
       (i : ℕ) → i < length plan.operations → slice_index (run_allotments plan) i % 5 ≡ 0
       → stance_on b i ≡ Some fresh_stance
 
-  -- Caller i, which had this local, is on the bench after its rounds, which found this own witness
-  -- or none.
+  -- Caller i is back on the bench after rounds, at most `most`, that began with the local `before`
+  -- and found this own witness, or none.
   pub record HasWatched (spec : SeqSpec) (n : ℕ) (b : Bench P) (i : ℕ) (before : Local) (most : ℕ)
       (own : Option Witness) : Type 0 where
     pub local : Local

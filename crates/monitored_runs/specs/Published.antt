@@ -27,8 +27,9 @@ PublishedRecordsAreInTheBook =
     → (length (published_of locals) ≡ length (book_in locals))
     × IsWithin (published_of locals) (answered (book_in locals))
 
--- The answer on these callers' calls is right: where it is no witness, the book of all published
--- records has a legal order; and a witness is one of these calls.
+-- The answer on these callers' calls is right. Where it is no witness, the book of all published
+-- records has a legal order. A witness is the book of the calls at a cut that counts published
+-- records alone, and has no legal order.
 abbrev pub IsAnswer : SeqSpec → List Local → Option Witness → Type 0
 IsAnswer spec locals None = HasLegalOrder spec (published_book locals)
 IsAnswer spec locals (Some w) = IsWitnessOf spec locals w
@@ -39,7 +40,8 @@ pub record IsExactAnswer (spec : SeqSpec) (locals : List Local)
   pub is : IsAnswer spec locals answer
   pub exact : (answer ≡ None) ↔ HasLegalOrder spec (published_book locals)
 
--- Each answer is exact, and so is the judgement of the book of all published records.
+-- A right answer says exactly whether the book of all published records has a legal order, and so
+-- does a judgement of that book.
 abbrev pub AnswersAreExact : Type 0
 AnswersAreExact =
     (spec : SeqSpec) (s : Shape) (locals : List Local)

@@ -19,8 +19,8 @@ pub(crate) fn most_rounds(script: &Script) -> u64
     calls + 1
 }
 
-/// How many records each caller of a script publishes where it makes all phases that the script
-/// gives it, and none for the two monitors.
+/// How many records each caller of a script publishes if it makes all phases that the script gives
+/// it, and after these counts two of 0, for the two monitors.
 pub(crate) fn published_counts(script: &Script) -> Cut
     requires { length script.now.operations + 2 ≤ MAX_CALLERS }
     ensures { result ≡ published_for script.now }

@@ -9,7 +9,7 @@ pub fn deferring_clients_make_all()
     ensures { DeferringClientsMakeAll }
 {}
 
-/// Lines with the calls and the records of all callers have the callers' book.
+/// The book of lines that have the calls and the records of all callers is the callers' book.
 pub fn lines_are_the_book()
     ensures { LinesAreTheBook }
 {}

@@ -8,7 +8,8 @@ use frontier_check::{Verdict, check};
 use monitor::Witness;
 use std::alloc::Global;
 
-/// Judges the book at a cut: the answer is a witness, where this book has no legal order.
+/// Judges the book at a cut of `book`. The answer is a witness where the book at the cut has no
+/// legal order, and `None` where it has one.
 pub fn judge_at<S: SeqObject>(
     alloc: Global,
     object: &S,
@@ -19,6 +20,8 @@ pub fn judge_at<S: SeqObject>(
     requires wide { length cut.now ≡ length book.now }
     // Each record that the cut holds is in the book.
     requires within { IsWithin cut.now (answered book.now) }
+    // The answer is the book at the cut where this has no legal order, and no witness where it has
+    // one.
     ensures { IfOk result (IsJudgedAt (S.spec object.now) book.now cut.now) }
 {
     let part = book.at(alloc, cut)?;

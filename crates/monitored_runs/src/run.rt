@@ -30,8 +30,8 @@ use std::alloc::Global;
 use std::thread::Threads;
 use world_core::{Outside, Program};
 
-// The witness of which the board took a copy, where a monitor has one, else one that a monitor
-// found.
+// A witness that one of two monitors left, if one did. Where the board took a copy of a monitor's
+// witness, it is that one.
 fn found_by(one: Left, other: Left) -> Option<Witness>
     ensures { IfSome result (λ w. (one.own ≡ Some w) ⊎ (other.own ≡ Some w)) }
 {
@@ -57,7 +57,7 @@ fn add_monitors(alloc: Global, lines: &mut Vec<Own>) -> Result<(), NoMemory>
     Ok(())
 }
 
-// Judges once the book of the lines of all callers, at what they have published.
+// Judges the book of the lines of all callers, at the cut of the records that they have published.
 fn judge_lines<S: SeqObject>(
     alloc: Global,
     sequential: &S,
@@ -78,16 +78,15 @@ fn judge_lines<S: SeqObject>(
     judge_at(alloc, sequential, &book, &published_counts(script))
 }
 
-/// Runs all callers of a script, each in a thread of its own where one can be had, whatever object
-/// they ask and wherever it is: none judges a call. Beside them two monitors, the two callers after
-/// the script's, make rounds over what is published, each until one is illegal, and at most one
-/// more than the script has calls.
+/// Runs all callers of a script, each in a thread of its own where one can be had. They ask an
+/// object, inside the world or outside it, and none judges a call. Beside them two monitors, the
+/// two callers after the script's, make rounds over what is published. Each makes rounds until one
+/// is illegal, and at most one more than the script has calls.
 ///
-/// The answer is a witness exactly where the book of all published records has no legal order,
-/// whoever found it, and each caller whose allotment ends between two calls, or after all of them,
-/// is then free for its next call. Whatever the answer, the bench holds all callers again, and the
-/// passes are in their order. Want of memory is answered before the first call, or where a
-/// judgement wanted it.
+/// The answer is a witness exactly where the book of all published records has no legal order.
+/// With an answer each caller whose allotment ends between two calls, or after all of them, is free
+/// for its next call. Whatever the answer, the bench holds all callers again, and the passes are in
+/// their order. `NoMemory` is answered before the first call, or where a judgement lacked memory.
 pub fn monitor_asked<
     R: Threads + Sync,
     P: Program + Send + Sync,
@@ -103,30 +102,30 @@ pub fn monitor_asked<
     passes: &mut Vec<T>,
     script: &Script,
 ) -> Result<Option<Witness>, NoMemory>
-    // These rows are those whose callers may ask the object.
+    // The callers of the shared rows may ask the object.
     requires serves { A.serves shared.now.asks.now shared.now.rows.now }
-    // The rows have just the script's callers and two more, and capacity for the calls of the
-    // script; the bench is that of the rows and holds each of these callers, ready and idle,
+    // The shared rows have just the script's callers and two more, and capacity for the script's
+    // calls. The bench is a bench of these rows, and holds each of these callers, live and idle,
     // without a call.
     requires begins { MayBegin P.meaning script.now 2 shared.now.rows.now bench.old }
-    // There is a pass for each caller of the script, in order, which fits the caller; where it
-    // counts calls, none was made with it, and it has one for each operation.
+    // There is a pass for each caller of the script, in order, which fits the caller. Where it
+    // counts calls, none was made with it, and one may be made for each operation of the caller.
     requires passes { AreFreshPasses shared.now.rows.now (A.fits shared.now.asks.now) A.count
         script.now.operations passes.old.items }
-    // Whatever the answer, the bench is still one of these rows, and holds all their callers.
+    // Whatever the answer, the bench is still a bench of the shared rows, and holds each caller.
     ensures bench { IsBenchOf P.meaning shared.now.rows.now bench.new × HoldsAll bench.new }
     // There is one pass for each caller of the script.
     ensures all_passes { vec_len passes.new ≡ length script.now.operations }
     // The list of passes has at least the capacity that it had.
     ensures capacity { vec_capacity passes.old ≤ vec_capacity passes.new }
     // Each caller of the script is back on the bench with its pass, which fits it, and has made a
-    // prefix of its phases: at most as many as the script gives it; where the pass counts calls, it
-    // counts those that were asked.
+    // prefix of its phases: at most as many as the script gives it. A pass that counts calls counts
+    // those that the object was asked for.
     ensures back { (i : ℕ) → i < length script.now.operations
         → IsBackOn P.meaning shared.now.rows.now
         (A.fits shared.now.asks.now) A.count script.now.operations (run_allotments script.now)
         bench.new passes.new.items i }
-    // Both monitors are back on the bench, ready and idle, without a call.
+    // Both monitors are back on the bench, live and idle, without a call.
     ensures monitors { (i : ℕ) → IsMonitor script.now i → IsUnused bench.new i }
     // Where an answer is given, each caller of the script has made exactly the phases that the
     // script gives it, and no monitor has made a call.
@@ -134,8 +133,9 @@ pub fn monitor_asked<
     // With an answer each caller of the script whose allotment ends between two calls, or after all
     // of them, is free for its next call.
     ensures free { IfOk result (λ _. AreFreeAgain script.now bench.new) }
-    // With an answer each pass that counts calls counts exactly those that the script lets its
-    // caller ask, and tells, where it tells anything, an operation and a reply for each of them.
+    // With an answer each pass that counts calls counts exactly those that the script's allotments
+    // let its caller ask the object for. Where it tells calls, it tells an operation and a reply
+    // for each of them.
     ensures counted { IfOk result
         (λ _. AreInOrder (IsCountedAll A.count script.now (locals_on bench.new)) passes.new.items) }
     // With an answer the cuts that each monitor was given in this run are those of its rounds over
@@ -159,14 +159,14 @@ pub fn monitor_asked<
 }
 
 /// Runs all callers of a script over an object under test, each in a thread of its own where one
-/// can be had: none judges a call. Beside them two monitors, the two callers after the script's,
-/// make rounds over what is published (Castañeda and Rodríguez 2023), each until one is illegal,
-/// and at most one more than the script has calls. The rows have two callers more than the script,
-/// and there is a pass for each of the script's.
+/// can be had, and none judges a call. Beside them two monitors, the two callers after the
+/// script's, make rounds over what is published (Castañeda and Rodríguez 2023). Each makes rounds
+/// until one is illegal, and at most one more than the script has calls. The rows have two callers
+/// more than the script, and there is a pass for each of the script's.
 ///
-/// The answer is a witness exactly where the book of all published records has no legal order,
-/// whoever found it. Whatever the answer, the bench holds all callers again, and the passes are in
-/// their order. Want of memory is answered before the first call, or where a judgement wanted it.
+/// The answer is a witness exactly where the book of all published records has no legal order.
+/// Whatever the answer, the bench holds all callers again, and the passes are in their order.
+/// `NoMemory` is answered before the first call, or where a judgement lacked memory.
 pub fn monitor_over<R: Threads + Sync, S: SeqObject + Sync, B: BlackBox + Sync>(
     rt: &R,
     alloc: Global,
@@ -179,15 +179,15 @@ pub fn monitor_over<R: Threads + Sync, S: SeqObject + Sync, B: BlackBox + Sync>(
 ) -> Result<Option<Witness>, NoMemory>
 where
     B::Pass: Send,
-    // The rows have just the script's callers and two more, and capacity for the calls of the
-    // script; the bench is that of the rows and holds each of these callers, ready and idle,
-    // without a call.
+    // The rows have just the script's callers and two more, and capacity for the script's calls.
+    // The bench is a bench of the rows, and holds each of these callers, live and idle, without a
+    // call.
     requires begins { MayBegin ⟦<Outside as Program>⟧.meaning script.now 2 rows.now bench.old }
-    // There is a pass of the object's own for each caller of the script, in order, with which no
-    // call was made, and which has a call for each operation of its caller.
+    // There is a pass of the object's own for each caller of the script, in order. No call was made
+    // with it, and one may be made for each operation of its caller.
     requires passes { AreUnusedPasses (B.is_own object.now) B.Pass.caller B.Pass.made B.Pass.cap
         script.now.operations passes.old.items }
-    // Whatever the answer, the bench is still one of these rows, and holds all their callers.
+    // Whatever the answer, the bench is still a bench of `rows`, and holds each of their callers.
     ensures bench { IsBenchOf ⟦<Outside as Program>⟧.meaning rows.now bench.new
         × HoldsAll bench.new }
     // There is one pass for each caller of the script.
@@ -195,16 +195,16 @@ where
     // The list of passes has at least the capacity that it had.
     ensures capacity { vec_capacity passes.old ≤ vec_capacity passes.new }
     // Each caller of the script is back on the bench with its pass, and has made a prefix of its
-    // phases: at most as many as the script gives it; its pass counts those of its calls that were
-    // asked.
+    // phases: at most as many as the script gives it. Its pass counts the calls that the object was
+    // asked for.
     ensures back { (i : ℕ) → i < length script.now.operations → IsBackOn
         ⟦<Outside as Program>⟧.meaning rows.now (fits_own (B.is_own object.now) B.Pass.caller)
         (own_count B.Pass.made B.Pass.cap B.Pass.told) script.now.operations
         (run_allotments script.now)
         bench.new passes.new.items i }
-    // Each pass is one of this object's, and that of its caller, in order.
+    // Each pass is one of the object's own, and pass i is that of caller i.
     ensures passes { AreInOrder (IsOwnPass (B.is_own object.now) B.Pass.caller) passes.new.items }
-    // Both monitors are back on the bench, ready and idle, without a call.
+    // Both monitors are back on the bench, live and idle, without a call.
     ensures monitors { (i : ℕ) → IsMonitor script.now i → IsUnused bench.new i }
     // Where an answer is given, each caller of the script has made exactly the phases that the
     // script gives it, and no monitor has made a call.
@@ -212,18 +212,19 @@ where
     // With an answer each caller of the script whose allotment ends between two calls, or after all
     // of them, is free for its next call.
     ensures free { IfOk result (λ _. AreFreeAgain script.now bench.new) }
-    // With an answer the object was asked with each pass for exactly the calls that the script lets
-    // its caller ask. What the pass tells, where it tells anything, begins with the operations and
-    // the replies of the caller's records, and is at most one pair longer.
+    // With an answer just as many calls were made with each pass as the script's allotments let its
+    // caller ask the object for. What the pass tells, where it tells anything, begins with the
+    // operations and the replies of the caller's records, and is at most one pair longer.
     ensures told { IfOk result (λ _. AreInOrder
         (IsToldAll B.Pass.made B.Pass.told script.now (locals_on bench.new)) passes.new.items) }
     // With an answer the cuts that each monitor was given in this run are those of its rounds over
-    // the calls of all callers.
+    // the calls of all callers. There are at most as many as the script has calls, and one more. At
+    // each cut but the last the book has a legal order. Where there are fewer cuts than that, the
+    // book at the last one has no legal order.
     ensures rounds { IfOk result
         (λ _. (i : ℕ) (l : Local) → IsMonitor script.now i → on_bench bench.old i ≡ Some l
         → HasMonitored (S.spec sequential.now) script.now (locals_on bench.new) i l) }
-    // The answer is no witness exactly where the book of all published records has a legal order,
-    // and else a witness.
+    // An answer is a witness exactly where the book of all published records has no legal order.
     ensures answer { IfOk result (IsExactAnswer (S.spec sequential.now) (locals_on bench.new)) }
 {
     passes_are_fresh(rows, object, passes, script);

@@ -23,7 +23,8 @@ use std::alloc::Global;
 use std::thread::Threads;
 use world_core::Program;
 
-// Lets all workers of a list work, and beside them two callers of the bench watch.
+// Lets all workers of a list make their phases, and beside them callers `one` and `one + 1` of the
+// bench make rounds.
 fn watch_in<
     'a,
     R: Threads + Sync,
@@ -71,13 +72,12 @@ fn watch_in<
 }
 
 /// Lets each caller make the phases that a script gives it, each in a thread of its own where one
-/// can be had, while two further callers make rounds, each until one is illegal, and at most this
-/// many. All callers come back to their bench, and all passes to their list, in order, whatever the
-/// answer.
+/// can be had, while the two callers after the script's make rounds, each until one is illegal, and
+/// at most `rounds`. Whatever the answer, all callers come back to their bench, and all passes to
+/// their list, in order.
 ///
-/// The answer is the lines of each of the script's callers, in order, and what the two further
-/// callers found. Want of memory is answered before anything is done, or where it was wanted in a
-/// round.
+/// The answer is the lines of each of the script's callers, in order, and what the two monitors
+/// left. `NoMemory` is answered before anything is done, or where a round lacked memory.
 pub(crate) fn watch_all<
     'a,
     R: Threads + Sync,

@@ -1,4 +1,4 @@
--- What is written of a run that opens the table of rows itself and that two monitors watch.
+-- What is written of a run that opens its own table of rows and that two monitors watch.
 use Rattle.std.specs.Prelude.{ℕ, ◌+◌, List, Option, length, slice_index}
 use Rattle.seq_objects.specs.declared.kind.Kind.{Kind}
 use Rattle.world_core.specs.Local.{Local}
@@ -12,12 +12,12 @@ use Rattle.monitor_writer.specs.MonitorTexts.{IsMonitorText}
 use Rattle.run_report.specs.Reporting.{outside_shape}
 use Rattle.named_runs.specs.NamedObjects.{AreTold, IsOfBehaviour}
 
--- How many phases a caller of a plan makes; the monitors, which come after the plan's callers, make
--- none.
+-- How many phases caller `i` of a plan makes in a run; 0 for the monitors, which come after the
+-- plan's callers.
 abbrev pub phases_in : Plan → ℕ → ℕ
 phases_in plan i = slice_index (run_allotments plan) i
 
--- The calls of a caller with one of these locals.
+-- The calls of caller `i` that its local among `locals` records.
 abbrev pub calls_at : List Local → ℕ → List Made
 calls_at locals i = calls_in (local_at locals i)
 
@@ -28,23 +28,23 @@ pub record AreMonitored (plan : Plan) (locals : List Local) : Type 0 where
   pub together : AreTogether (outside_shape (length plan.operations + 2)) locals
   pub made : HaveMadeAll plan locals
 
--- These locals are those of monitored callers, and these passes, in order, where they tell of
--- calls, tell of those of their callers.
+-- These locals are those of a monitored run's callers. The told list of each pass, where it has
+-- one, is of the calls of the pass's caller; the passes are in the order of the plan's callers.
 pub record AreToldMonitored {T : Type 0} (told : T → Option (List (ℕ × ℕ))) (passes : List T)
     (plan : Plan) (locals : List Local) : Type 0 where
   pub monitored : AreMonitored plan locals
   pub told_in : AreTold told (phases_in plan) (calls_at locals) passes
 
--- These locals are those of monitored callers, and the object of a behaviour answered the calls of
--- the plan's callers; the monitors have made no call.
+-- These locals are those of a monitored run's callers, and the object of a behaviour answered the
+-- calls of the plan's callers. The monitors have made no call.
 pub record AreNamedMonitored (behaviour : Behaviour) (plan : Plan)
     (locals : List Local) : Type 0 where
   pub monitored : AreMonitored plan locals
   pub object : IsOfBehaviour behaviour plan.kind (length plan.operations) (phases_in plan)
       (calls_at locals)
 
--- The output of a monitored run that ends with locals of which `Are` is true: a status and a text
--- that are right for the records that these locals have published.
+-- The output of a monitored run that ends with some locals of which `Are` is true: a status and a
+-- text that are right for the records that the callers with these locals have published.
 abbrev pub IsMonitorOutput : (List Local → Type 0) → Kind → Status → List ℕ → Type 0
 IsMonitorOutput Are kind status text = (locals : List Local) × Are locals
     × IsMonitorText kind locals status text

@@ -1,4 +1,4 @@
--- Which object answered the calls of a run's callers.
+-- Which named object answered the calls of a run's callers.
 use Rattle.std.specs.Prelude.{◌≡◌, ℕ, List, Option, IfSome, map, All}
 use Rattle.std.specs.List.{range_with_len}
 use Rattle.shared_log.specs.declared.entry.Entry.{Entry}
@@ -24,16 +24,17 @@ pub record AreOwnPasses {T : Type 0} (is_own : T → Type 0) (caller : T → ℕ
   pub callers : map caller passes ≡ range_with_len 0 n
   pub own : All is_own passes
 
--- Each pass in this list that tells calls tells those of its caller, of which `phases` phases are
--- made: pass number i is that of caller i.
+-- The told list of each pass, where it has one, is of the calls of its caller: pass number `i` is
+-- of `calls i`, of which `phases i` phases are made.
 abbrev pub AreTold : {T : Type 0} → (T → Option (List (ℕ × ℕ))) → (ℕ → ℕ) → (ℕ → List Made)
     → List T → Type 0
 AreTold told phases calls passes =
     AreInOrder (λ i pass. IfSome (told pass) (IsTold (phases i) (calls i))) passes
 
--- The object of a behaviour, for scripts of a kind, answered the calls of n callers, each of which
--- made its number of phases. A log object answers from its log, by the object of the kind. The
--- replies of another object have the form that it gives to the reply to an operation.
+-- The object of a behaviour, for scripts of a kind, answered the calls of n callers, of which
+-- caller `i` made `phases i` phases. Where the object answers from a log, all calls went into one
+-- log and each reply is its machine's answer. Where it doesn't, each reply has the form that the
+-- object's replies to the operation have.
 abbrev pub IsOfBehaviour : Behaviour → Kind → ℕ → (ℕ → ℕ) → (ℕ → List Made) → Type 0
 IsOfBehaviour Lawful kind n phases calls =
     IsLoggedBy (last_reply (kind_next kind) (kind_init kind)) n phases calls
@@ -50,8 +51,8 @@ IsOfBehaviour Invent kind n phases calls =
 IsOfBehaviour Split kind n phases calls = AreFormed IsTallyReply n calls
 IsOfBehaviour Onepass kind n phases calls = AreFormed IsQueueReply n calls
 
--- An object that was opened for scripts of a kind and for n callers is the object of a behaviour
--- and answered the calls of these callers, whatever the calls that these passes tell.
+-- Whatever calls these passes tell, the object of the behaviour answered them: for each kind and
+-- each n for which the object was opened, where the passes are its own and those of n callers.
 abbrev pub HasAnswered : {T : Type 0} → Behaviour → (Kind → ℕ → Type 0) → (T → Type 0) → (T → ℕ)
     → (T → Option (List (ℕ × ℕ))) → List T → Type 0
 HasAnswered behaviour is_opened_for is_own caller told passes =
@@ -59,8 +60,8 @@ HasAnswered behaviour is_opened_for is_own caller told passes =
     → AreOwnPasses is_own caller n passes → AreTold told phases calls passes
     → IsOfBehaviour behaviour kind n phases calls
 
--- A log was opened for n callers of scripts of a kind: it has n callers, and wherever all calls are
--- answered from one log by its answer, the object of a behaviour answered them.
+-- A log was opened for n callers and scripts of a kind. It has n callers, and calls of n callers
+-- that are all answered from one log by `answer` are answered by the object of the behaviour.
 abbrev pub IsLogFor : Behaviour → (List Entry → ℕ) → ℕ → Kind → ℕ → Type 0
 IsLogFor behaviour answer callers kind n =
     (callers ≡ n) × ((phases : ℕ → ℕ) (calls : ℕ → List Made) → IsLoggedBy answer n phases calls

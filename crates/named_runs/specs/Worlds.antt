@@ -12,10 +12,10 @@ use Rattle.run_report.specs.Reporting.{outside_shape}
 use Rattle.faulty_objects.specs.declared.behaviour.Behaviour.{Behaviour}
 use Rattle.faulty_objects.specs.declared.behaviour.Behaviour.TheVariants.{Lawful, Tally, Cell}
 
--- The shape of the world whose object answers the calls of a script of a kind for a behaviour,
--- where the object of the behaviour is inside the world: that of the log for the lawful object, of
--- the tally for counters, and of the cell for registers. The shape is for a number of callers and
--- has the greatest cap.
+-- The shape of the world of a run, by its number of callers and with the greatest cap, where the
+-- object of the behaviour is inside the world for scripts of this kind: the shape of the log for
+-- the lawful object, of the tally for a counter's script, and of the cell for a register's script.
+-- `None` where the object is outside the world.
 abbrev pub inside_of : Behaviour → Kind → Option (ℕ → Shape)
 inside_of Lawful kind = Some (λ n. log_shape (kind_spec kind) n MAX_CALLS)
 inside_of Tally Counter = Some (λ n. one_word_shape n MAX_CALLS tally)

@@ -24,7 +24,7 @@ use seq_objects::Kind;
 use std::alloc::Global;
 use std::thread::Threads;
 
-// Calls a function with the object of a behaviour as the first of its types.
+// Calls a function with the type of the object of a behaviour as its first type argument.
 macro_rules! over_behaviour {
     ($behaviour:expr, $over:ident::<$($t:ty),*>($($x:expr),*)) => {
         match $behaviour {
@@ -65,10 +65,10 @@ fn run_outside<R: Threads + Sync, K: Sink>(
 /// one can be had, and writes what the form shows of their report, which is lawful whatever the
 /// object does.
 ///
-/// The object of `lawful`, for every kind, that of `tally` for a counter's script and that of
-/// `cell` for a register's are inside the world: such a run has no error line. Every other object
-/// is outside it. The table of rows and the object are opened for the script's callers with the
-/// greatest cap, and closed after the run.
+/// The object of `lawful` for every script, that of `tally` for a counter's script and that of
+/// `cell` for a register's script are inside the world: a run over one of them has no error line.
+/// In every other case the object is outside the world. The table of rows and the object are opened
+/// for the script's callers with the greatest cap, and closed after the run.
 pub fn run_behaviour<R: Threads + Sync, K: Sink>(
     rt: &R,
     alloc: Global,
@@ -77,17 +77,18 @@ pub fn run_behaviour<R: Threads + Sync, K: Sink>(
     form: Form,
     sink: &mut K,
 ) -> Status
-    // The headline: what was written, with each status, is that of a lawful report, whose calls the
-    // object of the behaviour answered.
+    // The returned status and the text written are those of a lawful report, whose calls the object
+    // of the behaviour answered. After a failed write only a part of the text is written, and
+    // without memory nothing is.
     ensures ends { RunEnds (kind_spec script.now.kind)
         (IsNamedRunReport behaviour script.now) form result (K.taken sink.old) (K.taken sink.new) }
 
-    // Over an object inside the world the status is `Fine`, failed writes and want of memory aside.
+    // Over an object inside the world the status is `Fine`, `WriteFault` or `NoMemory`.
     ensures fine { IsSome (inside_of behaviour script.now.kind)
         → (result ≡ Status.Fine) ⊎ (result ≡ Status.WriteFault) ⊎ (result ≡ Status.NoMemory) }
 
-    // The status is `WriteFault` only where the sink's count of faults rose in this call, and
-    // another one only where that count stayed; with `NoMemory` the sink is as it was.
+    // With the status `WriteFault` the sink's count of faults rose in this call; with any other
+    // status the count stayed as it was. With `NoMemory` the whole sink stayed as it was.
     ensures faults { LeavesSink K.faults result sink.old sink.new }
 {
     let kind = script.kind();
@@ -110,13 +111,14 @@ pub fn replay_behaviour<K: Sink>(
     form: Form,
     sink: &mut K,
 ) -> Status
-    // The headline: what was written, with each status, is that of a lawful report, whose calls the
-    // object of the behaviour answered.
+    // The returned status and the text written are those of a lawful report, whose calls the object
+    // of the behaviour answered. After a failed write only a part of the text is written, and
+    // without memory nothing is.
     ensures ends { RunEnds (kind_spec script.now.kind) (IsNamedReplayReport behaviour script.now)
         form result (K.taken sink.old) (K.taken sink.new) }
 
-    // The status is `WriteFault` only where the sink's count of faults rose in this call, and
-    // another one only where that count stayed; with `NoMemory` the sink is as it was.
+    // With the status `WriteFault` the sink's count of faults rose in this call; with any other
+    // status the count stayed as it was. With `NoMemory` the whole sink stayed as it was.
     ensures faults { LeavesSink K.faults result sink.old sink.new }
 {
     over_behaviour!(
@@ -141,14 +143,15 @@ pub fn monitor_behaviour<R: Threads + Sync, K: Sink>(
     // A table can have two callers more than the script has.
     requires few { length script.now.operations + 2 ≤ MAX_CALLERS }
 
-    // The headline: what was written, with each status, is right for callers whose calls the object
-    // of the behaviour answered.
+    // The returned status and the text written are right for the records of callers whose calls the
+    // object of the behaviour answered. After a failed write only a part of the text is written,
+    // and without memory nothing is.
     ensures ends { EndsWriting
         (IsMonitorOutput (AreNamedMonitored behaviour script.now) script.now.kind)
         result (K.taken sink.old) (K.taken sink.new) }
 
-    // The status is `WriteFault` only where the sink's count of faults rose in this call, and
-    // another one only where that count stayed; with `NoMemory` the sink is as it was.
+    // With the status `WriteFault` the sink's count of faults rose in this call; with any other
+    // status the count stayed as it was. With `NoMemory` the whole sink stayed as it was.
     ensures faults { LeavesSink K.faults result sink.old sink.new }
 {
     over_behaviour!(

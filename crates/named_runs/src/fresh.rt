@@ -1,5 +1,5 @@
-//! Whole runs of a script that open the table of rows themselves: each caller in a thread of its
-//! own, by turns, and with monitors.
+//! Whole runs of a script that open their own table of rows: with each caller in a thread of its
+//! own, by turns in one thread, and with monitors.
 
 ghost use Rattle.std.specs.Prelude.{◌≡◌, ◌≤◌, ◌+◌, length, vec_len, vec_capacity};
 ghost use Rattle.book_base.specs.declared.TheConstants.{MAX_CALLERS};
@@ -47,17 +47,18 @@ where
 
     // Whatever the answer, there is one pass for each caller of the script.
     ensures all_passes { vec_len passes.new ≡ length script.now.operations }
-    // The passes are those of the callers, in order.
+    // The passes are those of the script's callers, in order.
     ensures passes { AreInOrder (IsOwnPass (B.is_own object.now) B.Pass.caller) passes.new.items }
 
-    // The headline: what was written, with each status, is that of a lawful report that agrees with
-    // what the passes count and tell.
+    // The returned status and the text written are those of a lawful report that agrees with the
+    // counts and the told lists of the passes. After a failed write only a part of the text is
+    // written, and without memory nothing is.
     ensures ends { RunEnds (kind_spec script.now.kind)
         (IsToldReport B.Pass.made B.Pass.told passes.new.items script.now
         (run_allotments script.now)) form result (K.taken sink.old) (K.taken sink.new) }
 
-    // The status is `WriteFault` only where the sink's count of faults rose in this call, and
-    // another one only where that count stayed; with `NoMemory` the sink is as it was.
+    // With the status `WriteFault` the sink's count of faults rose in this call; with any other
+    // status the count stayed as it was. With `NoMemory` the whole sink stayed as it was.
     ensures faults { LeavesSink K.faults result sink.old sink.new }
 {
     let Ok((rows, mut bench)) = Rows::open(alloc, Outside, script.callers(), MAX_CALLS) else {
@@ -66,7 +67,7 @@ where
     let status = run_and_write(
         rt, alloc, &rows, &mut bench, object, passes, script, form, sink,
     );
-    // The status is answered even where no memory is left for the words of the closed table.
+    // The status is returned even where no memory is left for the words of the closed table.
     let _world = rows.close(alloc, bench);
     status
 }
@@ -91,24 +92,25 @@ pub fn replay_fresh<B: BlackBox, K: Sink>(
 
     // Whatever the answer, there is one pass for each caller of the script.
     ensures all_passes { vec_len passes.new ≡ length script.now.operations }
-    // The passes are those of the callers, in order.
+    // The passes are those of the script's callers, in order.
     ensures passes { AreInOrder (IsOwnPass (B.is_own object.now) B.Pass.caller) passes.new.items }
 
-    // The headline: what was written, with each status, is that of a lawful report that agrees with
-    // what the passes count and tell.
+    // The returned status and the text written are those of a lawful report that agrees with the
+    // counts and the told lists of the passes. After a failed write only a part of the text is
+    // written, and without memory nothing is.
     ensures ends { RunEnds (kind_spec script.now.kind)
         (IsToldReport B.Pass.made B.Pass.told passes.new.items script.now
         (replay_allotments script.now)) form result (K.taken sink.old) (K.taken sink.new) }
 
-    // The status is `WriteFault` only where the sink's count of faults rose in this call, and
-    // another one only where that count stayed; with `NoMemory` the sink is as it was.
+    // With the status `WriteFault` the sink's count of faults rose in this call; with any other
+    // status the count stayed as it was. With `NoMemory` the whole sink stayed as it was.
     ensures faults { LeavesSink K.faults result sink.old sink.new }
 {
     let Ok((rows, mut bench)) = Rows::open(alloc, Outside, script.callers(), MAX_CALLS) else {
         return Status::NoMemory;
     };
     let status = replay_and_write(alloc, &rows, &mut bench, object, passes, script, form, sink);
-    // The status is answered even where no memory is left for the words of the closed table.
+    // The status is returned even where no memory is left for the words of the closed table.
     let _world = rows.close(alloc, bench);
     status
 }
@@ -140,24 +142,25 @@ where
     ensures all_passes { vec_len passes.new ≡ length script.now.operations }
     // The list of passes has at least the capacity that it had.
     ensures capacity { vec_capacity passes.old ≤ vec_capacity passes.new }
-    // The passes are those of the callers, in order.
+    // The passes are those of the script's callers, in order.
     ensures passes { AreInOrder (IsOwnPass (B.is_own object.now) B.Pass.caller) passes.new.items }
 
-    // The headline: what was written, with each status, is right for callers whose calls agree with
-    // what the passes tell.
+    // The returned status and the text written are right for the records of callers whose calls
+    // agree with the told lists of the passes. After a failed write only a part of the text is
+    // written, and without memory nothing is.
     ensures ends { EndsWriting
         (IsMonitorOutput (AreToldMonitored B.Pass.told passes.new.items script.now)
         script.now.kind) result (K.taken sink.old) (K.taken sink.new) }
 
-    // The status is `WriteFault` only where the sink's count of faults rose in this call, and
-    // another one only where that count stayed; with `NoMemory` the sink is as it was.
+    // With the status `WriteFault` the sink's count of faults rose in this call; with any other
+    // status the count stayed as it was. With `NoMemory` the whole sink stayed as it was.
     ensures faults { LeavesSink K.faults result sink.old sink.new }
 {
     let Ok((rows, mut bench)) = Rows::open(alloc, Outside, script.callers() + 2, MAX_CALLS) else {
         return Status::NoMemory;
     };
     let status = monitor_and_write(rt, alloc, &rows, &mut bench, object, passes, script, sink);
-    // The status is answered even where no memory is left for the words of the closed table.
+    // The status is returned even where no memory is left for the words of the closed table.
     let _world = rows.close(alloc, bench);
     status
 }

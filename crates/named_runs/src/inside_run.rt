@@ -17,8 +17,8 @@ use std::thread::Threads;
 // Runs all callers of a script of this kind over the object of a behaviour that is inside the
 // world, each in a thread of its own where one can be had: the lawful one for every kind, the tally
 // for a counter and the cell for a register. For every other behaviour and kind the object is
-// outside the world, and the answer is no report. The object and the table of rows are opened for
-// the run, with the greatest cap.
+// outside the world: then no run is made, and `None` is returned. The object and the table of rows
+// are opened for the run, with the greatest cap.
 pub(crate) fn run_inside<R: Threads + Sync>(
     rt: &R,
     alloc: Global,

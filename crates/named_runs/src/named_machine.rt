@@ -1,4 +1,4 @@
-//! Machines of log objects that have a name.
+//! The machines of the log objects that have a name.
 
 ghost use Rattle.std.specs.Prelude.{ℕ, List};
 ghost use Rattle.world_core.specs.Calls.{Made};
@@ -11,9 +11,9 @@ use faulty_objects::{Invent, Late, Lossy, Twice};
 use lawful_objects::{Machine, Plain};
 use seq_objects::Kind;
 
-/// A machine that is made for the object of a kind.
+/// A machine that can be made for the sequential object of each kind.
 pub(crate) trait NamedMachine: Machine + Drop + Sized {
-    /// The behaviour of the log object that answers by the machine.
+    /// The behaviour of the log object whose calls the machine answers.
     ghost behaviour: { TheBehaviour };
 
     /// The machine for the object of this kind.

@@ -17,17 +17,17 @@ use shared_words::WordsPass;
 use std::alloc::Global;
 
 /// An object that a name stands for. It is opened with a pass for each of its callers, and closed
-/// with these passes once all calls are made: then it is the object of its behaviour that answered
-/// their calls.
+/// with these passes once all calls are made. Closing it shows that the object of this behaviour
+/// answered the calls of all callers.
 pub(crate) trait NamedObject: BlackBox + Sized {
     /// The behaviour whose name the object has.
     ghost behaviour: { TheBehaviour };
 
-    /// The object was opened for scripts of this kind, and for this many callers.
+    /// Whether the object was opened for scripts of a kind and for a number of callers.
     ghost is_opened_for: { Self → TheKind → ℕ → Type 0 } = { λ object kind n. Unit {0} };
 
-    /// An object for scripts of a kind, with `n` callers and the greatest cap of calls each, and a
-    /// pass for each caller, in order.
+    /// Opens an object for scripts of a kind, for `n` callers with the greatest cap of calls each,
+    /// with a pass for each caller, in order.
     fn open_for(alloc: Global, kind: Kind, n: u32) -> Result<(Self, Vec<Self::Pass>), NoMemory>
         requires some_callers { 1 ≤ n }
         requires few_callers { n ≤ MAX_CALLERS }
@@ -37,8 +37,8 @@ pub(crate) trait NamedObject: BlackBox + Sized {
         ensures fresh { IfOk result (λ r. All
             (λ pass. (Self.Pass.made pass ≡ 0) × (Self.Pass.cap pass ≡ MAX_CALLS)) r.1.items) };
 
-    /// Takes the passes of all callers back. Whatever the calls that the passes tell, the object
-    /// answered them.
+    /// Takes the passes of all callers back, and drops the object. Whatever calls the passes tell,
+    /// the object of this behaviour answered them.
     fn close_with(self, passes: Vec<Self::Pass>)
         requires { (kind : TheKind) × (n : ℕ) × is_opened_for self kind n
             × AreOwnPasses (Self.is_own self) Self.Pass.caller n passes.items }

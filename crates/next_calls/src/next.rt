@@ -12,10 +12,10 @@ use book_base::{Book, Call, Cut, MarkedCallers};
 pub fn least_open(book: &Book, counts: &[u16]) -> Option<u32>
     // The cut has a count for each caller of the book.
     requires { length counts.now ≡ length book.now }
-    // A caller that is answered has the least view of all: its first call outside the cut is
-    // answered, with a view within that of each answered call outside the cut.
+    // Where the answer is a caller, its first call outside the cut is answered, with a view
+    // within that of each answered call outside the cut.
     ensures least { IfSome result (IsLeast book.now counts.now (length book.now)) }
-    // None is answered only where the cut holds all answered calls.
+    // The answer is `None` only where the cut holds all answered calls.
     ensures none { IfNone result (HoldsAnswered book.now counts.now) }
 {
     let mut least = None;
@@ -29,8 +29,8 @@ pub fn least_open(book: &Book, counts: &[u16]) -> Option<u32>
     least
 }
 
-// Whether the view of a caller's first call outside a cut is within that of another's, where there
-// is another.
+// Whether the view of a caller's first call outside a cut is within that of the first call outside
+// the cut of `other`. It is true where there is no other caller.
 fn is_before(book: &Book, counts: &[u16], caller: u32, other: Option<u32>) -> bool
     requires wide { length counts.now ≡ length book.now }
     requires answered { IsAnswered book.now (next_call counts.now caller) }
@@ -53,7 +53,7 @@ pub fn first_view<'b>(book: &'b Book, counts: &[u16], caller: u32) -> &'b Cut
     requires wide { length counts.now ≡ length book.now }
     // The caller's first call outside the cut is answered.
     requires answered { IsAnswered book.now (next_call counts.now caller) }
-    // The answer is the view that this call recorded.
+    // The answer is the view that the caller's first call outside the cut recorded.
     ensures view { (r : Record) → record_of book.now (next_call counts.now caller) ≡ Some r
         → r.view ≡ result.now }
     // The answer has a count for each caller of the book.

@@ -4,13 +4,13 @@ ghost use Rattle.book_base.specs.Pruning.{HasOneOpen};
 
 use book_base::{Book, Call, Cut};
 
-/// Looks whether each view of a book holds at most one unanswered call of each caller, as in each
-/// book that a run gathers. Of each caller only the last view is looked at, since it contains the
-/// others.
+/// Whether each view of a book holds at most one unanswered call of each caller, as in each book
+/// that a run gathers. Of each caller only the last view is looked at, since it contains the
+/// caller's earlier views.
 pub fn has_one_open(book: &Book) -> bool
     // The answer is `true` only where each view holds at most one unanswered call of each caller.
     ensures one { IsTrue result → HasOneOpen book.now }
-    // The answer is `false` only where some view holds more of them of one caller.
+    // The answer is `false` only where some view holds more than one unanswered call of one caller.
     ensures more { result ≡ false → ¬ HasOneOpen book.now }
 {
     for caller in 0..book.callers() {

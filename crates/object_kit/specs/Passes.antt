@@ -14,6 +14,6 @@ made_with pass = pass.made
 abbrev pub cap_of : CountingPass → ℕ
 cap_of pass = pass.cap
 
--- Every counting pass is one of the object's own.
+-- An object that is called with counting passes takes each of them as its own.
 abbrev pub any_pass : CountingPass → Type 0
 any_pass pass = Unit {0}

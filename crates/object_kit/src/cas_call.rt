@@ -12,7 +12,7 @@ use seq_objects::Kind;
 pub enum CasCall {
     Write(u32),
     Read,
-    /// Writes the second value where the first one is read.
+    /// Writes the second value if the register holds the first one.
     CompareAndSwap(u32, u32),
 }
 

@@ -36,8 +36,8 @@ impl CountingPass {
 
     /// A pass for each caller of a script, in order, for as many calls as the script gives it.
     pub fn for_script(alloc: Global, script: &Script) -> Result<Vec<CountingPass>, NoMemory>
-        // There is an unused pass for each caller of the script, in order, with a call for each of
-        // its operations.
+        // There is an unused pass for each caller of the script, in order, with which one call may
+        // be made for each operation of its caller.
         ensures unused { IfOk result (λ passes. AreUnusedPasses any_pass caller_of made_with cap_of
             script.now.operations passes.items) }
     {

@@ -5,7 +5,7 @@ ghost use Rattle.seq_objects.specs.Words as words;
 
 use book_base::{OpWord, high, low};
 
-/// How many arguments there are: an argument is below this number.
+/// How many different arguments an operation can have: each is a number of 32 bits.
 const ARGUMENTS: u64 = 1 << 32;
 
 /// The code of an operation word, which says which one of its kind's operations the word is.
@@ -22,7 +22,7 @@ pub(crate) fn argument_of(word: OpWord) -> u32
     (low(word) % ARGUMENTS) as u32
 }
 
-/// The second argument of an operation word.
+/// The extra of an operation word, modulo 2^32, which is its second argument.
 pub(crate) fn extra_of(word: OpWord) -> u32
     ensures { result ≡ words.extra_of word % 2 ^ 32 }
 {

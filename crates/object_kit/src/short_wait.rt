@@ -1,7 +1,7 @@
 use std::sync::{Mutex, MutexGuard};
 use std::thread::yield_now;
 
-/// How often a lock is asked for at most, which takes some minutes while another thread has it.
+/// How often a lock that another thread has is tried at most. All tries together take some minutes.
 const TRIES: u64 = 1 << 32;
 
 /// The lock, once no other thread has it; or none, where it isn't free for some minutes. A call of

@@ -5,7 +5,8 @@ use Rattle.seq_objects.specs.Words.{inc}
 use Rattle.seq_objects.specs.Replies.{reply_value}
 use Rattle.object_laws.specs.Runs.{IsRunOfKind, does}
 
--- The reply to an increment is the number of increments before it, modulo 2 ^ 32.
+-- In a run of a counter, the reply to an increment is the number of increments before it, modulo 2
+-- ^ 32.
 abbrev pub IncrementsAreCounted : Type 0
 IncrementsAreCounted = (before rest : List (ℕ × ℕ)) (step : ℕ × ℕ)
     → IsRunOfKind Counter (before ++ step ∷ rest) → does inc step ≡ true

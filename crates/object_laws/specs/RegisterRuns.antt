@@ -6,14 +6,14 @@ use Rattle.seq_objects.specs.Words.{argument_of}
 use Rattle.seq_objects.specs.Replies.{reply_value}
 use Rattle.object_laws.specs.Runs.{IsRunOfKind, does, NonePass}
 
--- The reply to a read is the value of the last write before it.
+-- In a run of a register, the reply to a read is the value of the last write before it.
 abbrev pub ReadsGiveTheLastWrite : Type 0
 ReadsGiveTheLastWrite = (before between rest : List (ℕ × ℕ)) (write read : ℕ × ℕ)
     → IsRunOfKind Register (before ++ write ∷ (between ++ read ∷ rest))
     → does words.write write ≡ true → NonePass (does words.write) between
     → does words.read read ≡ true → read.1 ≡ reply_value (argument_of write.0)
 
--- The reply to a read before each write is 0.
+-- In a run of a register, the reply to a read with no write before it is 0.
 abbrev pub ReadsGiveZeroAtFirst : Type 0
 ReadsGiveZeroAtFirst = (before rest : List (ℕ × ℕ)) (read : ℕ × ℕ)
     → IsRunOfKind Register (before ++ read ∷ rest)

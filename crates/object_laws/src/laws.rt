@@ -1,5 +1,5 @@
-//! The laws, each the contract of a function with nothing in it. A run begins with an object's
-//! first list.
+//! Laws on the runs of the sequential objects. Each is the contract of a function with an empty
+//! body. A run begins with the object's first list.
 
 ghost use Rattle.seq_objects.specs.declared.kind.Kind.TheVariants as kinds;
 ghost use Rattle.seq_objects.specs.Words as words;
@@ -10,25 +10,26 @@ ghost use Rattle.object_laws.specs.RegisterRuns.{ReadsGiveTheLastWrite, ReadsGiv
 ghost use Rattle.object_laws.specs.SetRuns.{HasTells, AddTells, RemoveTells};
 ghost use Rattle.object_laws.specs.Removals.{TakesTakeWhatWasPut, DequeuesGiveTheOldest, PopsGiveTheNewest, pqueue_reading, MinsGiveTheLeast, ComesOutAtMostAsOften};
 
-/// A counter replies how many increments came before.
+/// A counter replies to each increment how many increments came before it, modulo 2^32.
 pub fn counters_count()
     ensures { IncrementsAreCounted }
 {}
 
-/// A register gives the value that was written last, and 0 before each write.
+/// A register gives the value that was written last, and 0 before the first write.
 pub fn registers_give_the_last_write()
     // The reply to a read is the value of the last write before it.
     ensures last { ReadsGiveTheLastWrite }
-    // The reply to a read before each write is 0.
+    // The reply to a read with no write before it is 0.
     ensures first { ReadsGiveZeroAtFirst }
     // The reply to each write is done.
     ensures done { AreDone kinds.Register words.write }
 {}
 
-/// A set's replies say whether an add of a value stands, which is one without a later remove of the
-/// value.
+/// A set's replies say whether an add of a value stands: whether there is one without a later
+/// remove of the value.
 pub fn sets_tell_what_stands()
-    // The reply to `has` says whether an add of the value stands, without a later remove of it.
+    // The reply to `has` says whether an add of the value, without a later remove of it, stands
+    // before it.
     ensures has { HasTells }
     // The reply to `add` says whether no add of the value stands before it.
     ensures add { AddTells }
@@ -39,7 +40,7 @@ pub fn sets_tell_what_stands()
 /// A queue gives the values in the order in which they were put in.
 pub fn queues_give_the_oldest()
     // The reply to a dequeue is the first of the values put in that wasn't given out yet, or none
-    // where all were.
+    // where all values were given out.
     ensures order { DequeuesGiveTheOldest }
     // The reply to each enqueue is done.
     ensures done { AreDone kinds.Queue words.enq }
@@ -48,7 +49,7 @@ pub fn queues_give_the_oldest()
 /// A stack gives the last value put in that wasn't given out yet.
 pub fn stacks_give_the_newest()
     // The reply to a pop is the last value put in that wasn't given out yet, or none where all
-    // were.
+    // values were given out.
     ensures order { PopsGiveTheNewest }
     // The reply to each push is done.
     ensures done { AreDone kinds.Stack words.push }
@@ -65,13 +66,15 @@ pub fn priority_queues_give_the_least()
     ensures done { AreDone kinds.Pqueue words.insert }
 {}
 
-/// A value that is taken was put in before, more often than it was given out. So each value comes
-/// out at most as often as it was put in.
+/// A value that is taken was put in before, more often than it was given out before. So each value
+/// comes out at most as often as it was put in.
 pub fn takes_take_what_was_put()
-    // A dequeue gives a value that was put in before it more often than it was given out.
+    // A dequeue of a queue gives a value that was put in before it more often than it was given
+    // out.
     ensures queues { TakesTakeWhatWasPut kinds.Queue queue_reading }
-    // A pop gives a value that was put in before it more often than it was given out.
+    // A pop of a stack gives a value that was put in before it more often than it was given out.
     ensures stacks { TakesTakeWhatWasPut kinds.Stack stack_reading }
-    // A `min` gives a value that was put in before it more often than it was given out.
+    // A `min` of a priority queue gives a value that was put in before it more often than it was
+    // given out.
     ensures pqueues { TakesTakeWhatWasPut kinds.Pqueue pqueue_reading }
 {}

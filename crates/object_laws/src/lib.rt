@@ -1,4 +1,4 @@
-//! Laws of the sequential objects on their runs, each in its subject's words, and steps and runs
+//! Laws on the runs of the sequential objects, each in its object's own words, with steps and runs
 //! that are worked by hand.
 #![tactic(auto)]
 

@@ -38,7 +38,7 @@ pub fn runs_of_a_stack()
         ∷ (operation words.pop 0, reply_value 1) ∷ (operation words.pop 0, reply_value 1) ∷ []) }
 {}
 
-/// Runs of a register: 0 before the write, and then what was written.
+/// Runs of a register: a read gives 0 before the write, and then what was written.
 pub fn runs_of_a_register()
     // A read before the write gives 0, and one after it the value written.
     ensures run { IsRunOfKind kinds.Register ((operation words.read 0, reply_value 0)
@@ -49,12 +49,12 @@ pub fn runs_of_a_register()
     // A read doesn't give a value that is written afterwards.
     ensures not_yet { ¬ IsRunOfKind kinds.Register ((operation words.read 0, reply_value 9)
         ∷ (operation words.write 9, reply_done) ∷ []) }
-    // A second read doesn't give 0 after a write.
+    // A second read after a write of 9 doesn't give 0.
     ensures not_kept { ¬ IsRunOfKind kinds.Register ((operation words.write 9, reply_done)
         ∷ (operation words.read 0, reply_value 9) ∷ (operation words.read 0, reply_value 0) ∷ []) }
 {}
 
-/// Runs of a counter: the count before each increment.
+/// Runs of a counter: each increment gives the count before it.
 pub fn runs_of_a_counter()
     // Three increments give 0, 1 and 2.
     ensures run { IsRunOfKind kinds.Counter ((operation words.inc 0, reply_value 0)
@@ -72,7 +72,7 @@ pub fn runs_of_a_counter()
     ensures from_one { ¬ IsRunOfKind kinds.Counter ((operation words.inc 0, reply_value 1) ∷ []) }
 {}
 
-/// Runs of a set: a value is in from an add to a remove.
+/// Runs of a set: a value is in the set from an add of it to a remove of it.
 pub fn runs_of_a_set()
     // A value is in the set from its first add to its first remove.
     ensures run { IsRunOfKind kinds.IntSet ((operation words.add 3, reply_yes)
@@ -82,18 +82,18 @@ pub fn runs_of_a_set()
     // An add of one value doesn't put another value in.
     ensures other { ¬ IsRunOfKind kinds.IntSet ((operation words.add 3, reply_yes)
         ∷ (operation words.has 4, reply_yes) ∷ []) }
-    // The reply to a second add isn't yes.
+    // The reply to a second add of a value isn't yes.
     ensures added_twice { ¬ IsRunOfKind kinds.IntSet ((operation words.add 3, reply_yes)
         ∷ (operation words.add 3, reply_yes) ∷ []) }
-    // A value that was added twice isn't in after one remove.
+    // A value that was added twice isn't in the set after one remove.
     ensures stays_once { ¬ IsRunOfKind kinds.IntSet ((operation words.add 3, reply_yes)
         ∷ (operation words.add 3, reply_no) ∷ (operation words.remove 3, reply_yes)
         ∷ (operation words.has 3, reply_yes) ∷ []) }
-    // A value that was never added isn't in.
+    // A value that was never added isn't in the set.
     ensures never_added { ¬ IsRunOfKind kinds.IntSet ((operation words.has 3, reply_yes) ∷ []) }
 {}
 
-/// Runs of a priority queue: the least value first, and each as often as it was put in.
+/// Runs of a priority queue: values come out with the least first, each as often as it was put in.
 pub fn runs_of_a_pqueue()
     // Values come out with the least first, each as often as it was put in, and then none.
     ensures run { IsRunOfKind kinds.Pqueue ((operation words.insert 4, reply_done)

@@ -1,4 +1,4 @@
-//! Steps that are worked by hand, on lists that no run reaches too.
+//! Steps that are worked by hand, also on lists that no run reaches.
 
 ghost use Rattle.std.specs.Prelude.{◌≡◌, [], ◌∷◌, codes};
 ghost use Rattle.seq_objects.specs.declared.kind.Kind.TheVariants as kinds;
@@ -12,13 +12,13 @@ pub fn worked_register_steps()
     // A write of 7 makes the list 7 alone, and the reply is done.
     ensures writes { Makes kinds.Register 4294967303 (codes "write 7")
         (4 ∷ 9 ∷ []) (7 ∷ []) (codes "done") }
-    // A read at 4 doesn't change the list, and the reply is 4.
+    // A read at a list that begins with 4 doesn't change the list, and the reply is 4.
     ensures reads { Makes kinds.Register 8589934592 (codes "read")
         (4 ∷ 9 ∷ []) (4 ∷ 9 ∷ []) (codes "=4") }
     // A read at the empty list doesn't change it, and the reply is 0.
     ensures reads_an_empty_list { Makes kinds.Register 8589934592 (codes "read")
         [] [] (codes "=0") }
-    // A read gives the low 32 bits of the first word.
+    // A read gives the low 32 bits of the list's first word.
     ensures reads_the_low_bits { Makes kinds.Register 8589934592 (codes "read")
         (4294967301 ∷ []) (4294967301 ∷ []) (codes "=5") }
     // A word that no entry has doesn't change the list, and the reply is `bad`.
@@ -26,20 +26,20 @@ pub fn worked_register_steps()
         (4 ∷ []) (4 ∷ []) (codes "bad") }
 {}
 
-/// Steps of a counter. After the greatest number below 2^32 the count is 0.
+/// Steps of a counter. The count after 2^32 - 1 is 0.
 pub fn worked_counter_steps()
     // The counter begins with the list of 0 alone.
     ensures begins { kind_init kinds.Counter ≡ 0 ∷ [] }
-    // An increment at 5 makes the list 6 alone, and the reply is 5.
+    // An increment at a list that begins with 5 makes the list 6 alone, and the reply is 5.
     ensures counts { Makes kinds.Counter 4294967296 (codes "inc")
         (5 ∷ 9 ∷ []) (6 ∷ []) (codes "=5") }
     // An increment at the empty list makes it 1, and the reply is 0.
     ensures counts_an_empty_list { Makes kinds.Counter 4294967296 (codes "inc")
         [] (1 ∷ []) (codes "=0") }
-    // An increment at the greatest number below 2^32 makes the list 0.
+    // An increment at 2^32 - 1 makes the list 0 alone.
     ensures goes_on_with_zero { Makes kinds.Counter 4294967296 (codes "inc")
         (4294967295 ∷ []) (0 ∷ []) (codes "=4294967295") }
-    // An increment counts the low 32 bits of the first word.
+    // An increment counts on from the low 32 bits of the list's first word.
     ensures counts_the_low_bits { Makes kinds.Counter 4294967296 (codes "inc")
         (4294967298 ∷ []) (3 ∷ []) (codes "=2") }
     // An increment with an argument doesn't change the list, and the reply is `bad`.
@@ -54,7 +54,8 @@ pub fn worked_counter_steps()
 pub fn worked_set_steps()
     // The set begins with the empty list.
     ensures begins { kind_init kinds.IntSet ≡ [] }
-    // A value that isn't there is put between a lesser and a greater item, and the reply is yes.
+    // An add puts a value that isn't in the list between a lesser and a greater item, and the reply
+    // is yes.
     ensures adds_in_order { Makes kinds.IntSet 4294967299 (codes "add 3")
         (1 ∷ 5 ∷ []) (1 ∷ 3 ∷ 5 ∷ []) (codes "yes") }
     // A value is put before the first greater item, also in a list that doesn't rise.
@@ -63,23 +64,22 @@ pub fn worked_set_steps()
     // A value that is greater than all items is put at the end.
     ensures adds_at_the_end { Makes kinds.IntSet 4294967299 (codes "add 3")
         (2 ∷ []) (2 ∷ 3 ∷ []) (codes "yes") }
-    // A value that is there isn't put in again, and the reply is no.
+    // An add of a value that is in the list doesn't change the list, and the reply is no.
     ensures adds_nothing_twice { Makes kinds.IntSet 4294967299 (codes "add 3")
         (1 ∷ 3 ∷ []) (1 ∷ 3 ∷ []) (codes "no") }
     // A remove takes out the first of two equal items, and the reply is yes.
     ensures takes_out_the_first { Makes kinds.IntSet 8589934595 (codes "remove 3")
         (1 ∷ 3 ∷ 2 ∷ 3 ∷ []) (1 ∷ 2 ∷ 3 ∷ []) (codes "yes") }
-    // A remove of a value that isn't there doesn't change the list, and the reply is no.
+    // A remove of a value that isn't in the list doesn't change the list, and the reply is no.
     ensures takes_out_none { Makes kinds.IntSet 8589934596 (codes "remove 4")
         (1 ∷ 3 ∷ []) (1 ∷ 3 ∷ []) (codes "no") }
-    // The reply to a look for a value that is there is yes.
+    // The reply to `has` is yes for a value that is in the list.
     ensures has { Makes kinds.IntSet 12884901891 (codes "has 3")
         (1 ∷ 3 ∷ []) (1 ∷ 3 ∷ []) (codes "yes") }
-    // The reply to a look for a value that isn't there is no.
+    // The reply to `has` is no for a value that isn't in the list.
     ensures has_not { Makes kinds.IntSet 12884901892 (codes "has 4")
         (1 ∷ 3 ∷ []) (1 ∷ 3 ∷ []) (codes "no") }
-    // The reply to a look for a value isn't yes where only the low 32 bits of an item are this
-    // value.
+    // The reply to `has` is no where only the low 32 bits of an item are the value.
     ensures has_not_by_the_low_bits { Makes kinds.IntSet 12884901891 (codes "has 3")
         (4294967299 ∷ []) (4294967299 ∷ []) (codes "no") }
     // A word that no entry has doesn't change the list, and the reply is `bad`.
@@ -114,7 +114,7 @@ pub fn worked_pqueue_steps()
         (4 ∷ []) (4 ∷ []) (codes "bad") }
 {}
 
-/// Steps of a queue: items come in at the end, and are taken out at the beginning.
+/// Steps of a queue: items come in at the end of the list, and are taken out at its beginning.
 pub fn worked_queue_steps()
     // The queue begins with the empty list.
     ensures begins { kind_init kinds.Queue ≡ [] }
@@ -134,7 +134,7 @@ pub fn worked_queue_steps()
         (4 ∷ []) (4 ∷ []) (codes "bad") }
 {}
 
-/// Steps of a stack: items come in at the end, and are taken out there.
+/// Steps of a stack: items come in at the end of the list, and are taken out at its end.
 pub fn worked_stack_steps()
     // The stack begins with the empty list.
     ensures begins { kind_init kinds.Stack ≡ [] }

@@ -52,7 +52,8 @@ bad = 4 * 2 ^ 32
 abbrev pub finds_and_leaves : ℕ → ℕ → ℕ → Step
 finds_and_leaves who old new = by who (Object (object_step 0 old new))
 
--- A caller gets a reply, where this many calls of caller 0 are counted.
+-- The step at which a caller gets a reply: the first look of its view's scan, which finds this
+-- count of caller 0 in N.
 abbrev pub gets : ℕ → ℕ → ℕ → Step
 gets who counted reply = by who (Look N 0 counted (Begins_view reply))
 
@@ -78,13 +79,14 @@ abbrev pub counted_alone : List Step
 counted_alone =
     announcement 0 increment (0 ∷ []) ++ finds_and_leaves 0 0 1 ∷ gets 0 1 (value 0) ∷ []
 
--- What the tally refuses to caller 0 once both have announced: another sum, another word, a reply
--- before the step, and bad.
+-- What the tally refuses to caller 0 once both callers have announced an increment: to leave
+-- another sum, to find another word than the tally has, and the replies 0 and `bad`.
 abbrev pub refused_before_adding : List Step
 refused_before_adding = finds_and_leaves 0 0 2 ∷ finds_and_leaves 0 0 0 ∷ finds_and_leaves 0 1 2
     ∷ gets 0 1 (value 0) ∷ gets 0 1 bad ∷ []
 
--- What the tally refuses to caller 1 once it has added: to add again, and to reply the new word.
+-- What the tally refuses to caller 1 once it has added: to add again, and to reply the word that it
+-- left or `bad`.
 abbrev pub refused_after_adding : List Step
 refused_after_adding = finds_and_leaves 1 1 2 ∷ gets 1 1 (value 1) ∷ gets 1 1 bad ∷ []
 
@@ -110,8 +112,8 @@ written = write_and_read ++ finds_and_leaves 0 0 9 ∷ []
 abbrev pub written_and_read : List Step
 written_and_read = written ++ finds_and_leaves 1 9 9 ∷ gets 1 1 (value 9) ∷ gets 0 1 done ∷ []
 
--- What the cell refuses once both have announced: to store the whole operation word, to store
--- another value, to change the word as it is read, and a reply before the step.
+-- What the cell refuses once a write of 9 and a read are announced: to store the whole operation
+-- word, to store another value, to change the word as it is read, and a reply before the step.
 abbrev pub refused_before_writing : List Step
 refused_before_writing =
     finds_and_leaves 0 0 write_nine

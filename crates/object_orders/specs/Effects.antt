@@ -13,7 +13,8 @@ pub record Effects : Type 0 where
   pub list : World → List ℕ
   pub reply : World → Call → Option ℕ
 
--- No call takes effect between two worlds.
+-- No call takes effect between two worlds: the list and the reply of each call are the same in
+-- both.
 pub record IsQuiet (e : Effects) (w v : World) : Type 0 where
   pub list : e.list v ≡ e.list w
   pub replies : (call : Call) → e.reply v call ≡ e.reply w call
@@ -23,8 +24,9 @@ pub record IsAnnounced (s : Shape) (w : World) (call : Call) (operation : ℕ) :
   pub caller : call.caller < s.callers
   pub is : slice_get (local_of w call.caller).operations call.number ≡ Some operation
 
--- One call takes effect between two worlds: it has been announced, it had no reply before, and the
--- sequential object makes its operation on the list and gives its reply.
+-- One call takes effect between two worlds. It has been announced, it had no reply before, and it
+-- has one after; the sequential object's operation on the list gives the next list and this reply;
+-- and no other call's reply changes.
 pub record TakesEffect (next : List ℕ → ℕ → List ℕ × ℕ) (s : Shape) (e : Effects) (w v : World)
     (d : Done) : Type 0 where
   pub announced : IsAnnounced s v d.call d.operation
@@ -73,7 +75,7 @@ pub record IsOrderOfEffects (s : Shape) (e : Effects) (steps : List Step)
   pub ordered : (p q : ℕ) (a b : Done) → p < q → slice_get order p ≡ Some a
       → slice_get order q ≡ Some b → TakesEffectBefore s e steps a.call b.call
 
--- A history has a linearization in the order of the run's effects.
+-- The object history of a run has a linearization in the order of the run's effects.
 abbrev pub IsLinearizedByEffects : SeqSpec → Shape → Effects → List Step → Type 0
 IsLinearizedByEffects spec s e steps =
     (order : List Done) × IsLinearization spec (history_of s steps) order

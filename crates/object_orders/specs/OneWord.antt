@@ -27,17 +27,18 @@ abbrev pub reply_of : OneWord → ℕ → List Object_step → Option ℕ
 reply_of o operation steps =
     if o.makes_step operation then reply_by_step o operation steps else Some BAD
 
--- A call has made no step yet.
+-- Whether a call has made no step, given the steps that it has made.
 abbrev pub is_without_steps : List Object_step → Bool
 is_without_steps [] = true
 is_without_steps (step ∷ more) = false
 
--- A call has its reply, and this is it.
+-- Whether a call has a reply, and this reply is the given one.
 abbrev pub is_reply : Option ℕ → ℕ → Bool
 is_reply None reply = false
 is_reply (Some x) reply = reply == x
 
--- The program of an object of one word: a call makes its one step, and gets the reply of it.
+-- The program of an object of one word. A call whose operation makes a step makes it once, and then
+-- gets the reply of that step; any other call makes no step and gets the reply `bad`.
 abbrev pub one_word_program : OneWord → Meaning
 one_word_program o =
     record {
@@ -47,13 +48,13 @@ one_word_program o =
       may_reply = λ i l reply. is_reply (reply_of o (operation_now l) (steps_now l)) reply;
     }
 
--- A world of n callers and a cap for an object of one word.
+-- The shape of a world of n callers with at most cap calls each, for an object of one word.
 abbrev pub one_word_shape : ℕ → ℕ → OneWord → Shape
 one_word_shape n cap o = record { callers = n; cap = cap; program = one_word_program o }
 
--- An object of one word serves a sequential object, whose list is read off the word: the word 0 has
--- the first list, a step makes the operation, and an operation without a step leaves each such list
--- unchanged and replies bad.
+-- An object of one word serves a sequential object, given the list that each word stands for. The
+-- word 0 stands for the first list; a step leaves the word of the next list and gives the reply to
+-- its operation; and an operation without a step changes no list and has the reply `bad`.
 pub record Serves (o : OneWord) (list : ℕ → List ℕ) (spec : SeqSpec) : Type 0 where
   pub first : list 0 ≡ spec.init
   pub step : (operation x : ℕ) → o.makes_step operation ≡ true
@@ -72,8 +73,8 @@ abbrev pub reply_in : OneWord → Local → ℕ → Option ℕ
 reply_in o l k =
     reply_if_announced o (slice_get l.operations k) (slice_index_or l.object_steps k [])
 
--- A call takes effect at its step, or at its announcement where its operation makes none; the list
--- is read off the word.
+-- The effects of an object of one word: the list is read off the word, and a call has its reply
+-- from its step on, or from its announcement on where its operation makes no step.
 abbrev pub one_word_effects : Shape → OneWord → (ℕ → List ℕ) → Effects
 one_word_effects s o list =
     record {
@@ -90,8 +91,8 @@ OneWordsLinearize =
     → (n cap : ℕ) (steps : List Step) → IsRun (one_word_shape n cap o) steps
     → IsLinearizable spec (history_of (one_word_shape n cap o) steps)
 
--- The order of the calls' steps and, for calls without a step, announcements linearizes the object
--- history of every run of an object of one word.
+-- The object history of every run of an object of one word has a linearization in the order in
+-- which calls take effect: each at its step, or at its announcement where it makes no step.
 abbrev pub OneWordOrdersAreOfSteps : Type 0
 OneWordOrdersAreOfSteps =
     (o : OneWord) (list : ℕ → List ℕ) (spec : SeqSpec)

@@ -6,13 +6,13 @@ ghost use Rattle.world_core.specs.Schedules.{allows_in, refuses_in};
 ghost use Rattle.world_core.specs.World.{IsRun, end_of, object_word};
 ghost use Rattle.object_orders.specs.Cases.{tally_pair, tally_alone, cell_pair, increment, write_nine, read, done, value, bad, finds_and_leaves, gets, both_increments, counted_by_second, counted_by_both, counted_alone, refused_before_adding, refused_after_adding, unknown_announced, refused_to_unknown, write_and_read, written, written_and_read, refused_before_writing, refused_after_writing};
 
-/// Two callers increment at once, and one alone. An increment adds 1 once and then replies the word
-/// that it found. It can't reply before it has added, add twice, leave another sum, or reply the
-/// word that it left.
+/// Two callers increment a tally at once, and one caller a tally of its own. An increment adds 1
+/// once and then replies the word that it found. It can't reply before it has added, add twice,
+/// leave another sum, or reply the word that it left.
 pub fn increments_are_counted()
     // The steps of two callers that increment at once are a run.
     ensures run { IsRun tally_pair counted_by_both }
-    // The word is 2 after both increments.
+    // The word of the tally is 2 after both increments.
     ensures word { object_word tally_pair (end_of tally_pair counted_by_both) 0 ≡ 2 }
     // The history has both invocations and then both returns, with the values 1 and 0.
     ensures history { history_of tally_pair counted_by_both
@@ -20,12 +20,14 @@ pub fn increments_are_counted()
         ∷ Returned (call_of 0 0) (value 1) ∷ Returned (call_of 1 0) (value 0) ∷ [] }
     // The steps of one caller that increments alone are a run.
     ensures alone { IsRun tally_alone counted_alone }
-    // The tally refuses another sum, another word found, and a reply before the step.
+    // Before a caller has added, the tally refuses it another sum, a step that finds another word
+    // than the tally has, and the replies 0 and `bad`.
     ensures before { IsTrue (refuses_in tally_pair both_increments refused_before_adding) }
     // The tally allows both callers to add 1 to the word found.
     ensures adds { IsTrue (allows_in tally_pair both_increments
         (finds_and_leaves 0 0 1 ∷ finds_and_leaves 1 0 1 ∷ [])) }
-    // The tally refuses a second addition, and a reply of the word that was left.
+    // Once a caller has added, the tally refuses it a second addition, a reply of the word that it
+    // left, and the reply `bad`.
     ensures after_adding { IsTrue (refuses_in tally_pair counted_by_second refused_after_adding) }
     // The tally allows the reply of the word found once the caller has added.
     ensures replies { IsTrue (allows_in tally_pair counted_by_second (gets 1 1 (value 0) ∷ [])) }
@@ -36,14 +38,14 @@ pub fn increments_are_counted()
 pub fn writes_are_read()
     // The steps of a write of 9 and a read of it are a run.
     ensures run { IsRun cell_pair written_and_read }
-    // The word is 9 after the write.
+    // The word of the cell is 9 after the write.
     ensures word { object_word cell_pair (end_of cell_pair written_and_read) 0 ≡ 9 }
     // The history has both invocations, then the read's return with 9, and the write's with done.
     ensures history { history_of cell_pair written_and_read
         ≡ Invoked (call_of 0 0) write_nine ∷ Invoked (call_of 1 0) read
         ∷ Returned (call_of 1 0) (value 9) ∷ Returned (call_of 0 0) done ∷ [] }
-    // The cell refuses to store another word, to change the word at a read, and a reply before the
-    // step.
+    // Before its step a call gets no reply from the cell; a write may store nothing but its
+    // argument, and a read may not change the word.
     ensures before { IsTrue (refuses_in cell_pair write_and_read refused_before_writing) }
     // The cell allows the write to store its argument, and the read to leave the word.
     ensures steps { IsTrue (allows_in cell_pair write_and_read
@@ -54,13 +56,16 @@ pub fn writes_are_read()
     ensures replies { IsTrue (allows_in cell_pair written (gets 0 1 done ∷ [])) }
 {}
 
-/// An operation that the object doesn't know makes no step, and replies bad.
+/// A call of an operation that the tally or the cell doesn't know makes no step, and gets the reply
+/// `bad`.
 pub fn unknown_operations_reply_bad()
-    // The tally refuses each step, and each reply but `bad`, to an operation that it doesn't know.
+    // To an operation that it doesn't know the tally refuses a step that changes the word, a step
+    // that doesn't, and the replies `done` and 0.
     ensures tally { IsTrue (refuses_in tally_pair unknown_announced refused_to_unknown) }
     // The tally allows the reply `bad` to an operation that it doesn't know.
     ensures tally_replies { IsTrue (allows_in tally_pair unknown_announced (gets 0 1 bad ∷ [])) }
-    // The cell refuses each step, and each reply but `bad`, to an operation that it doesn't know.
+    // To an operation that it doesn't know the cell refuses a step that changes the word, a step
+    // that doesn't, and the replies `done` and 0.
     ensures cell { IsTrue (refuses_in cell_pair unknown_announced refused_to_unknown) }
     // The cell allows the reply `bad` to an operation that it doesn't know.
     ensures cell_replies { IsTrue (allows_in cell_pair unknown_announced (gets 0 1 bad ∷ [])) }

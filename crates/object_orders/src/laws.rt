@@ -16,13 +16,14 @@ pub fn effects_linearize()
     ensures order { TheOrderIsOfEffects }
 {}
 
-/// Every run of an object of one word is linearizable, where each call makes at most one step: a
-/// call takes effect at its step, or at its announcement where its operation makes none.
+/// Every run of an object of one word is linearizable for the sequential object that it serves: a
+/// call takes effect at its one step, or at its announcement where its operation makes no step.
 pub fn one_words_linearize()
-    // The object history of each run of an object of one word is linearizable.
+    // The object history of each run of an object of one word is linearizable for the sequential
+    // object that it serves.
     ensures linearizable { OneWordsLinearize }
-    // The order that linearizes a run of an object of one word is that of its steps, and of
-    // announcements of operations without a step.
+    // A run of an object of one word has a linearization in the order in which calls take effect:
+    // each at its step, or at its announcement where it makes no step.
     ensures order { OneWordOrdersAreOfSteps }
 {}
 

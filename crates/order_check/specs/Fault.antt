@@ -28,7 +28,8 @@ FailsTest spec book order (Unknown p) = (call : Call) × StandsAt order p call
 -- the call at place p stands at an earlier place
 FailsTest spec book order (Twice p) = (call : Call) × StandsAt order p call × (j : ℕ) × (j < p)
     × StandsAt order j call
--- the call at place p isn't its caller's first, and the one before it stands at no earlier place
+-- the call at place p isn't its caller's first, and its caller's previous call stands at no earlier
+-- place
 FailsTest spec book order (Skipped p) = (call : Call) × StandsAt order p call × (number : ℕ)
     × (number + 1 ≡ call.number)
     × ((j : ℕ) → j < p → StandsAt order j (record { caller = call.caller; number = number }) → ⊥)
@@ -50,7 +51,7 @@ FailsTest spec book order (Missing caller number) =
     let call : Call = record { caller = caller; number = number } in
     IsAnswered book call × ((k : ℕ) → StandsAt order k call → ⊥)
 
--- the place at which a test is tried; what is missing is looked for after all places
+-- the place at which a test is tried; missing calls are looked for after all places
 abbrev pub place_of : List Place → OrderFault → ℕ
 place_of order (Unknown p) = p
 place_of order (Twice p) = p
@@ -70,18 +71,19 @@ turn_of (Record p wanted found) = 4
 turn_of (Run p wanted found) = 5
 turn_of (Missing caller number) = caller
 
--- what is tried in turn within a turn: earlier places for a late call, and numbers for a missing
--- one
+-- the order of the tests of one turn: by the earlier place for a late call, and by the call's
+-- number for a missing call
 abbrev pub step_of : OrderFault → ℕ
 step_of (Late q p) = q
 step_of (Missing caller number) = number
 step_of fault = 0
 
--- Of two tests of one place, one is tried before the other.
+-- Of two tests of one place, one is tried before the other: by its turn, and within a turn by its
+-- step.
 abbrev pub HasTurnBefore : OrderFault → OrderFault → Type 0
 HasTurnBefore e f = (turn_of e < turn_of f) ⊎ ((turn_of e ≡ turn_of f) × (step_of e < step_of f))
 
--- One test is tried before another: at an earlier place, or before it at the same one.
+-- One test is tried before another: at an earlier place, or earlier among the tests of one place.
 abbrev pub IsTriedBefore : List Place → OrderFault → OrderFault → Type 0
 IsTriedBefore order e f = (place_of order e < place_of order f)
     ⊎ ((place_of order e ≡ place_of order f) × HasTurnBefore e f)

@@ -11,7 +11,7 @@ use Rattle.order_check.specs.declared.fault.OrderFault.{OrderFault}
 use Rattle.order_check.specs.Fault.{FailsTest, place_of, HasTurnBefore}
 
 -- The calls at the places before place p are calls of the book, and exactly those that the cut
--- holds.
+-- `standing` holds.
 pub record IsStanding (book : List Page) (order : List Place) (p : ℕ)
     (standing : List ℕ) : Type 0 where
   pub wide : length standing ≡ length book
@@ -21,17 +21,17 @@ pub record IsStanding (book : List Page) (order : List Place) (p : ℕ)
 
 -- The call at place p may stand there, after the calls before it.
 pub record IsInPlace (book : List Page) (order : List Place) (p : ℕ) : Type 0 where
-  -- it is a call of the book
+  -- the call at place p is a call of the book
   pub known : (call : Call) → StandsAt order p call → IsCall book call
-  -- it stands at no earlier place than p
+  -- the call at place p stands at no earlier place
   pub once : (j : ℕ) (call : Call) → StandsAt order p call → j < p → StandsAt order j call → ⊥
-  -- the previous call of its caller, where there is one, stands at an earlier place
+  -- the previous call of the caller at place p, where there is one, stands at an earlier place
   pub in_turn : (call : Call) → StandsAt order p call → (number : ℕ) → number + 1 ≡ call.number
       → (j : ℕ) × (j < p) × StandsAt order j (record { caller = call.caller; number = number })
-  -- it precedes no call at an earlier place
+  -- the call at place p precedes no call at an earlier place
   pub in_time : (j : ℕ) (a b : Call) → StandsAt order p a → j < p → StandsAt order j b
       → Precedes book a b → ⊥
-  -- the place has its recorded reply, where the call is answered
+  -- place p has the recorded reply of its call, where the call is answered
   pub recorded : (place : Place) (r : Record) → slice_get order p ≡ Some place
       → record_of book (call_at place) ≡ Some r → r.reply ≡ place.reply
 

@@ -15,13 +15,14 @@ pub enum OrderFault {
     /// The previous call of the caller at this place is at no earlier place.
     #[error("the previous call of the caller at place {0} doesn't stand earlier")]
     Skipped(u64),
-    /// The call at the second place precedes the call at the first, the least such earlier place.
+    /// The call at the second place precedes the call at the first place, which is the least
+    /// earlier place of this kind.
     #[error("the call at place {1} precedes that at the earlier place {0}")]
     Late(u64, u64),
-    /// The call at this place is answered with the second reply word, and the place has the third.
+    /// A place, the reply word that its call has in the book, and the other one that the place has.
     #[error("the call at place {0} is answered with the reply word {1}, and the place has {2}")]
     Record(u64, u64, u64),
-    /// At this place the sequential object gives the second reply word; the place has the third.
+    /// A place, the reply word that the object gives there, and the other one that the place has.
     #[error("at place {0} the object gives the reply word {1}, and the place has {2}")]
     Run(u64, u64, u64),
     /// The least answered call, by caller and number, that is at no place.

@@ -21,8 +21,8 @@ pub fn call_at(place: Place) -> Call
 /// The first of the tests on calls and records that a place fails, where the places before it pass
 /// theirs.
 ///
-/// Each caller's calls are in their order, so that `standing`, the cut of the calls before the
-/// place, decides all but the place that a late call should have come before.
+/// The cut `standing` has the calls before the place, and each caller's calls stand in their order.
+/// So this cut decides each test, and earlier places are searched only for one of a late call.
 pub fn first_fault_at(book: &Book, order: &[Place], at: usize, standing: &Cut) -> Option<OrderFault>
     requires valid { IsValid book.now }
     requires place { at < length order.now }
@@ -63,8 +63,8 @@ fn is_call(book: &Book, call: Call) -> bool
     call.caller < book.callers() && call.number < book.calls(call.caller)
 }
 
-// The least place before the given one whose call the given call precedes. There is none where the
-// view of the given call holds all calls before the given place.
+// The least place below `before` whose call the given call precedes. There is none where the view
+// of the given call holds all calls at the places below `before`.
 fn first_preceded(
     book: &Book,
     order: &[Place],

@@ -19,8 +19,8 @@ pub record IsKeyed (key : ℕ → Option ℕ) (part : ℕ → List ℕ → List 
   pub others : (list : List ℕ) (op k : ℕ) → key op ≢ Some k → part k (next list op).0 ≡ part k list
   pub unkeyed : (one other : List ℕ) (op : ℕ) → key op ≡ None → (next one op).1 ≡ (next other op).1
 
--- In a book with one open, where places continue an order, as many or fewer that begin with a call
--- on the forced call's key do too.
+-- In a book with one open, where places continue an order, as many places or fewer that begin with
+-- a call on the forced call's key continue it too.
 abbrev pub ForcedKeyGoesFirst : Type 0
 ForcedKeyGoesFirst =
     (key : ℕ → Option ℕ) (part : ℕ → List ℕ → List ℕ) (next : List ℕ → ℕ → List ℕ × ℕ)

@@ -1,4 +1,4 @@
-//! The laws, each the contract of a function with nothing in it. They hold for every object.
+//! Laws of pruning, each the contract of a function with nothing in it. They hold for every object.
 
 ghost use Rattle.pruning_laws.specs.Twins.{TwinServes};
 ghost use Rattle.pruning_laws.specs.Idle.{IdleMayBeLeftOut};
@@ -6,19 +6,21 @@ ghost use Rattle.pruning_laws.specs.Keys.{ForcedKeyGoesFirst};
 
 /// Of two calls of one operation that may come next, an answered one serves for the other where the
 /// other has the same reply and a view that contains its own, or is unanswered and would get the
-/// same reply now. Of two unanswered ones either serves.
+/// same reply at the present list. Of two unanswered ones either serves for the other.
 #[tactic(auto, using(crate::proofs::Exchanging::twin_serves))]
 pub fn twins_serve_for_one_another()
     ensures { TwinServes }
 {}
 
-/// An unanswered call that doesn't change the object's present list may be left out.
+/// An unanswered call that doesn't change the object's present list may be left out, in a book with
+/// one open.
 #[tactic(auto, using(crate::proofs::Omitting::idle_may_be_left_out))]
 pub fn idle_calls_may_be_left_out()
     ensures { IdleMayBeLeftOut }
 {}
 
-/// Of an object of keys only calls with the forced call's key need be tried.
+/// In a book with one open of an object of keys, only calls with the forced call's key need be
+/// tried.
 pub fn the_forced_key_goes_first()
     ensures { ForcedKeyGoesFirst }
 {}

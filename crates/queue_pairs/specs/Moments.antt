@@ -29,7 +29,7 @@ HaveMoments book m [] = Unit {0}
 HaveMoments book m (call ∷ calls) = (n : ℕ) × (m ≤ n) × MayTakeEffect book call n
     × HaveMoments book n calls
 
--- Calls keep precedence: each stands before those that it precedes.
+-- Calls keep precedence in a list: each stands before those of them that it precedes.
 abbrev pub KeepPrecedence : List Page → List Call → Type 0
 KeepPrecedence book calls = (j k : ℕ) (a b : Call) → slice_get calls j ≡ Some a
     → slice_get calls k ≡ Some b → Precedes book a b → j < k
@@ -39,7 +39,8 @@ abbrev pub AreHeld : List Page → List Call → Type 0
 AreHeld book calls = (k : ℕ) (call : Call) → slice_get calls k ≡ Some call → (m : ℕ)
     × IsHeldBy book call m
 
--- An answered call precedes those calls that no view holds up to its own moment.
+-- An answered call precedes exactly those calls that no view holds up to the moment of its own
+-- view.
 abbrev pub PrecedesByMoments : Type 0
 PrecedesByMoments = (book : List Page) (a b : Call) (r : Record) → IsValid book
     → record_of book a ≡ Some r

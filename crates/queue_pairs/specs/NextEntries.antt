@@ -11,7 +11,7 @@ use Rattle.queue_pairs.specs.declared.table.TimedCall.{TimedCall}
 use Rattle.queue_pairs.specs.Pairs.{Paired, Pair}
 use Rattle.queue_pairs.specs.Tables.{put_at, take_at, IsFirstFrom}
 
--- the standing that the code keeps in memory
+-- the standing that a `PairState` of the code stands for
 abbrev pub paired : PairState → Paired
 paired s = record {
   puts = s.puts;
@@ -21,6 +21,7 @@ paired s = record {
   take_moment = s.take_moment;
 }
 
+-- the pair that a `TimedPair` of the code stands for: the calls of its entries, with its moments
 abbrev pub pair_of : TimedPair → Pair
 pair_of pair = record {
   put = pair.put.call;
@@ -29,7 +30,8 @@ pair_of pair = record {
   take_moment = pair.take_moment;
 }
 
--- A value is the least of the first values of a function, or NEVER where none of them is less.
+-- A value is the least of the values of a function at the numbers below `below`, or `NEVER` where
+-- none of these values is less.
 pub record IsLeastOf (values : ℕ → ℕ) (below value : ℕ) : Type 0 where
   pub least : (k : ℕ) → k < below → value ≤ values k
   pub some : (value ≡ NEVER) ⊎ ((k : ℕ) × (k < below) × (value ≡ values k))
@@ -39,12 +41,14 @@ abbrev pub last_of : Option TimedCall → ℕ
 last_of None = NEVER
 last_of (Some t) = t.span.last
 
--- the latest moment, and the first one, at which a call may take effect that no view up to a given
--- moment holds; NEVER of any other call
+-- the latest moment at which a call may take effect, where no view up to the moment `found` holds
+-- the call; else `NEVER`
 abbrev pub last_after : ℕ → Option TimedCall → ℕ
 last_after found None = NEVER
 last_after found (Some t) = if nat_lt found t.span.first then t.span.last else NEVER
 
+-- the first moment at which a call may take effect, where no view up to the moment `found` holds
+-- the call; else `NEVER`
 abbrev pub first_after : ℕ → Option TimedCall → ℕ
 first_after found None = NEVER
 first_after found (Some t) = if nat_lt found t.span.first then t.span.first else NEVER
@@ -95,8 +99,8 @@ pub record Serves (other pair : TimedPair) : Type 0 where
   pub put_due : other.put.span.last ≤ pair.put.span.last
   pub take_due : other.take.span.last ≤ pair.take.span.last
 
--- some remaining put is due before the first of two moments, or some remaining take before the
--- second
+-- some remaining put is due before the first of two moments, or some remaining take, of a value or
+-- of nothing, before the second
 abbrev pub IsPast : NextEntries → ℕ → ℕ → Type 0
 IsPast next_entries put_moment take_moment = (next_entries.put_limit < put_moment)
     ⊎ (next_entries.take_limit < take_moment) ⊎ (next_entries.find_limit < take_moment)

@@ -27,28 +27,30 @@ pub record Pair : Type 0 where
   pub take_moment : ℕ
 
 -- A step from one standing to the next: a pair, or all takes that find nothing and that some view
--- holds at a moment.
+-- holds up to a moment.
 pub data PairStep : Type 0 where
   Pairs : Pair → PairStep
   FindNothing : ℕ → PairStep
 
--- the call puts in a value
+-- a call puts in the value `v`
 abbrev pub IsPutOf : Reading → List Page → ℕ → Call → Type 0
 IsPutOf reading book v call = deal_of reading book call ≡ deals.Put v
 
+-- a call puts in some value
 abbrev pub IsPut : Reading → List Page → Call → Type 0
 IsPut reading book call = (v : ℕ) × IsPutOf reading book v call
 
--- the call takes out a value, or it is an unanswered take
+-- a call takes out the value `v`, or it is an unanswered take
 abbrev pub MayTakeOut : Reading → List Page → ℕ → Call → Type 0
 MayTakeOut reading book v call = (deal_of reading book call ≡ deals.Took v)
     ⊎ (deal_of reading book call ≡ deals.OpenTake)
 
+-- a call takes out some value, or it is an unanswered take
 abbrev pub IsTake : Reading → List Page → Call → Type 0
 IsTake reading book call = (v : ℕ) × MayTakeOut reading book v call
 
--- The call is its caller's next one of a kind: it isn't below the caller's number, and no call from
--- this number on and before it is of the kind.
+-- A call is its caller's next one of a kind: its number isn't below the one that `numbers` has for
+-- the caller, and no call of the caller from that number on and before this call is of the kind.
 pub record IsNext (kind : Call → Type 0) (numbers : List ℕ) (call : Call) : Type 0 where
   pub outside : slice_index numbers call.caller ≤ call.number
   pub first : (n : ℕ) → slice_index numbers call.caller ≤ n → n < call.number
@@ -69,21 +71,22 @@ pub record MayPair (reading : Reading) (book : List Page) (s : Paired) (pair : P
   pub put_effect : MayTakeEffect book pair.put pair.put_moment
   pub take_effect : MayTakeEffect book pair.take pair.take_moment
 
--- The takes that find nothing and that some view holds at a moment may come next at a standing: the
--- moment is no earlier than that of the last take so far, and no later than that of each of these
--- takes that isn't covered yet.
+-- The takes that find nothing and that some view holds up to a moment `m` may come next at a
+-- standing: `m` is no earlier than the moment of the last take so far, and no later than that of
+-- the own view of each of these takes that isn't covered yet.
 pub record MayFind (reading : Reading) (book : List Page) (s : Paired) (m : ℕ) : Type 0 where
   pub after_takes : s.take_moment ≤ m
   pub in_time : (e : Call) (r : Record) → deal_of reading book e ≡ deals.FoundNothing
       → record_of book e ≡ Some r → IsHeldBy book e m
       → (IsHeldBy book e s.found → ⊥) → m ≤ moment_of r
 
+-- a step may come next at a standing
 abbrev pub MayStep : Reading → List Page → Paired → PairStep → Type 0
 MayStep reading book s (Pairs pair) = MayPair reading book s pair
 MayStep reading book s (FindNothing m) = MayFind reading book s m
 
--- the standing after a step; after takes that find nothing the next put has no earlier moment than
--- they
+-- the standing after a step; after takes that find nothing up to a moment, the last put and the
+-- last take count as having this moment
 abbrev pub after : Paired → PairStep → Paired
 after s (Pairs pair) = record s {
   puts = slice_set s.puts pair.put.caller (pair.put.number + 1);

@@ -1,4 +1,5 @@
--- Choices that needn't be tried: of two puts of one value, and of two takes, one serves for the
+-- Choices that needn't be tried: of two puts of one value, and of two takes of one deal, one serves
+-- for the other.
 -- other.
 use Rattle.std.specs.Prelude.{◌≡◌, ◌≢◌, ℕ, ◌≤◌, List, ◌∷◌, length, Some}
 use Rattle.book_base.specs.declared.call.Call.{Call}
@@ -10,20 +11,21 @@ use Rattle.container_pruning.specs.Deals.{deal_of}
 use Rattle.queue_pairs.specs.Moments.{moment_of, MayTakeEffect}
 use Rattle.queue_pairs.specs.Pairs.{Paired, Pair, PairStep, Pairs, IsPutOf, IsPut, IsTake, IsNext, AreSteps}
 
--- The other call is due no later than the call: where the call is answered, the other one is too,
--- with no later moment.
+-- A call `other` is due no later than a call `call`: where `call` is answered, `other` is answered
+-- too, and its view has no later moment.
 abbrev pub IsDueNoLater : List Page → Call → Call → Type 0
 IsDueNoLater book other call = (r : Record) → record_of book call ≡ Some r → (o : Record)
     × (record_of book other ≡ Some o) × (moment_of o ≤ moment_of r)
 
--- Some steps lead from a standing to one that is whole: this pair, and after it as many steps as
--- these.
+-- From a standing, the pair `pair` and after it as many steps as `steps` has lead to a standing
+-- that is whole.
 abbrev pub GoesOnWith : Reading → List Page → Paired → Pair → List PairStep → Type 0
 GoesOnWith reading book s pair steps = (other : List PairStep)
     × AreSteps reading book s (Pairs pair ∷ other) × (length other ≡ length steps)
 
--- Where steps from a standing begin with a pair, as many begin with another caller's next put of
--- the same value in the place of its put, if that put may take effect no later and is due no later.
+-- Where steps that lead from a standing to a whole one begin with a pair, as many steps lead to a
+-- whole one that begin with another caller's next put of the same value in the place of the pair's
+-- put, if that other put may take effect no later and is due no later.
 abbrev pub EarlierPutServes : Type 0
 EarlierPutServes = (reading : Reading) (book : List Page) (s : Paired) (pair : Pair) (p : Call)
     (m : ℕ) (steps : List PairStep) → IsValid book → HasOneOpen book
@@ -33,9 +35,9 @@ EarlierPutServes = (reading : Reading) (book : List Page) (s : Paired) (pair : P
     → MayTakeEffect book p m → m ≤ pair.put_moment → IsDueNoLater book p pair.put
     → GoesOnWith reading book s (record pair { put = p; put_moment = m }) steps
 
--- Where steps from a standing begin with a pair, as many begin with another caller's next take of
--- the same deal in the place of its take, if that take may take effect no later and is due no
--- later.
+-- Where steps that lead from a standing to a whole one begin with a pair, as many steps lead to a
+-- whole one that begin with another caller's next take of the same deal in the place of the pair's
+-- take, if that other take may take effect no later and is due no later.
 abbrev pub EarlierTakeServes : Type 0
 EarlierTakeServes = (reading : Reading) (book : List Page) (s : Paired) (pair : Pair) (p : Call)
     (m : ℕ) (steps : List PairStep) → IsValid book → HasOneOpen book

@@ -9,7 +9,7 @@ use Rattle.queue_pairs.specs.declared.TheConstants.{NEVER}
 use Rattle.queue_pairs.specs.Moments.{moment_of, IsHeldBy}
 
 -- A span says when a call may take effect: from the moment of the first view that holds it up to
--- that of its own view. A moment without such a view is later than all others.
+-- that of its own view. Where there is no such view, the moment is later than all others.
 pub record IsSpanOf (book : List Page) (call : Call) (span : Span) : Type 0 where
   pub held : span.first < NEVER → IsHeldBy book call span.first
   pub least : (m : ℕ) → IsHeldBy book call m → (span.first ≤ m) × (span.first < NEVER)
@@ -17,8 +17,8 @@ pub record IsSpanOf (book : List Page) (call : Call) (span : Span) : Type 0 wher
       → (span.last ≡ moment_of r) × (span.last < NEVER)
   pub unanswered : answers_of book call.caller ≤ call.number → span.last ≡ NEVER
 
--- The views of a caller's first records don't hold a call, and those of its records from another
--- number on do.
+-- Of a caller's records, those with a number below `low` have views that don't hold a call, and
+-- those with a number from `high` on have views that hold it.
 pub record AreHolding (book : List Page) (caller : ℕ) (call : Call) (low high : ℕ) : Type 0 where
   pub ordered : low ≤ high
   pub few : high ≤ answers_of book caller
@@ -27,8 +27,8 @@ pub record AreHolding (book : List Page) (caller : ℕ) (call : Call) (low high 
   pub above : (k : ℕ) (r : Record) → high ≤ k
       → record_of book (record { caller = caller; number = k }) ≡ Some r → Holds r.view call
 
--- Of the views of the callers below a number that hold a call, a moment is that of the first, or
--- later than all others where none does.
+-- Of the views of the callers below a number that hold a call, a moment is that of the first one,
+-- or later than all others where none of these views holds the call.
 pub record IsFirstBelow (book : List Page) (call : Call) (below first : ℕ) : Type 0 where
   pub few : first ≤ NEVER
   pub held : first < NEVER → IsHeldBy book call first

@@ -35,15 +35,15 @@ pub record IsRowTo (reading : Reading) (book : List Page) (caller below : ℕ)
   pub calls : (n : ℕ) (t : TimedCall) → slice_get row n ≡ Some t
       → IsTimed reading book (record { caller = caller; number = n }) t
 
--- There is a row for each of the first callers, with all its calls.
+-- A list has a row for each caller below a number, in order, with all calls of the caller.
 pub record AreRowsTo (reading : Reading) (book : List Page) (below : ℕ)
     (all : List (List TimedCall)) : Type 0 where
   pub size : length all ≡ below
   pub rows : (i : ℕ) (row : List TimedCall) → slice_get all i ≡ Some row
       → IsRowTo reading book i (calls_of book i) row
 
--- These are the entries of the takes that find nothing, of the callers below one, and of that one
--- below a number.
+-- A list has the entries of takes that find nothing, and no others: of all those of the callers
+-- below `caller`, and of those of `caller` with a number below `below`.
 pub record AreFindsTo (reading : Reading) (book : List Page) (caller below : ℕ)
     (finds : List TimedCall) : Type 0 where
   pub right : (k : ℕ) (t : TimedCall) → slice_get finds k ≡ Some t
@@ -67,6 +67,7 @@ pub record IsTable (reading : Reading) (book : List Page) (table : Table) : Type
 abbrev pub timed_at : Table → ℕ → ℕ → Option TimedCall
 timed_at table caller number = slice_get (slice_index_or (rows_of table) caller []) number
 
+-- whether a call with this deal puts a value in
 abbrev pub is_put : QueueDeal → Bool
 is_put (did.Put v) = true
 is_put (did.Took v) = false
@@ -74,8 +75,7 @@ is_put did.FoundNothing = false
 is_put did.OpenTake = false
 is_put did.Other = false
 
--- Whether a call with this deal takes a value out or is an unanswered take, and whether it finds
--- nothing.
+-- whether a call with this deal takes a value out, or is an unanswered take
 abbrev pub is_take : QueueDeal → Bool
 is_take (did.Put v) = false
 is_take (did.Took v) = true
@@ -83,6 +83,7 @@ is_take did.FoundNothing = false
 is_take did.OpenTake = true
 is_take did.Other = false
 
+-- whether a call with this deal is a take that finds nothing
 abbrev pub is_find : QueueDeal → Bool
 is_find (did.Put v) = false
 is_find (did.Took v) = false
@@ -90,18 +91,20 @@ is_find did.FoundNothing = true
 is_find did.OpenTake = false
 is_find did.Other = false
 
--- the entry, where what its call did passes a test
+-- an entry, where what its call did passes a test
 abbrev pub only_by : (QueueDeal → Bool) → Option TimedCall → Option TimedCall
 only_by test None = None
 only_by test (Some t) = if test t.deal then Some t else None
 
+-- the entry of a caller's call, where it is a put
 abbrev pub put_at : Table → ℕ → ℕ → Option TimedCall
 put_at table caller number = only_by is_put (timed_at table caller number)
 
+-- the entry of a caller's call, where it takes a value out or is an unanswered take
 abbrev pub take_at : Table → ℕ → ℕ → Option TimedCall
 take_at table caller number = only_by is_take (timed_at table caller number)
 
--- The entry is the first one from a number on, or none where there is none.
+-- An entry is the first one that a function finds from a number on, or `None` where it finds none.
 abbrev pub IsFirstFrom : (ℕ → Option TimedCall) → ℕ → Option TimedCall → Type 0
 IsFirstFrom at from None = (n : ℕ) → from ≤ n → at n ≡ None
 IsFirstFrom at from (Some t) = (n : ℕ) × (from ≤ n) × (at n ≡ Some t)

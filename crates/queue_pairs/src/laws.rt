@@ -9,7 +9,8 @@ ghost use Rattle.queue_pairs.specs.Serving.{EarlierPutServes, EarlierTakeServes}
 /// exactly where each has a moment, from the first view that holds it up to its own view, and
 /// moments don't fall. Of calls that no view holds, no clause speaks.
 pub fn moments_keep_precedence()
-    // An answered call precedes exactly those calls that no view holds up to its own moment.
+    // An answered call precedes exactly those calls that no view holds up to the moment of its own
+    // view.
     ensures precedes { PrecedesByMoments }
     // In a book with one open, calls that views hold keep precedence exactly where they may take
     // effect one after another.
@@ -28,8 +29,10 @@ pub fn legal_orders_have_pairs()
 /// other: where steps begin with a pair that has the other, as many begin with the pair that has it
 /// in the other's place. No clause says that `decide_queue` rests on this.
 pub fn choices_serve_for_one_another()
-    // Of two puts the earlier one serves for the other.
+    // Of two callers' next puts of one value, one that may take effect no later and is due no later
+    // serves for the other.
     ensures puts { EarlierPutServes }
-    // Of two takes the earlier one serves for the other.
+    // Of two callers' next takes of one deal, one that may take effect no later and is due no later
+    // serves for the other.
     ensures takes { EarlierTakeServes }
 {}

@@ -33,9 +33,9 @@ pub struct TimedPair {
 impl TimedPair {
     /// The pair of a put and a take, at the earliest moments that they may have after a standing.
     pub fn earliest(standing: &PairState, put: TimedCall, take: TimedCall) -> TimedPair
-        // The put of the answer is this one.
+        // The put of the answer is `put`.
         ensures put { result.put ≡ put }
-        // The take of the answer is this one.
+        // The take of the answer is `take`.
         ensures take { result.take ≡ take }
         // The put takes effect at the first moment at which a view holds it, or at that of the last
         // put so far, where this is later.
@@ -134,7 +134,8 @@ impl NextEntries {
     }
 }
 
-// The least of the latest moments that these calls may have.
+// The least of the latest moments at which `calls` may take effect, or `NEVER` where there are no
+// calls.
 fn least_last(calls: &[Option<TimedCall>; MAX_CALLERS]) -> u64
     ensures { IsLeastOf (λ i. last_of (slice_index_or calls.now i None)) MAX_CALLERS result }
 {
@@ -145,7 +146,7 @@ fn least_last(calls: &[Option<TimedCall>; MAX_CALLERS]) -> u64
     least
 }
 
-// The latest moment that a call may have, where there is one.
+// The latest moment at which a call may take effect, or `NEVER` where there is no call.
 fn last_of(timed: Option<TimedCall>) -> u64
     ensures { result ≡ last_of timed }
 {

@@ -16,8 +16,8 @@ struct CallAtMoment {
     call: Call,
 }
 
-/// The calls of a walk's pairs, and all other answered calls, in the order of their moments. Calls
-/// of one moment come in the order of the walk, and the puts whose values nobody takes come last.
+/// The calls of a walk's steps, and all other answered calls, in the order of their moments. Of
+/// calls of one moment, those of the walk's steps come first, in the walk's order.
 pub fn calls_in_order(
     alloc: Global,
     table: &Table,
@@ -47,7 +47,7 @@ pub fn calls_in_order(
     Ok(order)
 }
 
-// Adds the calls of a step.
+// Adds the calls of a step, each with its moment.
 fn add_step(
     table: &Table,
     choice: StepChoice,
@@ -93,8 +93,8 @@ fn left_moment(walk: &PairWalk, caller: usize, timed: TimedCall) -> Option<u64> 
     }
 }
 
-/// The places of calls in an order, each with the reply that the object gives there; there are none
-/// where a call isn't the book's.
+/// The places of calls in an order, each with the reply that the object gives there. The answer is
+/// `None` where a call isn't the book's, or the object's list is full.
 pub fn places_of<S: SeqObject>(
     alloc: Global,
     object: &S,

@@ -147,8 +147,8 @@ impl PairSearch<'_> {
         Ok(())
     }
 
-    // Whether a take may take out what a put puts in. An unanswered take takes only what the
-    // answered ones leave, and nothing of an unanswered put.
+    // Whether a take may take out what a put puts in. An unanswered take takes nothing of an
+    // unanswered put, and, where `by_surplus` is true, only what the answered takes leave.
     fn may_pair(&self, walk: &PairWalk, put: TimedCall, take: TimedCall) -> bool {
         match (put.deal, take.deal) {
             (QueueDeal::Put(value), QueueDeal::Took(shown)) => value == shown,
@@ -158,7 +158,8 @@ impl PairSearch<'_> {
         }
     }
 
-    // Whether the answered takes leave one more item of a value.
+    // Whether the answered takes leave one more item of a value. It is true wherever `by_surplus`
+    // is false.
     fn is_left(&self, walk: &PairWalk, value: u64) -> bool {
         !self.by_surplus || walk.times_spent(value) < self.surplus.of_value(value)
     }
@@ -180,7 +181,8 @@ fn finds_next(standing: &PairState, next_entries: &NextEntries) -> Option<StepCh
     })
 }
 
-// The choice of a pair, at the earliest moments that it may have.
+// The choice of a pair at the earliest moments that it may have, or `None` where some remaining
+// call is due before these moments.
 fn pair_next(
     standing: &PairState,
     next_entries: &NextEntries,

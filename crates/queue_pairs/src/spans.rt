@@ -22,7 +22,7 @@ pub fn span_of(book: &Book, call: Call) -> Span
     Span { first, last }
 }
 
-// The moment of the first view that holds a call.
+// The moment of the first view that holds a call, or `NEVER` where none does.
 fn first_of(book: &Book, call: Call) -> u64
     requires { call.caller < length book.now }
     ensures { IsFirstBelow book.now call (length book.now) result }
@@ -34,7 +34,7 @@ fn first_of(book: &Book, call: Call) -> u64
     first
 }
 
-// The moment of a caller's first view that holds a call.
+// The moment of a caller's first view that holds a call, or `NEVER` where none does.
 fn first_of_caller(book: &Book, caller: u32, call: Call) -> u64
     requires valid { IsValid book.now }
     requires small { IsSmall book.now }
@@ -81,7 +81,7 @@ fn first_holding(book: &Book, caller: u32, call: Call) -> u64
     low
 }
 
-// The moment of a call's own view.
+// The moment of a call's own view, or `NEVER` where the call is unanswered.
 fn last_of(book: &Book, call: Call) -> u64
     requires valid { IsValid book.now }
     requires small { IsSmall book.now }

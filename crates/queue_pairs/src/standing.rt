@@ -10,8 +10,8 @@ use book_base::{Call, MAX_CALLERS, MAX_CALLS};
 /// takes below a number, and the takes that find nothing and that some view holds up to a moment;
 /// and it has the moments of the last put and of the last take.
 ///
-/// Each pair has the earliest moments that it may have, so that whatever steps lead on from the
-/// same calls at later moments lead on from here too.
+/// A search gives each pair the earliest moments that it may have. Whatever steps lead on from a
+/// standing with the same calls and later moments lead on from the one with the earliest too.
 #[derive(Clone, Copy, Debug, PartialEq, Eq, Hash)]
 pub struct PairState {
     pub puts: [u16; MAX_CALLERS],
@@ -49,7 +49,7 @@ impl PairState {
         standing
     }
 
-    /// The standing that also covers the takes that find nothing and that some view holds at a
+    /// The standing that also covers the takes that find nothing and that some view holds up to a
     /// moment. A later put or take has no earlier moment.
     pub fn with_finds(self, moment: u64) -> PairState
         ensures { paired result ≡ after (paired self) (FindNothing moment) }
@@ -74,7 +74,8 @@ impl PairState {
     }
 }
 
-// Covers the calls of a caller up to this one.
+// Raises the number of a call's caller so that it covers the call, and all earlier calls of the
+// caller. Nothing changes where the call's caller or number is above the limits of a book.
 fn raise(numbers: &mut [u16; MAX_CALLERS], call: Call)
     ensures { call.caller < MAX_CALLERS → call.number < MAX_CALLS
         → numbers.new ≡ slice_set numbers.old call.caller (call.number + 1) }

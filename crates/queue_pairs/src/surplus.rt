@@ -3,15 +3,15 @@ use book_base::NoMemory;
 use std::alloc::Global;
 use std::collections::BTreeMap;
 
-/// How many more puts than answered takes there are of each value, which is how many unanswered
-/// takes may take it.
+/// How many more puts that some view holds than answered takes there are of each value, which is
+/// how many unanswered takes may take it.
 #[derive(Drop)]
 pub struct Surplus {
     by_value: BTreeMap<u64, usize>,
 }
 
 impl Surplus {
-    /// The surplus of each value of a book.
+    /// The surplus of puts over answered takes, for each value of a book.
     pub fn of(alloc: Global, table: &Table) -> Result<Surplus, NoMemory> {
         let mut surplus = Surplus {
             by_value: BTreeMap::new(alloc),
@@ -37,7 +37,8 @@ impl Surplus {
         Ok(surplus)
     }
 
-    /// The surplus of a value.
+    /// How many more puts that some view holds than answered takes of a value there are, or 0 where
+    /// there are no more.
     pub fn of_value(&self, value: u64) -> usize {
         match self.by_value.get(&value) {
             Some(more) => *more,

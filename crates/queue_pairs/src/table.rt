@@ -44,7 +44,7 @@ impl QueueDeal {
         matches!(self, QueueDeal::FoundNothing)
     }
 
-    /// Whether two calls did the same.
+    /// Whether two calls did the same, with the same value.
     pub fn is_same(self, other: QueueDeal) -> bool
         ensures { IsTrue result → self ≡ other }
     {
@@ -83,7 +83,8 @@ impl TimedCall {
     }
 }
 
-/// The calls of a book, by caller and number, and those that take and find nothing once more.
+/// The calls of a queue's book, with what they did and when they may take effect: in `rows` all
+/// calls, by caller and number, and in `finds` once more those that take and find nothing.
 #[derive(Drop)]
 pub struct Table {
     pub rows: Vec<Vec<TimedCall>>,
@@ -91,7 +92,7 @@ pub struct Table {
 }
 
 impl Table {
-    /// The calls of a book.
+    /// The table of a book's calls.
     pub fn of<R: Reader>(alloc: Global, reader: &R, book: &Book) -> Result<Table, NoMemory>
         ensures { IfOk result (IsTable (R.reading reader.now) book.now) }
     {
@@ -104,7 +105,7 @@ impl Table {
         Ok(Table { rows, finds })
     }
 
-    /// How many calls of a caller there are.
+    /// How many calls of a caller the table has.
     pub fn calls(&self, caller: usize) -> usize
         ensures { result ≡ length (slice_index_or (rows_of self.now) caller []) }
     {
@@ -114,7 +115,7 @@ impl Table {
         }
     }
 
-    /// A call of a caller.
+    /// The entry of a caller's call with this number, where there is one.
     pub fn at(&self, caller: usize, number: usize) -> Option<TimedCall>
         ensures { result ≡ timed_at self.now caller number }
     {
@@ -127,7 +128,7 @@ impl Table {
         }
     }
 
-    // A call of a caller, if it is a put.
+    // The entry of a caller's call with this number, if it is a put.
     fn put_at(&self, caller: usize, number: usize) -> Option<TimedCall>
         ensures { result ≡ put_at self.now caller number }
     {
@@ -143,7 +144,8 @@ impl Table {
         }
     }
 
-    // A call of a caller, if it is a take that shows a value or is unanswered.
+    // The entry of a caller's call with this number, if it is a take that shows a value or is
+    // unanswered.
     fn take_at(&self, caller: usize, number: usize) -> Option<TimedCall>
         ensures { result ≡ take_at self.now caller number }
     {
@@ -183,7 +185,7 @@ impl Table {
         None
     }
 
-    /// The first put of each caller from a number of it on.
+    /// The first put of each caller from the number on that `from` has for the caller.
     pub fn next_puts(&self, from: &[u16; MAX_CALLERS]) -> [Option<TimedCall>; MAX_CALLERS]
         ensures { (i : ℕ) → i < MAX_CALLERS
             → IsFirstFrom (λ n. put_at self.now i n) (slice_index from.now i)
@@ -196,7 +198,8 @@ impl Table {
         puts
     }
 
-    /// The first take of each caller, from a number of it on, that shows a value or is unanswered.
+    /// The first take of each caller that shows a value or is unanswered, from the number on that
+    /// `from` has for the caller.
     pub fn next_takes(&self, from: &[u16; MAX_CALLERS]) -> [Option<TimedCall>; MAX_CALLERS]
         ensures { (i : ℕ) → i < MAX_CALLERS
             → IsFirstFrom (λ n. take_at self.now i n) (slice_index from.now i)
@@ -210,7 +213,7 @@ impl Table {
     }
 
     /// The least first moment of all calls that take and find nothing and that no view holds up to
-    /// a moment.
+    /// the moment `found`, or `NEVER` where there are no such calls.
     pub fn find_first(&self, found: u64) -> u64
         ensures { IsLeastOf (λ k. first_after found (slice_get self.now.finds.items k))
             (length self.now.finds.items) result }
@@ -223,7 +226,7 @@ impl Table {
     }
 
     /// The least of the last moments of all calls that take and find nothing and that no view holds
-    /// up to a moment.
+    /// up to the moment `found`, or `NEVER` where there are no such calls.
     pub fn find_limit(&self, found: u64) -> u64
         ensures { IsLeastOf (λ k. last_after found (slice_get self.now.finds.items k))
             (length self.now.finds.items) result }
@@ -235,8 +238,8 @@ impl Table {
         least
     }
 
-    // The first moment of a call that finds nothing, or `NEVER` where some view holds it up to a
-    // given moment.
+    // The first moment of entry `k` of the takes that find nothing, or `NEVER` where there is none,
+    // or some view holds its call up to the moment `found`.
     fn first_after(&self, found: u64, k: usize) -> u64
         ensures { result ≡ first_after found (slice_get self.now.finds.items k) }
     {
@@ -252,8 +255,8 @@ impl Table {
         }
     }
 
-    // The last moment of a call that finds nothing, or `NEVER` where some view holds it up to a
-    // given moment.
+    // The last moment of entry `k` of the takes that find nothing, or `NEVER` where there is none,
+    // or some view holds its call up to the moment `found`.
     fn last_after(&self, found: u64, k: usize) -> u64
         ensures { result ≡ last_after found (slice_get self.now.finds.items k) }
     {
@@ -270,7 +273,8 @@ impl Table {
     }
 }
 
-// The calls of a caller. Those that take and find nothing are added to the others of this kind.
+// The row of a table with the calls of a caller. Those that take and find nothing are added to
+// `finds`.
 fn row_of<R: Reader>(
     alloc: Global,
     reader: &R,
@@ -294,7 +298,7 @@ fn row_of<R: Reader>(
     Ok(row)
 }
 
-// Adds a call that takes and finds nothing.
+// Adds a call to `finds` if it takes and finds nothing.
 fn add_find(timed: TimedCall, finds: &mut Vec<TimedCall>) -> Result<(), NoMemory>
     ensures found { OnOk result
         (is_find timed.deal ≡ true → finds.new.items ≡ finds.old.items ++ timed ∷ []) }
@@ -329,7 +333,7 @@ fn deal_of<R: Reader>(reader: &R, book: &Book, call: Call) -> QueueDeal
     }
 }
 
-// What a call that takes did.
+// What a call whose operation takes did.
 fn take_of<R: Reader>(reader: &R, book: &Book, call: Call) -> QueueDeal
     requires { IsCall book.now call }
     ensures { known_deal result ≡ take_of (R.reading reader.now) book.now call }

@@ -15,7 +15,8 @@ pub enum PairStep {
     Finds(u64, u64),
 }
 
-/// A step that may be tried, where it leads, and its turn: the least is tried first.
+/// A step that may be tried, the standing to which it leads, and its turn: of several choices the
+/// one with the least turn is tried first.
 #[derive(Clone, Copy)]
 pub struct StepChoice {
     pub turn: u64,
@@ -56,7 +57,7 @@ impl PairWalk {
         }
     }
 
-    /// Goes on to the standing of a choice, at which these choices may be tried.
+    /// Goes on to the standing of a choice, at which `choices` may be tried.
     pub fn enter(&mut self, choice: StepChoice, choices: Vec<StepChoice>) -> Result<(), NoMemory> {
         let frame = PairFrame {
             from: self.here,
@@ -68,7 +69,7 @@ impl PairWalk {
         Ok(())
     }
 
-    /// Goes back by a step, if there is one.
+    /// Goes back by a step, and answers whether there was one.
     pub fn retreat(&mut self) -> bool {
         match self.frames.pop() {
             Some(frame) => {
@@ -90,7 +91,7 @@ impl PairWalk {
         }
     }
 
-    /// How often unanswered takes took a value on the way.
+    /// How often unanswered takes took a value on the way to the present standing.
     pub fn times_spent(&self, value: u64) -> usize {
         self.spent.iter().filter(|spent| **spent == value).count()
     }

@@ -11,7 +11,7 @@ use Rattle.queue_pairs.specs.Moments.{moment_of, IsHeldBy}
 use Rattle.queue_pairs.specs.Pairs.{Paired, Pair, PairStep, Pairs, FindNothing, IsPutOf, IsPut, IsTake, IsNext, MayPair, MayFind, MayStep, after, IsWhole}
 use Rattle.queue_pairs.specs.Serving.{IsDueNoLater}
 
--- the standing is one of these
+-- a standing is one of a list
 abbrev pub IsOnePaired : List Paired → Paired → Type 0
 IsOnePaired standings s = (k : ℕ) × (slice_get standings k ≡ Some s)
 
@@ -62,8 +62,9 @@ pub record IsUnanswered (book : List Page) (pair : Pair) : Type 0 where
   pub put : answers_of book pair.put.caller ≤ pair.put.number
   pub take : answers_of book pair.take.caller ≤ pair.take.number
 
--- A pair that may come next leads to one of these standings or needn't be tried: a pair that serves
--- for it leads to one of them, or leaves some call overdue; or neither of its calls is answered.
+-- A pair that may come next leads to one of the given standings or needn't be tried: a pair that
+-- serves for it leads to one of them, or leaves some call overdue; or neither of its calls is
+-- answered.
 abbrev pub PairLeads : Reading → List Page → List Paired → Paired → Pair → Type 0
 PairLeads reading book standings s pair =
     ((other : Pair) × PairServesFor reading book s other pair
@@ -71,22 +72,22 @@ PairLeads reading book standings s pair =
     ⊎ IsOverdue reading book s other.put_moment other.take_moment))
     ⊎ IsUnanswered book pair
 
--- the standing covers all takes that find nothing and that some view holds at a moment
+-- a standing covers all takes that find nothing and that some view holds up to a moment
 abbrev pub NoneFindAt : Reading → List Page → Paired → ℕ → Type 0
 NoneFindAt reading book s m = (e : Call) → deal_of reading book e ≡ deals.FoundNothing
     → IsHeldBy book e m → IsHeldBy book e s.found
 
--- Takes that find nothing at a moment lead to one of these standings or needn't be tried: the
--- standing covers them all already; or the step that covers such takes up to an earlier or equal
--- moment, later than the one up to which the standing covers them, leads to one of the standings,
--- or leaves some call overdue.
+-- The takes that find nothing and that some view holds up to a moment `m` lead to one of the given
+-- standings or needn't be tried. Either the present standing covers them all already. Or there is a
+-- moment `g`, up to `m` and past the moment up to which the standing covers such takes, so that the
+-- step that covers those up to `g` leads to one of the given standings, or leaves a call overdue.
 abbrev pub FindsLead : Reading → List Page → List Paired → Paired → ℕ → Type 0
 FindsLead reading book standings s m =
     NoneFindAt reading book s m
     ⊎ ((g : ℕ) × (s.found < g) × (g ≤ m)
     × (IsOnePaired standings (after s (FindNothing g)) ⊎ IsOverdue reading book s g g))
 
--- Whatever may come next at a standing leads to one of these standings or needn't be tried; the
+-- Whatever may come next at a standing leads to one of the given standings or needn't be tried; the
 -- standing isn't whole, and its last put has no later moment than its last take.
 pub record AllLead (reading : Reading) (book : List Page) (standings : List Paired)
     (s : Paired) : Type 0 where
@@ -95,17 +96,17 @@ pub record AllLead (reading : Reading) (book : List Page) (standings : List Pair
   pub pairs : (pair : Pair) → MayPair reading book s pair → PairLeads reading book standings s pair
   pub finds : (m : ℕ) → MayFind reading book s m → FindsLead reading book standings s m
 
--- The takes that find nothing up to the moment of the last take so far may be covered at once,
--- which delays no other call: the standing covers such takes only up to an earlier moment, no
--- remaining put is due before the moment of that last take, and the step leads to one of these
--- standings.
+-- The takes that find nothing, up to the moment of a standing's last take, may be covered at once,
+-- which delays no other call: the standing covers them only up to an earlier moment, no remaining
+-- put is due before the moment of the last take, and the step that covers them leads to one of the
+-- given standings.
 pub record FindsStandAtOnce (reading : Reading) (book : List Page) (standings : List Paired)
     (s : Paired) : Type 0 where
   pub more : s.found < s.take_moment
   pub in_time : HasPutBefore reading book s s.take_moment → ⊥
   pub leads : IsOnePaired standings (after s (FindNothing s.take_moment))
 
--- The standing leads to these standings alone: by all that may come next there, or by takes that
+-- A standing leads to the given standings alone: by all that may come next there, or by takes that
 -- find nothing and that may be covered at once. It has a number of puts and one of takes for each
 -- caller.
 pub record IsClosedAt (reading : Reading) (book : List Page) (standings : List Paired)
@@ -114,13 +115,13 @@ pub record IsClosedAt (reading : Reading) (book : List Page) (standings : List P
   pub wide_takes : length book ≤ length s.takes
   pub leads : AllLead reading book standings s ⊎ FindsStandAtOnce reading book standings s
 
--- These standings are closed: each of them leads to them alone.
+-- Standings are closed: each of them leads to standings of the list alone.
 abbrev pub AreClosed : Reading → List Page → List Paired → Type 0
 AreClosed reading book standings = (s : Paired) → IsOnePaired standings s
     → IsClosedAt reading book standings s
 
--- The standing isn't whole, its last put has no later moment than its last take, and for each step
--- that may come next there, the standing after that step is one of these standings.
+-- A standing isn't whole, its last put has no later moment than its last take, and for each step
+-- that may come next there, the standing after that step is one of the given standings.
 pub record HasSuccessors (reading : Reading) (book : List Page) (standings : List Paired)
     (s : Paired) : Type 0 where
   pub wide_puts : length book ≤ length s.puts

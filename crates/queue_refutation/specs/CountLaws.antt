@@ -9,8 +9,9 @@ use Rattle.queue_pairs.specs.Pairs.{HasPairs}
 use Rattle.queue_pairs.specs.Tables.{IsTable}
 use Rattle.container_counts.specs.Counts.{PutsAhead, TakesAhead}
 
--- Where takes of a value are ahead of its puts, the takes' moment is later than the puts', and no
--- value's puts are ahead of its takes at these moments.
+-- In a queue's book that has pairs: where takes of a value by one moment are ahead of its puts by
+-- another moment, the takes' moment is later than the puts' moment, and no value's puts by the
+-- puts' moment are ahead of its takes by the takes' moment.
 abbrev pub TakesFollowPuts : Type 0
 TakesFollowPuts = (reading : Reading) (book : List Page) (table : Table) (v u m n : ℕ)
     → IsTable reading book table → HasPairs reading book → m < NEVER → n < NEVER

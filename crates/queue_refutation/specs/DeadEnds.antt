@@ -14,7 +14,7 @@ use Rattle.queue_pairs.specs.Tables.{IsTable}
 use Rattle.queue_pairs.specs.NextEntries.{paired, pair_of, IsNextPair, Serves}
 use Rattle.queue_refutation.specs.Closed.{IsOnePaired, PairLeads, FindsLead, FindsStandAtOnce, IsClosedAt}
 
--- the standings, as they are in memory
+-- the standings that a list of the code's standings in memory stands for
 abbrev pub listed : List PairState → List Paired
 listed standings = map paired standings
 
@@ -24,25 +24,26 @@ QueueHasNoOrder table book = (reading : Reading) (spec : SeqSpec)
     → IsTable reading book table → IsQueue reading spec.next → reading.values spec.init ≡ []
     → HasLegalOrder spec book → ⊥
 
--- Each of these pairs that may come next leads to one of the standings or needn't be tried.
+-- Each pair of those that `these` describes, where it may come next at a standing, leads to one of
+-- the given standings or needn't be tried, whatever book has the table.
 abbrev pub Lead : (Pair → Type 0) → Table → List Paired → PairState → Type 0
 Lead these table standings s = (reading : Reading) (book : List Page) (pair : Pair)
     → IsTable reading book table → these pair → MayPair reading book (paired s) pair
     → PairLeads reading book standings (paired s) pair
 
--- a pair of these calls
+-- a pair has this put and this take
 abbrev pub IsOf : Call → Call → Pair → Type 0
 IsOf put take pair = (pair.put ≡ put) × (pair.take ≡ take)
 
--- a pair of this put and a take of a caller
+-- a pair has this put and a take of this caller
 abbrev pub IsOfTaker : Call → ℕ → Pair → Type 0
 IsOfTaker put caller pair = (pair.put ≡ put) × (pair.take.caller ≡ caller)
 
--- a pair of this put
+-- a pair has this put
 abbrev pub IsOfPut : Call → Pair → Type 0
 IsOfPut put pair = pair.put ≡ put
 
--- a pair of a put of a caller
+-- a pair has a put of this caller
 abbrev pub IsOfPutter : ℕ → Pair → Type 0
 IsOfPutter caller pair = pair.put.caller ≡ caller
 
@@ -50,23 +51,25 @@ IsOfPutter caller pair = pair.put.caller ≡ caller
 abbrev pub IsAny : Pair → Type 0
 IsAny pair = Unit {0}
 
--- Takes that find nothing and may come next lead to one of these standings or needn't be tried.
+-- Takes that find nothing and may come next at a standing lead to one of the given standings or
+-- needn't be tried, whatever book has the table.
 abbrev pub FindsLeadOn : Table → List Paired → PairState → Type 0
 FindsLeadOn table standings s = (reading : Reading) (book : List Page) (m : ℕ)
     → IsTable reading book table → MayFind reading book (paired s) m
     → FindsLead reading book standings (paired s) m
 
--- Takes that find nothing may be covered at once, and lead to one of these standings.
+-- Takes that find nothing may be covered at once at a standing, and lead to one of the given
+-- standings, whatever book has the table.
 abbrev pub StandAtOnce : Table → List Paired → PairState → Type 0
 StandAtOnce table standings s = (reading : Reading) (book : List Page) → IsTable reading book table
     → FindsStandAtOnce reading book standings (paired s)
 
--- The standing leads to these standings alone, whatever book has the table.
+-- A standing leads to the given standings alone, whatever book has the table.
 abbrev pub ClosedAt : Table → List Paired → PairState → Type 0
 ClosedAt table standings s = (reading : Reading) (book : List Page) → IsTable reading book table
     → IsClosedAt reading book standings (paired s)
 
--- A pair of next calls that serves for this one leads to one of these standings.
+-- A pair of next calls that serves for a given pair leads to one of the given standings.
 abbrev pub IsServed : Table → List Paired → PairState → TimedPair → Type 0
 IsServed table standings s pair = (other : TimedPair) × IsNextPair table s other × Serves other pair
     × IsOnePaired standings (after (paired s) (Pairs (pair_of other)))

@@ -25,7 +25,7 @@ ClosedStartsHaveNoOrder = (reading : Reading) (spec : SeqSpec)
     → HasLegalOrder spec book → ⊥
 
 -- Where steps lead to a whole standing and begin with a pair of which neither call is answered, the
--- steps without this pair do too.
+-- steps after this pair lead to a whole standing without it too.
 abbrev pub UnansweredPairsAreIdle : Type 0
 UnansweredPairsAreIdle = (reading : Reading) (book : List Page) (s : Paired) (pair : Pair)
     (steps : List PairStep) → HasOneOpen book → length book ≤ length s.puts
@@ -37,7 +37,8 @@ abbrev pub PairsServeForThemselves : Type 0
 PairsServeForThemselves = (reading : Reading) (book : List Page) (s : Paired) (pair : Pair)
     → MayPair reading book s pair → PairServesFor reading book s pair pair
 
--- A list of standings that has all successors of each is closed.
+-- A list of standings is closed where none of them is whole, in each the last put has no later
+-- moment than the last take, and the list has the standing after each step that may come next.
 abbrev pub SuccessorsSuffice : Type 0
 SuccessorsSuffice = (reading : Reading) (book : List Page) (standings : List Paired)
     → ((s : Paired) → IsOnePaired standings s → HasSuccessors reading book standings s)

@@ -13,9 +13,10 @@ use std::alloc::Global;
 // value, so that pairs leave few choices.
 const MOST_VALUES: usize = 64;
 
-/// The moments of a value's calls, each list in order: of its answered puts those of their own
-/// views, of its puts those of the first views that hold them, and both likewise of the takes that
-/// show it; unanswered takes are in the last list too.
+/// The moments of one value's calls, each list in order: `due_puts` those of its answered puts' own
+/// views, `early_puts` those of the first views that hold its puts, `due_takes` those of the own
+/// views of the takes that show it, and `early_takes` those of the first views that hold these
+/// takes or an unanswered take.
 #[derive(Drop)]
 struct ValueMoments {
     value: u64,
@@ -54,8 +55,8 @@ fn refute(table: &Table, moments: &[ValueMoments]) -> bool
     false
 }
 
-// Whether more of the one value has been taken out than put in, while more of another one has been
-// put in than taken out.
+// Whether counts show that more of the value of `ahead` has been taken out than put in, while more
+// of some other value has been put in than taken out.
 fn takes_refute(table: &Table, moments: &[ValueMoments], ahead: &ValueMoments) -> bool
     ensures { IsTrue result → HasNoPairs table.now }
 {
@@ -90,24 +91,25 @@ fn refutes(table: &Table, ahead: u64, other: u64, put_moment: u64, take_moment: 
     puts_of_are_ahead(table, other, put_moment, take_moment)
 }
 
-// Whether more takes of a value have taken effect by the second moment than puts of it may have by
-// the first one.
+// Whether more takes of a value have taken effect by `take_moment` than puts of it may have by
+// `put_moment`.
 fn takes_of_are_ahead(table: &Table, value: u64, put_moment: u64, take_moment: u64) -> bool
     ensures { IsTrue result → TakesAhead table.now (value ∷ []) put_moment take_moment }
 {
     takes_are_ahead(table, &[value], put_moment, take_moment)
 }
 
-// Whether more puts of a value have taken effect by one moment than takes may have taken out by
-// another one.
+// Whether more puts of a value have taken effect by `put_moment` than takes may have taken out by
+// `take_moment`.
 fn puts_of_are_ahead(table: &Table, value: u64, put_moment: u64, take_moment: u64) -> bool
     ensures { IsTrue result → PutsAhead table.now (value ∷ []) put_moment take_moment }
 {
     puts_are_ahead(table, &[value], put_moment, take_moment)
 }
 
-// The moments up to which to count puts and takes so that the first value's puts are ahead, and the
-// second value's takes.
+// Two moments by which puts of the value of `other` are ahead of its takes, and takes of the value
+// of `ahead` are ahead of its puts, where the lists have them. The first moment is for puts, the
+// second for takes.
 fn clash_of(other: &ValueMoments, ahead: &ValueMoments) -> Option<(u64, u64)> {
     for place in 0..other.due_puts.len() {
         let put_moment = other.due_puts[place];
@@ -120,12 +122,12 @@ fn clash_of(other: &ValueMoments, ahead: &ValueMoments) -> Option<(u64, u64)> {
     None
 }
 
-// How many of these moments, which are in order, are no later than the given one.
+// How many moments of a list in order are no later than `moment`.
 fn up_to(moments: &[u64], moment: u64) -> usize {
     moments.partition_point(|other| *other <= moment)
 }
 
-// The moment at a place, or `NEVER` where there is none.
+// The moment at a place of a list, or `NEVER` where there is none.
 fn moment_at(moments: &[u64], place: usize) -> u64 {
     match moments.get(place) {
         Some(moment) => *moment,
@@ -133,7 +135,7 @@ fn moment_at(moments: &[u64], place: usize) -> u64 {
     }
 }
 
-// The moments of each value, unless there are too many values.
+// The moments of each value's calls, or `None` where there are more values than `MOST_VALUES`.
 fn moments_of(alloc: Global, table: &Table) -> Result<Option<Vec<ValueMoments>>, NoMemory> {
     let mut moments = Vec::new(alloc);
     for row in &table.rows {
@@ -154,8 +156,8 @@ fn moments_of(alloc: Global, table: &Table) -> Result<Option<Vec<ValueMoments>>,
     Ok(Some(moments))
 }
 
-// Adds the moments of a call that some view holds, and answers whether its value is among the
-// counted ones.
+// Adds the moments of a call that some view holds, and answers whether its value, if it has one, is
+// among the counted ones.
 fn add(alloc: Global, timed: TimedCall, moments: &mut Vec<ValueMoments>) -> Result<bool, NoMemory> {
     if !timed.is_held() {
         return Ok(true);
@@ -197,7 +199,8 @@ fn add_open(timed: TimedCall, moments: &mut Vec<ValueMoments>) -> Result<(), NoM
     Ok(())
 }
 
-// The place of a value, which is added where it has none and the limit of values isn't reached.
+// The place of a value's moments. They are added where the value has none, or the answer is `None`
+// where the limit of values is reached.
 fn place_of(
     alloc: Global,
     value: u64,

@@ -16,7 +16,7 @@ use next_calls::has_one_open;
 use queue_pairs::{NEVER, NextEntries, PairState, QueueDeal, Table, TimedCall, TimedPair};
 
 /// Standings that a search entered, to be checked once more. Where whatever may come next at each
-/// of them leads to one of them or needn't be tried, no steps lead from any of them to a whole
+/// of them leads to one of them, or needn't be tried, no steps lead from any of them to a whole
 /// standing.
 pub struct DeadEnds<'a> {
     pub table: &'a Table,
@@ -34,8 +34,8 @@ impl Drop for DeadEnds<'_> {
 
 impl DeadEnds<'_> {
     /// Whether the standings show that a queue's book has no legal order: they have the one that
-    /// covers no call, and each leads to these standings alone. No clause says that they do so
-    /// wherever the book has no legal order.
+    /// covers no call, and each of them leads to standings of the search alone. No clause says that
+    /// they show this wherever the book has no legal order.
     pub fn refute(&self, book: &Book) -> bool
         ensures { IsTrue result → QueueHasNoOrder self.now.table.now book.now }
     {
@@ -48,7 +48,7 @@ impl DeadEnds<'_> {
         self.are_closed()
     }
 
-    // Whether each of the standings leads to these standings alone.
+    // Whether each standing of the search leads to standings of the search alone.
     fn are_closed(&self) -> bool
         ensures { IsTrue result → (reading : Reading) (book : List Page)
             → IsTable reading book self.now.table.now
@@ -62,7 +62,7 @@ impl DeadEnds<'_> {
         true
     }
 
-    // Whether the standing at a place leads to these standings alone.
+    // Whether the standing of the search at this place leads to standings of the search alone.
     fn is_closed_at(&self, place: usize) -> bool
         ensures { IsTrue result → (s : PairState)
             → slice_get self.now.standings.now.keys place ≡ Some s
@@ -74,7 +74,7 @@ impl DeadEnds<'_> {
         }
     }
 
-    // Whether a standing leads to these standings alone.
+    // Whether a standing leads to standings of the search alone.
     fn is_closed(&self, standing: &PairState) -> bool
         ensures { IsTrue result
             → ClosedAt self.now.table.now (listed self.now.standings.now.keys) standing.now }
@@ -99,7 +99,7 @@ impl DeadEnds<'_> {
         self.pairs_lead(standing, &next_entries)
     }
 
-    // Whether one of the standings is this one.
+    // Whether a standing is one of those that the search entered.
     fn has(&self, standing: &PairState) -> bool
         ensures { IsTrue result
             → IsOnePaired (listed self.now.standings.now.keys) (paired standing.now) }
@@ -217,8 +217,9 @@ impl DeadEnds<'_> {
         }
     }
 
-    // Whether the pair of a put and a take leads to one of the standings, or needn't be tried. A
-    // pair of which neither call is answered is idle.
+    // Whether the pair of a put and a take leads to one of the standings, or needn't be tried. It
+    // needn't where no view holds one of its calls, where the take may not take the put's value, or
+    // where neither call is answered.
     fn calls_lead(
         &self,
         standing: &PairState,
@@ -269,7 +270,7 @@ impl DeadEnds<'_> {
         self.is_served(standing, next_entries, pair)
     }
 
-    // Whether the standing after a pair is one of the standings.
+    // Whether the standing after a pair is one of those that the search entered.
     fn leads(&self, standing: &PairState, pair: &TimedPair) -> bool
         ensures { IsTrue result → IsOnePaired (listed self.now.standings.now.keys)
             (after (paired standing.now) (Pairs (pair_of pair.now))) }
@@ -283,7 +284,7 @@ impl DeadEnds<'_> {
         self.has(&standing.with_pair(pair))
     }
 
-    // Whether a pair of next calls that serves for this one leads to one of the standings.
+    // Whether a pair of next calls that serves for the given pair leads to one of the standings.
     fn is_served(&self, standing: &PairState, next_entries: &NextEntries, pair: &TimedPair) -> bool
         requires next_entries { AreNextEntries self.now.table.now standing.now next_entries.now }
         ensures { IsTrue result → IsServed self.now.table.now
@@ -394,7 +395,7 @@ impl DeadEnds<'_> {
     }
 }
 
-// Whether a take may take out what a put puts in.
+// Whether a take may take out what a put puts in: it shows this value, or is unanswered.
 fn may_take(put: QueueDeal, take: QueueDeal) -> bool
     ensures { (v : ℕ) → put ≡ QueueDeal.Put v → (take ≡ QueueDeal.Took v)
         ⊎ (take ≡ QueueDeal.OpenTake)
@@ -414,7 +415,7 @@ fn is_idle(put: TimedCall, take: TimedCall) -> bool
     !put.is_answered() && !take.is_answered()
 }
 
-// Whether a call is one that a book may have.
+// Whether a call's caller and number are below the limits of a book.
 fn is_small(call: Call) -> bool
     ensures { IsTrue result → (call.caller < MAX_CALLERS) × (call.number < MAX_CALLS) }
 {

@@ -14,10 +14,10 @@ use queue_pairs::{
 };
 use std::alloc::Global;
 
-// The greatest number of steps of the search for pairs, and that of a second search, in which
-// unanswered takes may take any value.
+// The greatest number of steps of the search for pairs.
 const STEPS: u64 = 500_000;
 
+// The greatest number of steps of a second search, in which unanswered takes may take any value.
 const STEPS_ANEW: u64 = 200_000;
 
 /// Decides by pairs of puts and takes whether a queue's book has a legal order, or answers `Unsaid`
@@ -38,7 +38,7 @@ pub fn decide_queue<Q: SeqObject + Reader>(
     requires queue { IsQueue (Q.reading queue.now) (Q.spec queue.now).next }
     // The object begins empty.
     requires empty { (Q.reading queue.now).values (Q.spec queue.now).init ≡ [] }
-    // A decision is right of this object and this book.
+    // The decision is right for the object and the book.
     ensures { IfOk result (IsRightDecision (Q.spec queue.now) book.now) }
 {
     let table = Table::of(alloc, queue, book)?;
@@ -94,7 +94,7 @@ fn refute_anew(
     }
 }
 
-// Whether these standings show that the book has no legal order.
+// Whether the standings that a search entered show that the book has no legal order.
 fn refute(book: &Book, table: &Table, standings: &IndexSet<PairState>) -> bool
     ensures { IsTrue result → QueueHasNoOrder table.now book.now }
 {

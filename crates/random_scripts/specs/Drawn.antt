@@ -1,4 +1,4 @@
--- Scripts that are drawn.
+-- Random scripts, drawn by a seed.
 use Rattle.std.specs.Prelude.{ℕ, ◌+◌, ◌*◌, ◌%◌, ◌≤◌, nat_lt, List, [], map, replicate, None, if◌then◌else◌}
 use Rattle.std.specs.List.{range_with_len}
 use Rattle.text_fields.specs.declared.TheConstants.{TEXT_CALLERS, TEXT_CALLS}
@@ -13,7 +13,8 @@ use Rattle.random_scripts.specs.declared.workload.Weights.{Weights}
 use Rattle.random_scripts.specs.declared.workload.Workload.{Workload}
 use Rattle.random_scripts.specs.Draws.{key_of, drawn}
 
--- A workload within the limits of scripts' texts, with a value and an operation to draw.
+-- A workload within the limits of scripts' texts, with at least one value to draw, and a weight
+-- above 0.
 pub record IsWorkload (w : Workload) : Type 0 where
   pub some : 1 ≤ w.callers
   pub few : w.callers ≤ TEXT_CALLERS
@@ -21,14 +22,16 @@ pub record IsWorkload (w : Workload) : Type 0 where
   pub values : 1 ≤ w.values
   pub weights : 1 ≤ w.weights.first + w.weights.second + w.weights.third
 
--- The operation that a draw chooses: each has its share of the draws.
+-- Whether a draw chooses the first, the second or the third operation: its remainder modulo the sum
+-- of the weights is below the first weight, else below the sum of the first two, or else not.
 abbrev pub chosen : Weights → ℕ → OperationChoice
 chosen w draw =
     let share = draw % (w.first + w.second + w.third) in
     if nat_lt share w.first then First
     else (if nat_lt share (w.first + w.second) then Second else Third)
 
--- The operation of a kind that is chosen, with those of these arguments that it takes.
+-- The operation word of a chosen operation of a kind, with `value` as its first argument and
+-- `further` as its second, as far as it takes them.
 abbrev pub operation_of : Kind → OperationChoice → ℕ → ℕ → ℕ
 operation_of Queue First value further = operation words.enq value 0
 operation_of Queue _ value further = operation words.deq 0 0
@@ -49,18 +52,18 @@ operation_of Map First value further = operation words.put value further
 operation_of Map Second value further = operation words.get value 0
 operation_of Map Third value further = operation words.del value 0
 
--- The number of the first draw for a caller's call, which has four numbers of draws to itself.
+-- The number of the first of the four draws that belong to one call of a caller alone.
 abbrev pub first_draw : ℕ → ℕ → ℕ
 first_draw caller number = (caller * 256 + number) * 4
 
--- The operation of a caller's call under a key, decided by three draws.
+-- The operation of a caller's call, decided by three draws under the key of a seed.
 abbrev pub drawn_operation : Workload → ℕ → ℕ → ℕ → ℕ
 drawn_operation w key caller number =
     let first = first_draw caller number in
     operation_of w.kind (chosen w.weights (drawn key first)) (drawn key (first + 1) % w.values)
     (drawn key (first + 2) % w.values)
 
--- The operations of a caller under a key.
+-- The operations of all calls of a caller, drawn under the key of a seed.
 abbrev pub drawn_operations : Workload → ℕ → ℕ → List ℕ
 drawn_operations w key caller = map (drawn_operation w key caller) (range_with_len 0 w.calls)
 

@@ -3,7 +3,8 @@
 ghost use Rattle.std.specs.Prelude.{◌≡◌};
 ghost use Rattle.random_scripts.specs.Draws.{key_of, turned, squared, drawn};
 
-/// The key of the draws of a seed, whose digits are mixed also where the seed is small.
+/// The key under which the draws of a seed are made. Its bits are mixed even where the seed is
+/// small.
 pub fn key_of(seed: u64) -> u64
     ensures { result ≡ key_of seed }
 {

@@ -24,7 +24,8 @@ pub(crate) fn draw_operation(workload: &Workload, key: u64, call: Call) -> OpWor
     operation(workload.kind, choice, u64::from(value), u64::from(further))
 }
 
-/// The operation of a kind that is chosen, with those of these arguments that it takes.
+/// The operation word of a chosen operation of a kind, with `value` as its first argument and
+/// `further` as its second, as far as it takes them.
 fn operation(kind: Kind, choice: OperationChoice, value: u64, further: u64) -> OpWord
     requires value { value < 2 ^ 32 }
     requires further { further < 2 ^ 32 }

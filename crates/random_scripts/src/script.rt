@@ -1,4 +1,4 @@
-//! Scripts that are drawn.
+//! Random scripts, drawn by a seed.
 
 ghost use Rattle.std.specs.Prelude.{◌≡◌, IfOk};
 ghost use Rattle.random_scripts.specs.Drawn.{IsWorkload, drawn_plan};
@@ -10,10 +10,11 @@ use client_scripts::{Script, read_script};
 use std::alloc::Global;
 
 /// The script of a seed: each caller makes as many calls as the workload says, none stops, and
-/// there are no turns. The operation of each call is drawn by itself, so that with more calls the
-/// script of a seed begins with the same ones.
+/// there are no turns. The operation of each call is drawn by itself, so that with more calls a
+/// caller of the script of a seed has the same first operations.
 pub fn random_script(alloc: Global, workload: &Workload, seed: u64) -> Result<Script, NoMemory>
-    // The workload is within the limits of scripts' texts, with a value and an operation to draw.
+    // The workload is within the limits of scripts' texts, with at least one value to draw, and a
+    // weight above 0.
     requires { IsWorkload workload.now }
     // The answer is the script that is drawn of this seed for this workload.
     ensures { IfOk result (λ script. script ≡ drawn_plan workload.now seed) }

@@ -47,7 +47,7 @@ fn counts(workload: &Workload) -> Cut
     counts
 }
 
-/// Appends the lines of all calls under a key.
+/// Appends the lines of all calls, with operations drawn under the key of a seed.
 fn put_calls(out: &mut Vec<u8>, workload: &Workload, key: u64) -> Result<(), NoMemory>
     requires { IsWorkload workload.now }
     ensures calls { OnOk result (out.new.items ≡ out.old.items
@@ -62,7 +62,7 @@ fn put_calls(out: &mut Vec<u8>, workload: &Workload, key: u64) -> Result<(), NoM
     Ok(())
 }
 
-/// Appends the lines of a caller's calls under a key.
+/// Appends the lines of a caller's calls, with operations drawn under the key of a seed.
 fn put_caller(out: &mut Vec<u8>, workload: &Workload, key: u64, caller: u32) -> Result<(), NoMemory>
     requires workload { IsWorkload workload.now }
     requires caller { caller < TEXT_CALLERS }
@@ -78,7 +78,7 @@ fn put_caller(out: &mut Vec<u8>, workload: &Workload, key: u64, caller: u32) -> 
     Ok(())
 }
 
-/// Appends the line of a call under a key.
+/// Appends the line of a call, with an operation drawn under the key of a seed.
 fn put_call(out: &mut Vec<u8>, workload: &Workload, key: u64, call: Call) -> Result<(), NoMemory>
     requires workload { IsWorkload workload.now }
     requires caller { call.caller < TEXT_CALLERS }

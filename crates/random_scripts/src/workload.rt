@@ -20,7 +20,8 @@ pub struct Weights {
     pub third: u32,
 }
 
-/// How the scripts of a seed are drawn.
+/// How random scripts are drawn: for which kind of object, of which size, and with which
+/// operations.
 #[derive(Clone, Copy, Debug, PartialEq, Eq)]
 pub struct Workload {
     /// The kind of the object.
@@ -29,13 +30,13 @@ pub struct Workload {
     pub callers: u32,
     /// How many calls each caller makes: at most 256.
     pub calls: u64,
-    /// The number below which the arguments of operations are, which is at least 1.
+    /// The arguments of operations are below this number, which is at least 1.
     pub values: u32,
     /// How often each operation comes. One of them is at least 1.
     pub weights: Weights,
 }
 
-/// The operation that a draw chooses.
+/// Which of a kind's operations a draw chooses, by the workload's weights.
 pub(crate) fn choose(workload: &Workload, draw: u32) -> OperationChoice
     requires { IsWorkload workload.now }
     ensures { result ≡ chosen workload.now.weights draw }

@@ -1,4 +1,4 @@
--- The lines of a reachable world's locals are a lawful report; and what holds of each lawful
+-- When the lines of a reachable world's locals are a lawful report, and what holds of each lawful
 -- report.
 use Rattle.std.specs.Prelude.{◌≡◌, ℕ, ◌+◌, ◌<◌, List, length, Some, None, slice_get, slice_index}
 use Rattle.book_base.specs.declared.call.Call.{Call}
@@ -20,8 +20,8 @@ use Rattle.report_lines.specs.Phases.{HasMade}
 use Rattle.report_lines.specs.Allotments.{operations_at, phases_of}
 use Rattle.report_lines.specs.Lawful.{IsAllotted, IsLawful}
 
--- Each caller has the lines of its allotment, and its local has made the phases that these lines
--- show.
+-- Each caller's lines are those of its operations and its allotment, and its local has made as many
+-- phases as these lines show.
 pub record HaveMade (s : Shape) (operations : List (List ℕ)) (allotments : List ℕ)
     (locals : List Local) (lines : List (List Line)) : Type 0 where
   pub allotted : (i : ℕ) → i < s.callers
@@ -29,8 +29,8 @@ pub record HaveMade (s : Shape) (operations : List (List ℕ)) (allotments : Lis
   pub made : (i : ℕ) → i < s.callers → HasMade (operations_at operations i)
       (phases_of (slice_index allotments i) (lines_at lines i)) (local_at locals i)
 
--- The lines of locals that are together, where each caller has made all its phases, are a lawful
--- report.
+-- The lines of locals that are together are a lawful report where each caller has the lines of its
+-- allotment and has made the phases that they show.
 abbrev pub WorldsAreLawful : Type 0
 WorldsAreLawful =
     (spec : SeqSpec) (s : Shape) (operations : List (List ℕ))
@@ -39,15 +39,15 @@ WorldsAreLawful =
     → HaveMade s operations allotments locals lines
     → IsLawful spec s operations allotments lines
 
--- The locals determine their lines, verdicts included.
+-- Locals have at most one list of lines, verdicts included.
 abbrev pub LocalsDetermineLines : Type 0
 LocalsDetermineLines =
     (spec : SeqSpec) (locals : List Local)
     (lines others : List (List Line))
     → AreLinesOf spec locals lines → AreLinesOf spec locals others → lines ≡ others
 
--- In a lawful report the seen cut of each delivered line is within the seen cut of each error line,
--- and the error line's isn't within the delivered line's.
+-- In a lawful report each delivered line's seen cut is within each error line's seen cut, and isn't
+-- equal to it.
 abbrev pub ErrorsAreFinal : Type 0
 ErrorsAreFinal =
     (spec : SeqSpec) (s : Shape) (operations : List (List ℕ))
@@ -56,8 +56,8 @@ ErrorsAreFinal =
     → error_at lines b ≡ Some y
     → IsWithin x y × ¬ IsWithin y x
 
--- The seen cut of a line is in the book of the lines: none of its counts is above its caller's
--- number of records.
+-- The seen cut of a line of locals that are together counts for each caller at most as many records
+-- as the book of the lines has of it.
 abbrev pub SeenCutsAreInTheBook : Type 0
 SeenCutsAreInTheBook =
     (spec : SeqSpec) (s : Shape) (locals : List Local)
@@ -65,15 +65,15 @@ SeenCutsAreInTheBook =
     → AreTogether s locals → AreLinesOf spec locals lines → seen_at lines call ≡ Some cut
     → IsWithin cut (answered (book_of_lines lines))
 
--- Of the lines of an allotment each but the last is delivered.
+-- Of a caller's lines that are right for its allotment, each but the last is delivered.
 abbrev pub LinesBeforeTheLastAreDelivered : Type 0
 LinesBeforeTheLastAreDelivered =
     (operations : List ℕ) (allotment : ℕ) (own : List Line) (k : ℕ) (line : Line)
     → IsAllotted operations allotment own → slice_get own k ≡ Some line
     → k + 1 < length own → (r : Record) × (cut : List ℕ) × (line.end ≡ Delivered r cut)
 
--- The seen cut of a line counts what was published at some moment: in some run that ends with these
--- locals, the callers' published records were then exactly those that the cut counts.
+-- The seen cut of a line was right at one moment: at some moment of a run that ends with these
+-- locals, each caller had published exactly as many records as the cut counts for it.
 abbrev pub SeenCutsWerePublished : Type 0
 SeenCutsWerePublished =
     (spec : SeqSpec) (s : Shape) (locals : List Local)
@@ -81,7 +81,8 @@ SeenCutsWerePublished =
     → AreTogether s locals → AreLinesOf spec locals lines → seen_at lines call ≡ Some cut
     → WereOwnCounts s locals M cut
 
--- Where the object history of a run is linearizable, none of the lines of its locals is an error.
+-- Where the object history of a run is linearizable, none of the lines of the run's last locals is
+-- an error.
 abbrev pub LinearizableRunsHaveNoError : Type 0
 LinearizableRunsHaveNoError =
     (spec : SeqSpec) (s : Shape) (steps : List Step)

@@ -5,11 +5,12 @@ ghost use Rattle.report_laws.specs.Steps.{NoPhaseIsMade, AnnouncingIsAPhase, Ask
 ghost use Rattle.report_laws.specs.Telling.{NothingIsTold, ToldAsAnnounced, ToldAsAsked, ToldAsViewed, ToldAsPublished, ToldAsSeen};
 ghost use Rattle.report_laws.specs.Working.{VerdictsStay, WorkersGoThrough, WorkersHalt, WorkersKeepToTheirAllotments, WorkersLeaveTheLines, WorkersAreLawful};
 
-/// Phase by phase, a caller's progress is exactly that of its phases.
+/// How each of the five phases of a call changes its caller's progress.
 pub fn phases_are_made_one_by_one()
-    // Before its first phase a caller has no call.
+    // Before its first phase a caller has no call, no published record and no object step.
     ensures none { NoPhaseIsMade }
-    // A caller with k calls judged and an operation left comes one phase further by announcing it.
+    // A caller that has judged k calls, and has an operation left, comes one phase further by
+    // announcing it.
     ensures announcing { AnnouncingIsAPhase }
     // A caller with an announced call comes one phase further by asking, which changes no progress.
     ensures asking { AskingIsAPhase }
@@ -28,75 +29,81 @@ pub fn phases_are_made_one_by_one()
 pub fn objects_tell_phase_by_phase()
     // Before the first phase an object tells nothing.
     ensures none { NothingIsTold }
-    // As a call is announced an object still tells the pairs of the calls before.
+    // An announcement adds nothing to what an object has told of its caller.
     ensures announcing { ToldAsAnnounced }
-    // As an object is asked it tells one pair more, with the call's operation and the reply.
+    // When an object is asked, it tells one more pair, of the call's operation and its reply.
     ensures asking { ToldAsAsked }
-    // As a call is viewed an object tells the same pairs, of which the last has the record's reply.
+    // Taking the view adds nothing to what an object has told, where the call's record has the
+    // reply that the object told last.
     ensures viewing { ToldAsViewed }
-    // As a record is published an object tells the same pairs.
+    // A publication adds nothing to what an object has told of its caller.
     ensures publishing { ToldAsPublished }
-    // As a cut is seen an object tells the same pairs.
+    // A seen cut adds nothing to what an object has told of its caller.
     ensures seeing { ToldAsSeen }
 {}
 
-/// A verdict by a book that a caller gathered stays one as that caller makes further steps.
+/// A verdict that is right by a book that a caller gathered stays right by it when this caller has
+/// peeked more.
 pub fn verdicts_stay()
     ensures { VerdictsStay }
 {}
 
-/// A worker that made its whole allotment, or halted at an error, has worked.
+/// What a worker leaves in its caller's local and lines is right where it made its whole allotment,
+/// or halted at an error.
 pub fn workers_go_through_or_halt()
-    // A worker that made all phases of its allotment, and met no error, has worked.
+    // What a worker leaves is right where it made all phases of its allotment and met no error.
     ensures through { WorkersGoThrough }
-    // A worker that halted at an error, after lines without one, has worked.
+    // What a worker leaves is right where it halted at an error, after lines without one.
     ensures halted { WorkersHalt }
 {}
 
-/// The lines of locals that are together, where each caller has made all its phases, are a lawful
-/// report.
+/// The lines of locals that are together are a lawful report where each caller has the lines of its
+/// allotment and has made the phases that they show.
 pub fn lawful_from_worlds()
     ensures { WorldsAreLawful }
 {}
 
-/// What the workers of all callers leave, said of each by its own caller alone, are the lines of
-/// the locals that they leave, and a lawful report.
+/// The lines that the workers of all callers leave are a lawful report, though each worker is
+/// described by its own caller alone.
 pub fn lawful_from_workers()
-    // The lines that a worker leaves are those of its allotment.
+    // The lines that a worker leaves are right for its operations and its allotment.
     ensures allotted { WorkersKeepToTheirAllotments }
-    // The lines that all workers leave are those of the locals that they leave.
+    // The lines that all workers leave are those of the locals that they leave, each with the right
+    // verdict by the book of all lines.
     ensures lines { WorkersLeaveTheLines }
     // The lines that all workers leave are a lawful report.
     ensures lawful { WorkersAreLawful }
 {}
 
-/// Locals have one report: their calls, and on each call one verdict.
+/// Locals have at most one list of lines, verdicts included.
 pub fn locals_determine_lines()
     ensures { LocalsDetermineLines }
 {}
 
-/// In a lawful report the seen cut of a delivered line is within that of each error line, and
-/// doesn't contain it (Castañeda and Rodríguez 2023).
+/// In a lawful report each delivered line's seen cut is within each error line's seen cut, and
+/// isn't equal to it (Castañeda and Rodríguez 2023).
 pub fn errors_are_final()
     ensures { ErrorsAreFinal }
 {}
 
-/// The seen cut of a line is in the book of the lines, and each line but a caller's last is
-/// delivered.
+/// No line's seen cut counts more records than the book of the lines has, and each line but a
+/// caller's last is delivered.
 pub fn lines_fit_a_report()
-    // The seen cut of a line is in the book of the lines: no count is above its caller's records.
+    // The seen cut of a line counts for each caller at most as many records as the book of the
+    // lines has of it.
     ensures seen { SeenCutsAreInTheBook }
-    // Each line of an allotment but the last is delivered.
+    // Of a caller's lines that are right for its allotment, each but the last is delivered.
     ensures delivered { LinesBeforeTheLastAreDelivered }
 {}
 
-/// The book at a line's seen cut was the table's at one moment: the cut counts exactly what was
-/// published then (Afek and others 1993).
+/// The seen cut of a line was right at one moment: at some moment of a run that ends with these
+/// locals, each caller had published exactly as many records as the cut counts for it (Afek and
+/// others 1993).
 pub fn seen_cuts_were_published()
     ensures { SeenCutsWerePublished }
 {}
 
-/// No line of a run over linearizable object calls is an error, whatever its program.
+/// Where the object history of a run is linearizable, no line of the run is an error.
 pub fn linearizable_runs_have_no_error()
     ensures { LinearizableRunsHaveNoError }
 {}

@@ -1,5 +1,5 @@
-//! The laws of reports: the lines of a reachable world are lawful, and so is what the workers of
-//! all its callers leave.
+//! The laws of reports: the lines of a reachable world are a lawful report, and so are the lines
+//! that the workers of all its callers leave.
 #![tactic(auto)]
 
 pub mod cases;

@@ -18,7 +18,8 @@ pub record Account : Type 0 where
   pub published : ℕ
   pub steps : List Object_step
 
--- The account of a caller with this local.
+-- The operations, replies, views, seen cuts, number of published records and object steps that the
+-- local `l` has.
 abbrev pub account_of : Local → Account
 account_of l =
     record {
@@ -30,33 +31,39 @@ account_of l =
       steps = all_steps_of l;
     }
 
--- Where a caller's account stays as it was, its progress stays as it was.
+-- Two locals with equal operations, replies, views, seen cuts, numbers of published records and
+-- object steps have equal progress.
 abbrev pub NothingGrows : Type 0
 NothingGrows = (l m : Local) → account_of m ≡ account_of l → progress_of m ≡ progress_of l
 
--- One more operation in an account is one more call in the progress.
+-- Where an announcing caller's local gains one operation, but no reply, view, seen cut, published
+-- record or object step, the caller's progress gains one announced call with this operation.
 abbrev pub OperationsAreCalls : Type 0
 OperationsAreCalls =
     (l m : Local) (operation : ℕ) → HasPhase l → l.phase ≡ Announcing
     → account_of m ≡ record (account_of l) { operations = l.operations ++ operation ∷ [] }
     → progress_of m ≡ after_announcing operation (progress_of l)
 
--- One more object step in an account is one more in the progress, made by the call under way.
+-- Where a caller's local gains one object step, but no operation, reply, view, seen cut or
+-- published record, this step becomes the last object step of the caller's progress.
 abbrev pub ObjectStepsAreOfTheLastCall : Type 0
 ObjectStepsAreOfTheLastCall =
     (l m : Local) (step : Object_step)
     → account_of m ≡ record (account_of l) { steps = all_steps_of l ++ step ∷ [] }
     → progress_of m ≡ after_stepping step (progress_of l)
 
--- One more reply in an account doesn't change the progress, since a reply without its view is no
--- record.
+-- Where an asking caller's local gains one reply, but no operation, view, seen cut, published
+-- record or object step, the caller's progress stays, since a call has no record before it has a
+-- view.
 abbrev pub RepliesAreNoRecords : Type 0
 RepliesAreNoRecords =
     (l m : Local) (reply : ℕ) → HasPhase l → l.phase ≡ Asking
     → account_of m ≡ record (account_of l) { replies = l.replies ++ reply ∷ [] }
     → progress_of m ≡ progress_of l
 
--- One more view in an account makes a record in the progress: that of the last call.
+-- Where a viewing caller's local gains one view, but no operation, reply, seen cut, published
+-- record or object step, the last call of the caller's progress gets a record of its reply and this
+-- view.
 abbrev pub ViewsMakeRecords : Type 0
 ViewsMakeRecords =
     (l m : Local) (view : List ℕ) → HasPhase l → l.phase ≡ Viewing
@@ -64,32 +71,34 @@ ViewsMakeRecords =
     → progress_of m ≡ after_viewing
     (record { reply = slice_index l.replies l.published; view = view }) (progress_of l)
 
--- One more published record in an account is one more in the progress.
+-- Where a caller's local counts one more published record, but gains no operation, reply, view,
+-- seen cut or object step, the caller's progress counts one more published record.
 abbrev pub PublicationsCount : Type 0
 PublicationsCount =
     (l m : Local) → account_of m ≡ record (account_of l) { published = l.published + 1 }
     → progress_of m ≡ after_publishing (progress_of l)
 
--- One more seen cut in an account is the seen cut of the last call in the progress.
+-- Where a judging caller's local gains one seen cut, but no operation, reply, view, published
+-- record or object step, the last call of the caller's progress gets this seen cut.
 abbrev pub SeenCutsAreOfTheLastCall : Type 0
 SeenCutsAreOfTheLastCall =
     (l m : Local) (cut : List ℕ) → HasPhase l → l.phase ≡ Judging
     → account_of m ≡ record (account_of l) { seen = l.seen ++ cut ∷ [] }
     → progress_of m ≡ after_seeing cut (progress_of l)
 
--- An announcement is one more call of its caller, with the staged operation.
+-- An announcement adds a call with the staged operation to its caller's progress.
 abbrev pub AnnouncementsAreCalls : Type 0
 AnnouncementsAreCalls =
     (n : ℕ) (l : Local) → HasPhase l → l.phase ≡ Announcing → progress_of (local_after n l Announce)
     ≡ after_announcing (staged_operation l.staged) (progress_of l)
 
--- An object step is the last of the object steps in its caller's progress.
+-- An object step becomes the last object step of its caller's progress.
 abbrev pub ObjectStepsCount : Type 0
 ObjectStepsCount =
     (n : ℕ) (l : Local) (step : Object_step) → HasPhase l → l.phase ≡ Asking
     → progress_of (local_after n l (Object step)) ≡ after_stepping step (progress_of l)
 
--- A publication is one more published record in its caller's progress.
+-- A publication raises the number of published records in its caller's progress by 1.
 abbrev pub PublishesCount : Type 0
 PublishesCount = (n : ℕ) (l : Local)
     → progress_of (local_after n l Publish) ≡ after_publishing (progress_of l)

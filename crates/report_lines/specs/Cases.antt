@@ -1,5 +1,5 @@
--- Worked lines of three callers, with all four ends: one delivered call and one that is under way,
--- an error, and an unchecked call.
+-- Lines of three callers for worked cases, with all four ends of a line: a delivered and a pending
+-- line of the first caller, an error line of the second, and an unchecked line of the third.
 use Rattle.std.specs.Prelude.{ℕ, List, [], ◌∷◌, Option, Some, None}
 use Rattle.book_base.specs.declared.call.Call.{Call}
 use Rattle.book_base.specs.declared.call.Record.{Record}
@@ -10,7 +10,7 @@ use Rattle.report_lines.specs.declared.line.LineEnd.TheVariants.{Pending, Unchec
 use Rattle.report_lines.specs.declared.line.Line.{Line}
 use Rattle.report_lines.specs.Phases.{Progress}
 
--- The call of a caller with this number.
+-- Call `k` of caller `who`.
 abbrev pub call : ℕ → ℕ → Call
 call who k = record { caller = who; number = k }
 
@@ -18,28 +18,29 @@ call who k = record { caller = who; number = k }
 abbrev pub answer : ℕ → List ℕ → Record
 answer reply view = record { reply = reply; view = view }
 
--- A line without a record.
+-- A pending line: its call has the operation `op`, and no record.
 abbrev pub pending : ℕ → Line
 pending op = record { op = op; end = Pending }
 
--- A line with its record, and without a seen cut.
+-- An unchecked line: its call has the operation `op` and the record `r`, and no seen cut.
 abbrev pub unchecked : ℕ → Record → Line
 unchecked op r = record { op = op; end = Unchecked r }
 
--- A line with its record and its seen cut, which is delivered.
+-- A delivered line: its call has the operation `op`, the record `r` and the seen cut `cut`.
 abbrev pub delivered : ℕ → Record → List ℕ → Line
 delivered op r cut = record { op = op; end = Delivered r cut }
 
--- A line with its record and its seen cut, which is an error.
+-- An error line: its call has the operation `op`, the record `r` and the seen cut `cut`.
 abbrev pub failed : ℕ → Record → List ℕ → Line
 failed op r cut = record { op = op; end = Error r cut }
 
--- The operations of the three callers.
+-- The operation words of the three callers of the worked lines: two of the first caller, two of the
+-- second, and one of the third.
 abbrev pub worked_operations : List (List ℕ)
 worked_operations = (5 ∷ 7 ∷ []) ∷ (6 ∷ 9 ∷ []) ∷ (8 ∷ []) ∷ []
 
--- A stop of the first caller after one call and an announcement, and one of the third before it
--- published.
+-- The stops of the three callers of the worked lines: the first caller stops after six phases, the
+-- second has no stop, and the third stops after three phases.
 abbrev pub worked_stops : List (Option ℕ)
 worked_stops = Some 6 ∷ None ∷ Some 3 ∷ []
 
@@ -55,7 +56,8 @@ second = answer 61 (1 ∷ 1 ∷ 0 ∷ [])
 abbrev pub third : Record
 third = answer 80 (1 ∷ 1 ∷ 1 ∷ [])
 
--- The lines of the three callers.
+-- The worked lines: the first caller has a delivered and a pending line, the second an error line,
+-- and the third an unchecked line.
 abbrev pub worked_lines : List (List Line)
 worked_lines =
     (delivered 5 first (1 ∷ 0 ∷ 0 ∷ []) ∷ pending 7 ∷ [])
@@ -63,15 +65,15 @@ worked_lines =
     ∷ (unchecked 8 third ∷ [])
     ∷ []
 
--- A call that is announced.
+-- An announced call with the operation `op`, and without a record.
 abbrev pub made : ℕ → Made
 made op = record { operation = op; reached = Is_announced }
 
--- A call that has its record.
+-- A call with the operation `op` and the record `r`, and without a seen cut.
 abbrev pub recorded : ℕ → Record → Made
 recorded op r = record { operation = op; reached = Has_record r }
 
--- A call that has its record and its seen cut.
+-- A call with the operation `op`, the record `r` and the seen cut `cut`.
 abbrev pub judged : ℕ → Record → List ℕ → Made
 judged op r cut = record { operation = op; reached = Has_seen r cut }
 
@@ -89,35 +91,34 @@ abbrev pub worked_book : List Page
 worked_book =
     page (5 ∷ 7 ∷ []) (first ∷ []) ∷ page (6 ∷ []) (second ∷ []) ∷ page (8 ∷ []) (third ∷ []) ∷ []
 
--- The second caller's line, with another seen cut.
+-- The worked lines, but with a delivered line of the second caller whose seen cut is `cut`.
 abbrev pub seen_by_second : List ℕ → List (List Line)
 seen_by_second cut = (delivered 5 first (1 ∷ 0 ∷ 0 ∷ []) ∷ pending 7 ∷ [])
     ∷ (delivered 6 second cut ∷ []) ∷ (unchecked 8 third ∷ []) ∷ []
 
--- The second caller's line as an error, with another seen cut.
+-- The worked lines, but with `cut` as the seen cut of the second caller's error line.
 abbrev pub failed_by_second : List ℕ → List (List Line)
 failed_by_second cut = (delivered 5 first (1 ∷ 0 ∷ 0 ∷ []) ∷ pending 7 ∷ [])
     ∷ (failed 6 second cut ∷ []) ∷ (unchecked 8 third ∷ []) ∷ []
 
--- Three delivered lines of two callers, of which the one in the middle saw most; and an error line
--- that saw still more.
+-- Lines of two callers, three of them delivered and then an error line: the second delivered line
+-- has the greatest seen cut of the three, and the error line has a greater one.
 abbrev pub three_delivered : List (List Line)
 three_delivered =
     (delivered 1 (answer 0 []) (1 ∷ 0 ∷ []) ∷ delivered 2 (answer 0 []) (2 ∷ 1 ∷ []) ∷ [])
     ∷ (delivered 3 (answer 0 []) (1 ∷ 1 ∷ []) ∷ failed 4 (answer 0 []) (2 ∷ 2 ∷ []) ∷ [])
     ∷ []
 
--- How far a caller has come with an object outside the world: its calls, and how many records it
--- has published.
+-- The progress of a caller without object steps: its calls, and how many records it has published.
 abbrev pub progress : List Made → ℕ → Progress
 progress calls published = record { calls = calls; published = published; steps = [] }
 
--- A step that found the one word at an object's only place, and left the other there.
+-- A step on object word 0 that found the word `old` there, and left the word `new`.
 abbrev pub object_step : ℕ → ℕ → Object_step
 object_step old new = record { place = 0; old = old; new = new }
 
--- The local of a caller that has published its first call, with two object steps, and announced its
--- second, with one.
+-- The local of a caller with two calls: the first call is judged and made two object steps, and the
+-- second is announced and has made one.
 abbrev pub stepped : Local
 stepped =
     record fresh {

@@ -16,16 +16,18 @@ use Rattle.report_lines.specs.Lines.{made_of, calls_of, book_of_lines, lines_at,
 use Rattle.report_lines.specs.Phases.{operations_of, marks_of, marks_after}
 use Rattle.report_lines.specs.Allotments.{operations_at, phases_of, KeepsTo, published_in}
 
--- A caller with these operations and this allotment has these lines: one for each call that it
--- made, in the order of its operations, and it made all its phases, but for those after an error.
+-- The lines `own` are right for a caller with these operations and this allotment: there is one
+-- line for each call that the caller made, in the order of its operations, and the caller made all
+-- phases of its allotment, or stopped at an error.
 pub record IsAllotted (operations : List ℕ) (allotment : ℕ) (own : List Line) : Type 0 where
   pub in_order : operations_of (map made_of own) ≡ take (length own) operations
   pub marks : marks_of (map made_of own) ≡ marks_after (phases_of allotment own)
   pub keeps : KeepsTo allotment own
 
--- How the seen cuts fit, where the callers have published this many records: each has a count for
--- each caller, none above what that caller published, and holds its own call as the last of its
--- caller; and any two are comparable.
+-- The seen cuts of all lines fit one another, and how many records each caller has published
+-- (`published`): each seen cut has one count for each caller, none above what that caller has
+-- published, and holds its own line's call as the last one of that call's caller; and any two seen
+-- cuts are comparable.
 pub record AreSeen (published : List ℕ) (lines : List (List Line)) : Type 0 where
   pub wide : (call : Call) (cut : List ℕ) → seen_at lines call ≡ Some cut
       → length cut ≡ length lines
@@ -40,43 +42,48 @@ abbrev pub delivered_cuts : List (List Line) → List (List ℕ)
 delivered_cuts lines =
     flat_map (λ (own : List Line). filter_map (λ (line : Line). delivered_in line.end) own) lines
 
--- The greatest seen cut of a delivered line of n callers: of each caller the greatest count, which
--- is 0 where no line is delivered.
+-- The delivered cut of the lines of n callers: for each caller, the greatest count that any
+-- delivered line's seen cut has for it, which is 0 where no line is delivered.
 abbrev pub delivered_cut : ℕ → List (List Line) → List ℕ
 delivered_cut n lines = map (greatest_count (delivered_cuts lines)) (range_with_len 0 n)
 
--- A report of the callers of a world is lawful: for a sequential object, for each caller's
--- operations, and for how many phases each was given (Herlihy and Wing 1990, Castañeda and
--- Rodríguez 2023).
+-- A report is lawful for a sequential object, for the shape of a world, for each caller's
+-- operations, and for how many phases each caller was given: it shows all calls that were made, its
+-- delivered replies are in one legal order, and its errors are none that a right object leaves
+-- (Herlihy and Wing 1990, Castañeda and Rodríguez 2023).
 pub record IsLawful (spec : SeqSpec) (s : Shape) (operations : List (List ℕ)) (allotments : List ℕ)
     (lines : List (List Line)) : Type 0 where
   -- there is a list of lines for each caller
   pub callers : length lines ≡ s.callers
-  -- each caller has its lines: all calls that it made, of its operations in order
+  -- each caller has a line for each call that it made, in the order of its operations
   pub allotted : (i : ℕ) → i < s.callers
       → IsAllotted (operations_at operations i) (slice_index allotments i) (lines_at lines i)
   -- the book of the lines is valid
   pub valid : IsValid (book_of_lines lines)
-  -- the seen cuts fit one another, and what was published
+  -- the seen cuts of the lines are pairwise comparable, hold their own calls, and count published
+  -- records alone
   pub seen : AreSeen (published_in allotments lines) lines
-  -- where a line is delivered, one of the delivered lines has the greatest seen cut of all of them
+  -- where any line is delivered, some delivered line's seen cut is the greatest of all delivered
+  -- lines' seen cuts
   pub greatest : (call : Call) (cut : List ℕ) → delivered_at lines call ≡ Some cut → (top : Call)
       × (delivered_at lines top ≡ Some (delivered_cut s.callers lines))
-  -- that greatest cut contains the seen cut of each delivered line
+  -- the greatest seen cut of the delivered lines contains the seen cut of each delivered line
   pub contains : (call : Call) (cut : List ℕ) → delivered_at lines call ≡ Some cut
       → IsWithin cut (delivered_cut s.callers lines)
-  -- that greatest cut holds the call of each delivered line
+  -- the greatest seen cut of the delivered lines holds the call of each delivered line
   pub holds : (call : Call) (cut : List ℕ) → delivered_at lines call ≡ Some cut
       → Holds (delivered_cut s.callers lines) call
-  -- all delivered replies are in one legal order: the book at that greatest cut has one
+  -- all delivered replies are in one legal order: the book at the greatest seen cut of the
+  -- delivered lines has a legal order
   pub one_order : HasLegalOrder spec (book_at (delivered_cut s.callers lines) (book_of_lines lines))
-  -- at the seen cut of an error line the book has no legal order
+  -- the book at the seen cut of an error line has no legal order
   pub no_order : (call : Call) (cut : List ℕ) → error_at lines call ≡ Some cut
       → ¬ HasLegalOrder spec (book_at cut (book_of_lines lines))
-  -- where a line is an error, no run of any program and of any cap that ends with the calls of
-  -- these lines, whatever the verdicts, has a linearizable object history
+  -- where a line is an error, no run that ends with the calls of these lines has a linearizable
+  -- object history, whatever the run's program and cap, and whatever the verdicts of its calls
   pub no_run : (call : Call) (cut : List ℕ) → error_at lines call ≡ Some cut
       → (t : Shape) (steps : List Step) → IsRun t steps → map calls_in (end_of t steps).locals
       ≡ calls_of lines → ¬ IsLinearizable spec (history_of t steps)
-  -- the lines are those of a reachable world
+  -- some reachable world has exactly the calls of these lines, and each verdict is right by the
+  -- book of the lines
   pub reached : (w : World) × IsReachable s w × AreLinesOf spec w.locals lines

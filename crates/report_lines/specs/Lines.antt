@@ -12,18 +12,19 @@ use Rattle.report_lines.specs.declared.line.LineEnd.{LineEnd}
 use Rattle.report_lines.specs.declared.line.LineEnd.TheVariants.{Pending, Unchecked, Delivered, Error}
 use Rattle.report_lines.specs.declared.line.Line.{Line}
 
--- How far the call of a line has come: what the end of the line says, without the verdict.
+-- How far a call has come whose line has this end: it is announced, has its record, or has its seen
+-- cut too.
 abbrev pub reached_of : LineEnd → Reached
 reached_of Pending = Is_announced
 reached_of (Unchecked r) = Has_record r
 reached_of (Delivered r cut) = Has_seen r cut
 reached_of (Error r cut) = Has_seen r cut
 
--- The call of a line.
+-- The call that a line tells of: its operation, and how far it has come.
 abbrev pub made_of : Line → Made
 made_of line = record { operation = line.op; reached = reached_of line.end }
 
--- The calls of all callers' lines.
+-- The calls that all lines tell of, as one list for each caller.
 abbrev pub calls_of : List (List Line) → List (List Made)
 calls_of lines = map (λ (own : List Line). map made_of own) lines
 
@@ -31,7 +32,7 @@ calls_of lines = map (λ (own : List Line). map made_of own) lines
 abbrev pub book_of_lines : List (List Line) → List Page
 book_of_lines lines = book_of (calls_of lines)
 
--- The lines of a caller: a caller that isn't there has none.
+-- The lines of caller `i`; the empty list where there is no caller `i`.
 abbrev pub lines_at : List (List Line) → ℕ → List Line
 lines_at lines i = slice_index_or lines i []
 
@@ -90,8 +91,8 @@ IsJudged spec book (Unchecked r) = Unit {0}
 IsJudged spec book (Delivered r cut) = HasLegalOrder spec (book_at cut book)
 IsJudged spec book (Error r cut) = ¬ HasLegalOrder spec (book_at cut book)
 
--- The lines of these locals: their calls, and on each the right verdict by the book of all the
--- lines.
+-- These are the lines of callers with these locals: one line for each call of each local, in order,
+-- and with the right verdict by the book of all the lines.
 pub record AreLinesOf (spec : SeqSpec) (locals : List Local)
     (lines : List (List Line)) : Type 0 where
   pub calls : calls_of lines ≡ map calls_in locals

@@ -34,19 +34,20 @@ pub data CallMark : Type 0 where
   Recorded : CallMark
   Seen : CallMark
 
--- The mark of a call that has come this far.
+-- The mark that says how far a call has come, without its reply and its cuts.
 abbrev pub mark_of : Reached → CallMark
 mark_of Is_announced = Announced
 mark_of (Has_record r) = Recorded
 mark_of (Has_seen r cut) = Seen
 
--- The mark of the call that is under way, this many phases after the calls before it were judged:
--- none where it isn't announced.
+-- The mark of a caller's call under way, once the caller has made this many of the call's five
+-- phases; as a list, which is empty where the call isn't announced.
 abbrev pub mark_under_way : ℕ → List CallMark
 mark_under_way phases =
     if phases == 0 then [] else (if nat_lt phases 3 then Announced ∷ [] else Recorded ∷ [])
 
--- The marks of a caller's calls after p phases: the judged ones, and that of the call under way.
+-- The marks of a caller's calls after p phases: `Seen` for each judged call, and then the mark of
+-- the call under way, if one is announced.
 abbrev pub marks_after : ℕ → List CallMark
 marks_after p = replicate (judged p) Seen ++ mark_under_way (p % 5)
 
@@ -74,14 +75,15 @@ progress_of l = record { calls = calls_in l; published = l.published; steps = al
 abbrev pub no_progress : Progress
 no_progress = record { calls = []; published = 0; steps = [] }
 
--- A caller with these operations has come exactly as far as its first p phases go: no call and no
--- operation is left out, and none is further than that.
+-- A caller with these operations has exactly this progress after its first p phases: its calls have
+-- the first operations, in order; each call has come as far as these phases bring it; and as many
+-- records are published as these phases publish.
 pub record IsProgressAfter (operations : List ℕ) (p : ℕ) (progress : Progress) : Type 0 where
   pub in_order : operations_of progress.calls ≡ take (begun p) operations
   pub marks : marks_of progress.calls ≡ marks_after p
   pub published : progress.published ≡ published_by p
 
--- The local is that of a caller that has made exactly its first p phases.
+-- A caller with these operations and this local has made exactly its first p phases.
 abbrev pub HasMade : List ℕ → ℕ → Local → Type 0
 HasMade operations p l = IsProgressAfter operations p (progress_of l)
 
@@ -90,9 +92,9 @@ abbrev pub answers_in : List Made → List (ℕ × ℕ)
 answers_in calls = flat_map
     (λ (c : Made). map (λ (r : Record). (c.operation, r.reply)) (records_of c.reached)) calls
 
--- What an object tells of a caller that has made p phases, an operation and a reply for each call
--- that it was asked: the operations are those of the first calls, and the first replies those of
--- the answered calls. So there is at most one pair more than answers.
+-- What an object tells of a caller that has made p phases: an operation and a reply for each call
+-- that the object was asked, in order. Where a call has its record, the told reply is the recorded
+-- one; at most one told call, the last, has no record yet.
 pub record IsTold (p : ℕ) (calls : List Made) (pairs : List (ℕ × ℕ)) : Type 0 where
   pub operations : map (λ (pair : ℕ × ℕ). pair.0) pairs ≡ take (asked p) (operations_of calls)
   pub replies : take (answered p) pairs ≡ answers_in calls

@@ -58,13 +58,13 @@ pub fn marks_tell_how_far_calls_are()
     ensures eleven { marks_after 11 ≡ Seen ∷ Seen ∷ Announced ∷ [] }
 {}
 
-/// The progress of a caller with its second call, phase by phase: after the first call, and before
-/// and after the fourth phase, which publishes the second record.
+/// How a caller's progress grows phase by phase with its second call, and which progress fits six,
+/// eight and nine phases.
 pub fn a_second_call_goes_on()
     // Announcing the operation 7 puts a second call after the judged one.
     ensures announced { after_announcing 7 (progress (judged 5 first [] ∷ []) 1)
         ≡ progress (judged 5 first [] ∷ made 7 ∷ []) 1 }
-    // Taking the view gives the second call its record, and none is published by it.
+    // Taking the view gives the second call its record, which isn't published yet.
     ensures viewed { after_viewing second (progress (judged 5 first [] ∷ made 7 ∷ []) 1)
         ≡ progress (judged 5 first [] ∷ recorded 7 second ∷ []) 1 }
     // Publishing raises the count of published records to 2, and changes no call.
@@ -84,25 +84,26 @@ pub fn a_second_call_goes_on()
     // records.
     ensures after_nine { IsProgressAfter (5 ∷ 7 ∷ []) 9
         (progress (judged 5 first [] ∷ recorded 7 second ∷ []) 2) }
-    // Nine phases don't make a progress with one published record.
+    // A progress with one published record isn't one after nine phases, which publish two records.
     ensures not_after_nine { ¬ IsProgressAfter (5 ∷ 7 ∷ []) 9
         (progress (judged 5 first [] ∷ recorded 7 second ∷ []) 1) }
-    // Eight phases don't make a progress whose second call has an operation other than the
-    // caller's.
+    // A progress whose second call has another operation than the caller's second one isn't one
+    // after eight phases.
     ensures another_operation { ¬ IsProgressAfter (5 ∷ 6 ∷ []) 8
         (progress (judged 5 first [] ∷ recorded 7 second ∷ []) 1) }
-    // Six phases don't make a progress without the second call.
+    // A progress without the second call isn't one after six phases, since the sixth announces that
+    // call.
     ensures a_call_left_out { ¬ IsProgressAfter (5 ∷ 7 ∷ []) 6
         (progress (judged 5 first [] ∷ []) 1) }
 {}
 
-/// The object steps of a caller's calls: a caller has none before its first call, and none in a
-/// call that it has just announced; each further one is the last of the call under way, and the
-/// last of all.
+/// A caller has no object step before its first call, and none in a call that it has just
+/// announced. Each further object step comes last in the call under way and last of all.
 pub fn object_steps_are_of_calls()
-    // A local at the start has no progress.
+    // The progress at the start has no call, no published record and no object step.
     ensures none { progress_of fresh ≡ no_progress }
-    // The operation of the call under way is that of the second call.
+    // Where one of two calls is published, the operation of the call under way is the second
+    // call's.
     ensures operation { operation_now stepped ≡ 7 }
     // The object steps of the call under way are those of the second call alone.
     ensures now { steps_now stepped ≡ object_step 6 9 ∷ [] }
@@ -110,23 +111,23 @@ pub fn object_steps_are_of_calls()
     ensures all { all_steps_of stepped ≡ object_step 0 3 ∷ object_step 3 6 ∷ object_step 6 9 ∷ [] }
     // The progress of a local has the object steps of all its calls.
     ensures progress { (progress_of stepped).steps ≡ all_steps_of stepped }
-    // An object step adds itself to the progress of its local.
+    // An object step is added to the progress of its caller.
     ensures stepped { progress_of (local_after 3 stepped (Object (object_step 9 2)))
         ≡ after_stepping (object_step 9 2) (progress_of stepped) }
-    // An object step is the last one of the call under way.
+    // An object step is added after the other object steps of the call under way.
     ensures stepped_now { steps_now (local_after 3 stepped (Object (object_step 9 2)))
         ≡ object_step 6 9 ∷ object_step 9 2 ∷ [] }
-    // An object step is the last one of all steps of its caller.
+    // An object step is added after all other object steps of its caller.
     ensures last { (after_stepping (object_step 9 2) (progress_of stepped)).steps
         ≡ object_step 0 3 ∷ object_step 3 6 ∷ object_step 6 9 ∷ object_step 9 2 ∷ [] }
     // A call that has just been announced has no object step.
     ensures announced { steps_now (local_after 3 fresh Announce) ≡ [] }
-    // Six phases make a progress with object steps of both calls.
+    // A progress after six phases may have object steps of both calls.
     ensures any_steps { IsProgressAfter (5 ∷ 7 ∷ []) 6 (progress_of stepped) }
 {}
 
-/// What an object tells: a pair for each call that it was asked for, of which the last may have no
-/// record yet.
+/// An object tells an operation and a reply for each call that it was asked, of which the last may
+/// have no record yet.
 pub fn objects_tell_of_what_they_were_asked()
     // The answers of calls are the operation and the reply of each call that has its record.
     ensures answers { answers_in (judged 5 first [] ∷ recorded 7 second ∷ made 8 ∷ [])
@@ -150,9 +151,10 @@ pub fn objects_tell_of_what_they_were_asked()
         ((5, 50) ∷ (9, 4) ∷ []) }
 {}
 
-/// The calls, the book and the seen cuts of lines with all four ends.
+/// What lines with all four ends tell: their calls, their book, their seen cuts, and their errors.
 pub fn lines_tell_of_calls()
-    // The calls of the worked lines are those that are written out.
+    // The calls of the worked lines are a judged and an announced one of the first caller, a judged
+    // one of the second, and a recorded one of the third.
     ensures calls { calls_of worked_lines ≡ worked_calls }
     // The book of the worked lines has each call, and the records of the calls that have one.
     ensures book { book_of_lines worked_lines ≡ worked_book }
@@ -161,17 +163,18 @@ pub fn lines_tell_of_calls()
     ensures seen { map (seen_at worked_lines)
         (call 0 0 ∷ call 0 1 ∷ call 1 0 ∷ call 2 0 ∷ call 2 1 ∷ call 3 0 ∷ [])
         ≡ Some (1 ∷ 0 ∷ 0 ∷ []) ∷ None ∷ Some (1 ∷ 1 ∷ 0 ∷ []) ∷ None ∷ None ∷ None ∷ [] }
-    // Of the worked lines one is delivered, with its seen cut.
+    // Of four worked lines only the first caller's first one is delivered, with the seen cut 1, 0,
+    // 0.
     ensures delivered { map (delivered_at worked_lines)
         (call 0 0 ∷ call 0 1 ∷ call 1 0 ∷ call 2 0 ∷ [])
         ≡ Some (1 ∷ 0 ∷ 0 ∷ []) ∷ None ∷ None ∷ None ∷ [] }
-    // Of the worked lines one is an error, with its seen cut.
+    // Of four worked lines only the second caller's one is an error, with the seen cut 1, 1, 0.
     ensures error { map (error_at worked_lines) (call 0 0 ∷ call 0 1 ∷ call 1 0 ∷ call 2 0 ∷ [])
         ≡ None ∷ None ∷ Some (1 ∷ 1 ∷ 0 ∷ []) ∷ None ∷ [] }
     // Of the three callers the second one has an error.
     ensures has_error { map (λ i. any_error (lines_at worked_lines i)) (0 ∷ 1 ∷ 2 ∷ [])
         ≡ false ∷ true ∷ false ∷ [] }
-    // A caller has an error also where a line before it is delivered.
+    // An error line is found also after a delivered line.
     ensures error_after { any_error (delivered 5 first [] ∷ failed 6 second [] ∷ []) ≡ true }
 {}
 
@@ -183,21 +186,22 @@ pub fn callers_are_given_phases()
     ensures with_stop { phases_for (Some 4) 3 ≡ 4 }
     // A caller that stops at once is given no phase.
     ensures stop_at_once { phases_for (Some 0) 3 ≡ 0 }
-    // A caller is given as many turns as the list of turns names it.
+    // A caller has as many turns as the list of turns names it.
     ensures turns { map (turns_of (1 ∷ 0 ∷ 1 ∷ 2 ∷ 1 ∷ [])) (0 ∷ 1 ∷ 2 ∷ 3 ∷ [])
         ≡ 1 ∷ 3 ∷ 1 ∷ 0 ∷ [] }
-    // Callers with stops after 6 phases, none and 3 phases are given 6, 10 and 3 phases.
+    // Three callers with 2, 2 and 1 calls are given 6, 10 and 3 phases, where the first stops after
+    // six phases, the second doesn't stop, and the third stops after three.
     ensures allotments { allotments_of worked_operations worked_stops ≡ 6 ∷ 10 ∷ 3 ∷ [] }
     // Callers without stops are given five phases for each of their calls.
     ensures no_stops { allotments_of worked_operations [] ≡ 10 ∷ 10 ∷ 5 ∷ [] }
     // A caller without calls is given no phase.
     ensures no_calls { allotments_of ([] ∷ []) [] ≡ 0 ∷ [] }
-    // A caller that is given turns makes a phase at each, up to its stop.
+    // A caller that takes turns is given one phase for each of its turns, up to its stop.
     ensures by_turns { allotments_by_turns worked_operations worked_stops
         (0 ∷ 1 ∷ 2 ∷ 2 ∷ 1 ∷ 2 ∷ 2 ∷ []) ≡ 1 ∷ 2 ∷ 3 ∷ [] }
     // A caller without an error makes all phases that it is given.
     ensures all_made { phases_of 6 (lines_at worked_lines 0) ≡ 6 }
-    // A caller with an error makes its phases up to that of the error's verdict.
+    // A caller that is given ten phases, and whose only line is an error, has made five.
     ensures up_to_the_error { phases_of 10 (lines_at worked_lines 1) ≡ 5 }
     // A caller that is given three phases publishes no record.
     ensures published { published_in (6 ∷ 10 ∷ 3 ∷ []) worked_lines ≡ 1 ∷ 1 ∷ 0 ∷ [] }
@@ -205,9 +209,8 @@ pub fn callers_are_given_phases()
     ensures published_later { published_in (6 ∷ 10 ∷ 4 ∷ []) worked_lines ≡ 1 ∷ 1 ∷ 1 ∷ [] }
 {}
 
-/// The lines of one caller with the operations 5 and 7, for allotments of 0 to 10 phases: one line
-/// for each call that was made, in order, with none left out, and none beyond an error or the
-/// allotment.
+/// Which lines a caller with the operations 5 and 7 has for an allotment of 0 to 10 phases: one
+/// line for each call that it made, in order, and none after an error.
 pub fn lines_are_those_of_the_allotment()
     // Without a phase a caller has no line.
     ensures none { IsAllotted (5 ∷ 7 ∷ []) 0 [] }
@@ -230,21 +233,21 @@ pub fn lines_are_those_of_the_allotment()
         (delivered 5 first [] ∷ failed 7 first [] ∷ []) }
     // Without a phase no line is pending.
     ensures begun_too_early { ¬ IsAllotted (5 ∷ 7 ∷ []) 0 (pending 5 ∷ []) }
-    // After one phase a line isn't left out.
+    // After one phase the announced call has a line.
     ensures not_begun { ¬ IsAllotted (5 ∷ 7 ∷ []) 1 [] }
     // After two phases no line is unchecked.
     ensures viewed_too_early { ¬ IsAllotted (5 ∷ 7 ∷ []) 2 (unchecked 5 first ∷ []) }
-    // After three phases no line is pending any more.
+    // After three phases no line is pending.
     ensures not_viewed { ¬ IsAllotted (5 ∷ 7 ∷ []) 3 (pending 5 ∷ []) }
     // After four phases no line is delivered.
     ensures judged_too_early { ¬ IsAllotted (5 ∷ 7 ∷ []) 4 (delivered 5 first [] ∷ []) }
     // After four phases no line is an error.
     ensures error_too_early { ¬ IsAllotted (5 ∷ 7 ∷ []) 4 (failed 5 first [] ∷ []) }
-    // After five phases the line isn't unchecked any more.
+    // After five phases the only line isn't unchecked.
     ensures not_judged { ¬ IsAllotted (5 ∷ 7 ∷ []) 5 (unchecked 5 first ∷ []) }
-    // After ten phases no second line is left out after a delivered one.
+    // After ten phases a caller whose first line is delivered has a second line.
     ensures left_out { ¬ IsAllotted (5 ∷ 7 ∷ []) 10 (delivered 5 first [] ∷ []) }
-    // After an error there is no line.
+    // No line follows an error line.
     ensures after_an_error { ¬ IsAllotted (5 ∷ 7 ∷ []) 10
         (failed 5 first [] ∷ delivered 7 first [] ∷ []) }
     // The lines of a caller are in the order of its operations.
@@ -255,11 +258,11 @@ pub fn lines_are_those_of_the_allotment()
         (delivered 5 first [] ∷ delivered 7 first [] ∷ pending 0 ∷ []) }
 {}
 
-/// The seen cuts of the worked lines fit. A seen cut doesn't fit that is too narrow, lacks its own
-/// line, holds a later line of its caller or a record that wasn't published, or isn't comparable
-/// with another one.
+/// When seen cuts fit one another and the published records. A seen cut doesn't fit that has too
+/// few counts, lacks its own line's call, holds a later call of its own caller or a record that
+/// isn't published, or isn't comparable with another seen cut.
 pub fn seen_cuts_fit()
-    // The seen cuts of the worked lines fit.
+    // The seen cuts of the worked lines fit one another and the published records.
     ensures worked { AreSeen (published_in (6 ∷ 10 ∷ 3 ∷ []) worked_lines) worked_lines }
     // A seen cut with a record of caller 2 doesn't fit where that caller wasn't given the phase
     // that publishes it.
@@ -280,9 +283,9 @@ pub fn seen_cuts_fit()
     ensures crossing { ¬ AreSeen (1 ∷ 1 ∷ 1 ∷ []) (seen_by_second (0 ∷ 1 ∷ 0 ∷ [])) }
 {}
 
-/// The seen cut of an error line fits as a delivered line's does. One doesn't fit that is too
-/// narrow, lacks its own line, holds a later line of its caller or a record that wasn't published,
-/// or isn't comparable with another one.
+/// When an error line's seen cut fits the other seen cuts and the published records. It doesn't fit
+/// where it has too few counts, lacks its own line's call, holds a later call of its own caller or
+/// a record that isn't published, or isn't comparable with another seen cut.
 pub fn seen_cuts_of_errors_fit()
     // An error's seen cut with a record of caller 2 doesn't fit where that caller wasn't given the
     // phase that publishes it.
@@ -306,14 +309,15 @@ pub fn seen_cuts_of_errors_fit()
 /// The greatest delivered cut is the seen cut of a delivered line, in whatever place, and never an
 /// error line's; where no line is delivered, all its counts are 0.
 pub fn greatest_delivered_cuts()
-    // The delivered cuts of the three delivered lines and the error are those of the three
+    // The delivered cuts of three delivered lines and an error line are the seen cuts of the three
     // delivered ones.
     ensures cuts { delivered_cuts three_delivered
         ≡ (1 ∷ 0 ∷ []) ∷ (2 ∷ 1 ∷ []) ∷ (1 ∷ 1 ∷ []) ∷ [] }
-    // The greatest delivered cut of these lines is that of the second one.
+    // The greatest delivered cut of three delivered lines is that of the second one, which contains
+    // the two others.
     ensures three { delivered_cut 2 three_delivered ≡ 2 ∷ 1 ∷ [] }
-    // The greatest delivered cut of the worked lines is that of the only delivered one.
+    // Where one line is delivered, the greatest delivered cut is its seen cut.
     ensures one { delivered_cut 3 worked_lines ≡ 1 ∷ 0 ∷ 0 ∷ [] }
-    // Lines of which none is delivered have the cut of zeros.
+    // Where no line is delivered, all counts of the greatest delivered cut are 0.
     ensures none { delivered_cut 2 ((pending 5 ∷ []) ∷ (unchecked 6 first ∷ []) ∷ []) ≡ 0 ∷ 0 ∷ [] }
 {}

@@ -4,42 +4,43 @@
 ghost use Rattle.report_lines.specs.Progress.{TheLastCallGoesOn};
 ghost use Rattle.report_lines.specs.Account.{NothingGrows, OperationsAreCalls, ObjectStepsAreOfTheLastCall, RepliesAreNoRecords, ViewsMakeRecords, PublicationsCount, SeenCutsAreOfTheLastCall, AnnouncementsAreCalls, ObjectStepsCount, PublishesCount};
 
-/// Where a local has one operation, one view, one seen cut or one published record more, its
-/// caller's progress is one phase further; where it has one reply more, or none of these changes,
-/// the progress stays. One more object step is the last of all object steps of the caller.
+/// How a caller's progress follows from its local: which part of the progress grows as one part of
+/// the local grows.
 pub fn locals_tell_how_far_callers_are()
-    // Where a caller's account of its calls stays, its progress stays.
+    // Where a caller's operations, replies, views, seen cuts, published records and object steps
+    // stay, its progress stays.
     ensures nothing { NothingGrows }
-    // Where an announcing caller's account has one operation more, its progress has one call more,
-    // with this operation.
+    // Where an announcing caller's local gains one operation and nothing else, its progress gains
+    // one call, with this operation.
     ensures operations { OperationsAreCalls }
-    // Where a caller's account has one object step more, its progress has that step as the last
-    // one.
+    // Where a caller's local gains one object step and nothing else, its progress has this step as
+    // the last one.
     ensures steps { ObjectStepsAreOfTheLastCall }
-    // Where an asking caller's account has one reply more, its progress stays.
+    // Where an asking caller's local gains one reply and nothing else, its progress stays.
     ensures replies { RepliesAreNoRecords }
-    // Where a viewing caller's account has one view more, the last call of its progress has its
-    // record, with this view.
+    // Where a viewing caller's local gains one view and nothing else, the last call of its progress
+    // has its record, with this view.
     ensures views { ViewsMakeRecords }
-    // Where a caller's account has one published record more, its progress has one more.
+    // Where a caller's local counts one more published record and gains nothing else, its progress
+    // counts one more published record.
     ensures publications { PublicationsCount }
-    // Where a judging caller's account has one seen cut more, the last call of its progress has
-    // this seen cut.
+    // Where a judging caller's local gains one seen cut and nothing else, the last call of its
+    // progress has this seen cut.
     ensures seen { SeenCutsAreOfTheLastCall }
 {}
 
-/// An announcement is one more call, which has no object step; an object step is the last of all
-/// object steps of its caller; and a publication is one more published record.
+/// What three kinds of event add to their caller's progress: an announcement a call, an object step
+/// this step as the last one, and a publication a published record.
 pub fn events_take_callers_on()
     // An announcement adds a call, with the staged operation, to its caller's progress.
     ensures announcements { AnnouncementsAreCalls }
-    // An object step adds itself to its caller's progress.
+    // An object step is added to its caller's progress as the last one.
     ensures steps { ObjectStepsCount }
     // A publication adds a published record to its caller's progress.
     ensures publications { PublishesCount }
 {}
 
-/// A list of calls whose last call changes keeps the calls before it.
+/// Where only the last call of a list gets further, all calls before it stay as they are.
 pub fn the_last_call_goes_on()
     ensures { TheLastCallGoesOn }
 {}

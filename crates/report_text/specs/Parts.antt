@@ -59,27 +59,28 @@ pub record IsPrefix (kind : Kind) (n : ℕ) (call : Call) (words : List (List �
   pub text : words ≡ place_words call ++ (operation_words kind op ++ rest)
   pub answered : SayAnswer n rest answer suffix
 
--- This is the first test that a line of n callers fails, whatever lines come before it and however
--- many calls each caller has.
+-- `name` is the first test that a line with these words fails where this call's line is due in a
+-- report of n callers, whatever lines come before it and however many calls each caller has.
 abbrev pub IsPrefixRefused : Kind → ℕ → Call → List (List ℕ) → What → Type 0
 IsPrefixRefused kind n call words name = (counts : List ℕ) (told : List Line) → length counts ≡ n
     → IsFirstTest (LineFails kind counts told call words) name
 
--- The words after the view, for a line with this end.
+-- The words that a line with this end has after its view.
 abbrev pub verdict_words : LineEnd → List (List ℕ)
 verdict_words Pending = []
 verdict_words (Unchecked r) = codes "unchecked" ∷ []
 verdict_words (Delivered r cut) = codes "ok" ∷ seen_words cut
 verdict_words (Error r cut) = codes "error" ∷ seen_words cut
 
--- The end has this record, and a seen cut of this many callers where it has one.
+-- The end of a line isn't pending and has the record `r`; where it has a seen cut, this is a cut of
+-- n callers.
 abbrev pub HasVerdict : ℕ → Record → LineEnd → Type 0
 HasVerdict n r Pending = ⊥
 HasVerdict n r (Unchecked s) = s ≡ r
 HasVerdict n r (Delivered s cut) = (s ≡ r) × IsCut n cut
 HasVerdict n r (Error s cut) = (s ≡ r) × IsCut n cut
 
--- After the view the words say this end.
+-- The words after a line's view are those of this end, which has the record `r`.
 abbrev pub SayVerdict : ℕ → Record → List (List ℕ) → LineEnd → Type 0
 SayVerdict n r words end = HasVerdict n r end × (words ≡ verdict_words end)
 
@@ -109,9 +110,9 @@ MayTell book call (Some r) = MayAnswer book call.caller r.view
 abbrev pub with_told : List Page → Call → Line → List Page
 with_told book call line = with_line book call line.op (answer_in line.end)
 
--- The line with this number is refused for an answer with this view, or for the words after it: for
--- want of memory, by the first test of views that the view fails, or since the words say no
--- verdict.
+-- The reader of the line with this number stops with the fault `e` after it has read an answer with
+-- this view: for want of memory; by the first test of views that the view fails in the book; or,
+-- where the view is right, by the test that the words after it fail as a verdict.
 abbrev pub IsAnswerRefused : List Page → Call → List ℕ → List (List ℕ) → ℕ → ReadFault → Type 0
 IsAnswerRefused book call view words number e =
     (e ≡ NoMemory)
@@ -120,8 +121,8 @@ IsAnswerRefused book call view words number e =
     × IsFirstFault book call.caller view fault)
     ⊎ (MayAnswer book call.caller view × IsNoVerdict (length book) words name)))
 
--- The line with these words and this number is refused for want of memory, or for the test that it
--- fails first after any lines that give this book.
+-- The reader of the line with these words and this number stops with the fault `e`: for want of
+-- memory, or by the first test that the line fails after any lines that have this book.
 abbrev pub AreWordsRefused : Kind → List Page → Call → List (List ℕ) → ℕ → ReadFault → Type 0
 AreWordsRefused kind book call words number e =
     (e ≡ NoMemory)
@@ -155,15 +156,15 @@ IsMisfit counts lines call line what.Last = FitsCuts counts lines call line
     × EndsTooEarly counts call line
 IsMisfit counts lines call line _ = ⊥
 
--- The line of a call fits all lines that have these limits and these greatest counts of seen cuts,
--- where its caller has this many calls.
+-- A line of this call, whose caller has `count` calls, fits (`FitsOthers`) whatever lines have
+-- these limits and these greatest counts of seen cuts.
 abbrev pub AlwaysFits : List ℕ → List ℕ → Call → ℕ → Line → Type 0
 AlwaysFits limits seen call count line = (counts : List ℕ) (lines : List (List Line))
     → AreLimits counts lines limits → AreSeenCounts (length counts) lines seen
     → slice_index counts call.caller ≡ count → FitsOthers counts lines call line
 
--- This is the first of those two tests that the line of a call fails, after all lines that have
--- these limits and these greatest counts of seen cuts, where its caller has this many calls.
+-- `name` is the first test, `Seen` or `Last`, that a line of this call, whose caller has `count`
+-- calls, fails after whatever lines have these limits and these greatest counts of seen cuts.
 abbrev pub IsAlwaysMisfit : List ℕ → List ℕ → Call → ℕ → Line → What → Type 0
 IsAlwaysMisfit limits seen call count line name = (counts : List ℕ) (lines : List (List Line))
     → AreLimits counts lines limits → AreSeenCounts (length counts) lines seen
@@ -171,31 +172,31 @@ IsAlwaysMisfit limits seen call count line name = (counts : List ℕ) (lines : L
 
 -- ---- lines
 
--- The next line is right and is this line of this call; the lines so far and this one together have
--- this draft.
+-- The next line of the text is right and says `line` of this call, and the draft of all lines up to
+-- it is `after`.
 pub record IsLineRead (kind : Kind) (counts : List ℕ) (told : List Line) (call : Call)
     (more : List Call) (text : Unread) (line : Line) (after : Draft) (left : Unread) : Type 0 where
   pub goes : GoesTo report_rules (InLines kind counts told (call ∷ more)) text
       (InLines kind counts (told ++ line ∷ []) more) left
   pub draft : IsDraft counts (told ++ line ∷ []) after
 
--- The next line is read as this line of this call after all lines that have the first draft and end
--- before this call, and together with them it has the second draft.
+-- After any lines that have the draft `before` and end right before this call, the next line of the
+-- text is right and says `line` of this call, and the draft is then `after`.
 abbrev pub LineIsRead : Kind → Draft → Call → Unread → Line → Draft → Unread → Type 0
 LineIsRead kind before call text line after left =
     (counts : List ℕ) (told : List Line) (more : List Call)
     → IsDraft counts told before → StandBefore counts told call.caller call.number
     → IsLineRead kind counts told call more text line after left
 
--- In the next line, where that of this call is due, a reader stops with this fault, after all lines
--- that have this draft and end before this call.
+-- After any lines that have the draft `before` and end right before this call, a reader of the next
+-- line, where the call's line is due, stops with the fault `e`.
 abbrev pub LineIsStopped : Kind → Draft → Call → Unread → ReadFault → Type 0
 LineIsStopped kind before call text e = (counts : List ℕ) (told : List Line) (more : List Call)
     → IsDraft counts told before → StandBefore counts told call.caller call.number
     → StopsFor report_rules (InLines kind counts told (call ∷ more)) text e
 
--- The next lines are right and are these lines of a caller's calls, which are this many; the lines
--- so far and these together have this draft.
+-- The next `count` lines of the text are right and say the lines `own` of caller i, and the draft
+-- of all lines up to the last of them is `after`.
 pub record AreOwnRead (kind : Kind) (counts : List ℕ) (told : List Line) (i count : ℕ)
     (more : List Call) (text : Unread) (own : List Line) (after : Draft)
     (left : Unread) : Type 0 where
@@ -203,33 +204,34 @@ pub record AreOwnRead (kind : Kind) (counts : List ℕ) (told : List Line) (i co
       (InLines kind counts (told ++ own) more) left
   pub draft : IsDraft counts (told ++ own) after
 
--- The next lines are read as these lines of a caller's calls after all lines that have the first
--- draft and end before them, and together with them they have the second draft.
+-- After any lines that have the draft `before` and end right before caller i's first call, the next
+-- `count` lines of the text are right and say the lines `own` of caller i, and the draft is then
+-- `after`.
 abbrev pub LinesAreRead : Kind → Draft → ℕ → ℕ → Unread → List Line → Draft → Unread → Type 0
 LinesAreRead kind before i count text own after left =
     (counts : List ℕ) (told : List Line) (more : List Call)
     → IsDraft counts told before → StandBefore counts told i 0
     → AreOwnRead kind counts told i count more text own after left
 
--- In the next lines, where those of a caller's calls are due, which are this many, a reader stops
--- with this fault, after all lines that have this draft and end before them.
+-- After any lines that have the draft `before` and end right before caller i's first call, a reader
+-- of the next `count` lines, where the lines of caller i are due, stops with the fault `e`.
 abbrev pub LinesAreStopped : Kind → Draft → ℕ → ℕ → Unread → ReadFault → Type 0
 LinesAreStopped kind before i count text e = (counts : List ℕ) (told : List Line) (more : List Call)
     → IsDraft counts told before → StandBefore counts told i 0
     → StopsFor report_rules (InLines kind counts told (calls_from i 0 count ++ more)) text e
 
--- The lines of all callers, one after the other.
+-- The lines of all callers in one list, caller by caller.
 abbrev pub joined : List (List Line) → List Line
 joined lines = flat_map (λ own. own) lines
 
--- The next lines are right, and are these lines of all calls of callers that have these numbers of
--- calls.
+-- The next lines of the text are right and say the lines `lines` of all calls, where each caller
+-- has as many calls as `counts` says.
 abbrev pub AreAllRead : Kind → List ℕ → Unread → List (List Line) → Unread → Type 0
 AreAllRead kind counts text lines left = GoesTo report_rules
     (InLines kind counts [] (all_calls 0 counts)) text (InLines kind counts (joined lines) []) left
 
--- In the next lines, where those of all calls of callers with these numbers of calls are due, a
--- reader stops with this fault.
+-- A reader of the next lines of the text, where the lines of all calls are due and each caller has
+-- as many calls as `counts` says, stops with the fault `e`.
 abbrev pub AreAllStopped : Kind → List ℕ → Unread → ReadFault → Type 0
 AreAllStopped kind counts text e =
     StopsFor report_rules (InLines kind counts [] (all_calls 0 counts)) text e

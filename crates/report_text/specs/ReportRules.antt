@@ -1,5 +1,4 @@
--- The lines of a report's text, one after the other: which are right, and which test the others
--- fail.
+-- The rules of a report's text: which lines are right, and which test a wrong line fails.
 use Rattle.std.specs.Prelude.{◌≡◌, ◌≢◌, ℕ, ◌+◌, ◌-◌, ◌<◌, ◌≤◌, ◌^◌, ◌⊎◌, List, [], ◌∷◌, ◌++◌, length, map, take, drop, replicate, codes, Some, None, slice_index}
 use Rattle.std.specs.List.{flat_map}
 use Rattle.book_base.specs.declared.call.Call.{Call}
@@ -36,16 +35,16 @@ use Rattle.reports.specs.Grammar.{line_words}
 
 -- ---- what the lines so far say
 
--- The page of a caller that has this many calls, of which these have their lines: the others have
--- the operation 0 and no answer.
+-- The page of a caller with `count` calls, of which the first have the lines `own`; each further
+-- call has the operation word 0 and no answer.
 abbrev pub part_page : ℕ → List Line → Page
 part_page count own = record {
   operations = map (λ line. line.op) own ++ replicate (count - length own) 0;
   records = flat_map (λ line. records_of (reached_of line.end)) own;
 }
 
--- The book of the lines so far, which are listed one after the other, for callers with these
--- numbers of calls.
+-- The book of the lines read so far, which are in one list by caller and number, for callers with
+-- these numbers of calls.
 abbrev pub book_so_far : List ℕ → List Line → List Page
 book_so_far [] told = []
 book_so_far (count ∷ counts) told =
@@ -68,7 +67,8 @@ IsFormed n (Unchecked r) = IsAnswer n r
 IsFormed n (Delivered r cut) = IsAnswer n r × IsCut n cut
 IsFormed n (Error r cut) = IsAnswer n r × IsCut n cut
 
--- The words say this line of the call.
+-- The words are the text of this call's line, in a report of n callers, and a text can have the
+-- call's caller and number, the operation, the record and the seen cut.
 pub record SaysLine (kind : Kind) (n : ℕ) (call : Call) (words : List (List ℕ))
     (line : Line) : Type 0 where
   pub named : IsNamedCall call
@@ -77,7 +77,8 @@ pub record SaysLine (kind : Kind) (n : ℕ) (call : Call) (words : List (List �
   pub formed : IsFormed n line.end
   pub text : words ≡ line_words kind call line
 
--- After the reply the words are this view and this suffix, which begins with no pair.
+-- The words of a call's line are the call, an operation, a reply, this view and this suffix, which
+-- begins with no pair.
 pub record IsAfterView (kind : Kind) (n : ℕ) (call : Call) (words : List (List ℕ)) (view : List ℕ)
     (suffix : List (List ℕ)) : Type 0 where
   pub formed : IsCut n view
@@ -85,14 +86,14 @@ pub record IsAfterView (kind : Kind) (n : ℕ) (call : Call) (words : List (List
   pub text : IsAfterReply (kind_operations Second kind) call words
       (codes "view" ∷ (pair_words 0 view ++ suffix))
 
--- The words begin with a verdict, and this suffix follows it.
+-- The words are 'ok seen' or 'error seen', and then this suffix.
 abbrev pub BeginAsVerdict : List (List ℕ) → List (List ℕ) → Type 0
 BeginAsVerdict words suffix = (words ≡ codes "ok" ∷ codes "seen" ∷ suffix)
     ⊎ (words ≡ codes "error" ∷ codes "seen" ∷ suffix)
 
 -- ---- how a line fits those before it
 
--- The line of the call, which is among these, is pending.
+-- The lines have one for this call, and it is pending.
 abbrev pub IsPendingAt : List (List Line) → Call → Type 0
 IsPendingAt lines call = (line : Line) × (line_at lines call ≡ Some line) × (line.end ≡ Pending)
 
@@ -104,7 +105,7 @@ IsWrongCut counts lines call cut =
     ⊎ (((other : Call) × IsPendingAt lines other × Holds cut other)
     ⊎ (slice_index cut call.caller ≤ call.number))
 
--- An earlier line's seen cut holds this call.
+-- The seen cut of one of these lines, which are those before the call's line, holds this call.
 abbrev pub IsSeenBefore : List (List Line) → Call → Type 0
 IsSeenBefore lines call = (other : Call) × (cut : List ℕ) × (seen_at lines other ≡ Some cut)
     × Holds cut call
@@ -114,7 +115,9 @@ abbrev pub EndsTooEarly : List ℕ → Call → Line → Type 0
 EndsTooEarly counts call line = (delivered_in line.end ≡ None)
     × (call.number + 1 < slice_index counts call.caller)
 
--- A line fits the lines before it.
+-- A line of this call fits the lines before it: their book takes its view; its seen cut isn't
+-- wrong; where it is pending, no earlier seen cut holds the call; and it is delivered or is its
+-- caller's last.
 pub record FitsEarlier (counts : List ℕ) (told : List Line) (call : Call)
     (line : Line) : Type 0 where
   pub view : (r : Record) → records_of (reached_of line.end)
@@ -126,7 +129,8 @@ pub record FitsEarlier (counts : List ℕ) (told : List Line) (call : Call)
 
 -- ---- the tests of a line
 
--- A line, which is to be that of this call, fails a test after these lines.
+-- A line with these words fails this test where the line of this call is due after the lines
+-- `told`.
 abbrev pub LineFails : Kind → List ℕ → List Line → Call → List (List ℕ) → What → Type 0
 -- the line doesn't begin with the caller and the number that are due
 LineFails kind counts told call words what.Place = (suffix : List (List ℕ))
@@ -165,7 +169,7 @@ LineFails kind counts told call words what.Seen =
 -- the line isn't delivered, and isn't its caller's last
 LineFails kind counts told call words what.Last = (line : Line)
     × SaysLine kind (length counts) call words line × EndsTooEarly counts call line
--- the line has a view that the book of the lines before it refuses
+-- the book of the lines before this line refuses the line's view, by this test of views
 LineFails kind counts told call words name = (view : List ℕ) × (suffix : List (List ℕ))
     × (fault : BookFault) × IsAfterView kind (length counts) call words view suffix
     × (view_test fault ≡ Some name) × FailsTest (book_so_far counts told) call.caller view fault
@@ -175,12 +179,13 @@ LineFails kind counts told call words name = (view : List ℕ) × (suffix : List
 -- What is due in the text of a report, with what the lines before say.
 pub data ReportDue : Type 0 where
   InHead : HeadDue → ReportDue
-  -- the lines of these calls, after those that say these lines, for callers with these numbers of
-  -- calls
+  -- the lines of the calls in the last list are due, after text that says the lines in the list
+  -- before it; the first list has each caller's number of calls
   InLines : Kind → List ℕ → List Line → List Call → ReportDue
   AtEnd : Findings → ReportDue
 
--- After the head come the lines of the calls.
+-- What is due in a report's text after a part of its head: the rest of the head, or, where the head
+-- is read, the lines of the calls.
 abbrev pub after_head : HeadDue → ReportDue
 after_head TitleDue = InHead TitleDue
 after_head ObjectDue = InHead ObjectDue
@@ -188,7 +193,8 @@ after_head (CallersDue kind) = InHead (CallersDue kind)
 after_head (CountsDue kind n) = InHead (CountsDue kind n)
 after_head (HeadRead kind counts) = InLines kind counts [] (all_calls 0 counts)
 
--- The right lines of a report's text.
+-- A line with these words is right in a report's text where `due` is due, and after it `after` is
+-- due.
 abbrev pub ReportPasses : ReportDue → List (List ℕ) → ReportDue → Type 0
 ReportPasses (InHead due) words after = (next : HeadDue)
     × HeadPasses Second (codes "report") due words next × (after ≡ after_head next)
@@ -199,7 +205,7 @@ ReportPasses (InLines kind counts told (call ∷ calls)) words after = (line : L
     × (after ≡ InLines kind counts (told ++ line ∷ []) calls)
 ReportPasses (AtEnd findings) words after = ⊥
 
--- The tests of the lines of a report's text.
+-- A line with these words fails this test in a report's text where `due` is due.
 abbrev pub ReportFails : ReportDue → List (List ℕ) → What → Type 0
 ReportFails (InHead due) words name = HeadFails Second (codes "report") due words name
 ReportFails (InLines kind counts told []) words name = (name ≡ what.End) × (words ≢ end_words)
@@ -222,8 +228,8 @@ abbrev pub IsFirstReportFault : List ℕ → TextFault → Type 0
 IsFirstReportFault bytes fault =
     IsFirstFault report_rules (InHead TitleDue) (whole_text bytes) fault
 
--- The bytes are the text of the report that says this: right lines from the title to the end of the
--- bytes.
+-- The bytes are the text of the report with these findings: right lines from the title to the end
+-- of the bytes.
 abbrev pub IsReportText : List ℕ → Findings → Type 0
 IsReportText bytes findings = (left : Unread)
     × IsReadTo report_rules (InHead TitleDue) (whole_text bytes) (AtEnd findings) left

@@ -1,4 +1,4 @@
-//! What is kept of the lines that are read so far.
+//! What a reader of a report's text keeps of the lines that it has read.
 
 ghost use Rattle.std.specs.Prelude.{◌≡◌, ◌↔◌, ◌<◌, length, is_some, IsTrue, IfSome, IfNone};
 ghost use Rattle.book_base.specs.Cut.{Holds, IsWithin};
@@ -9,20 +9,20 @@ ghost use Rattle.report_text.specs.Parts.{AlwaysFits, IsAlwaysMisfit};
 use book_base::{Book, Call, Cut, What};
 use report_lines::{Line, LineEnd};
 
-/// What is kept of the lines that are read so far, as far as further lines are tested by it.
+/// What a reader keeps of the lines that it has read, to test further lines by.
 #[derive(Drop)]
 pub(crate) struct Draft {
     /// The calls and the records of the lines so far, and the calls whose lines are still due.
     pub(crate) book: Book,
-    /// The limits of seen cuts: for each caller the number of its calls, or the number of its
-    /// pending one.
+    /// The limits of seen cuts: for each caller the number of its first call with a pending line,
+    /// or, where it has none, the number of its calls.
     pub(crate) limits: Cut,
-    /// For each caller the greatest count in the seen cuts so far.
+    /// For each caller the greatest count that a seen cut of the lines so far has.
     pub(crate) seen: Cut,
 }
 
 impl Draft {
-    /// Takes the line of this call into the limits and into the greatest counts.
+    /// Changes the limits and the greatest counts of seen cuts by the line of this call.
     pub(crate) fn note(&mut self, call: Call, line: &Line)
         requires caller { call.caller < length self.old.limits }
         requires seen { IfSome (seen_in line.now.end) (λ cut. length cut ≡ length self.old.seen) }
@@ -49,7 +49,8 @@ fn lower(limits: &mut Cut, call: Call)
     limits.set(call.caller, count.min(call.number));
 }
 
-/// Raises each count to that of the other cut, where it is below that.
+/// Raises each count of `seen` that is lower than the count of `cut` for the same caller to that
+/// count.
 fn join(seen: &mut Cut, cut: &Cut)
     requires { length cut.now ≡ length seen.old }
     ensures { AreJoined seen.old cut.now seen.new }
@@ -60,8 +61,9 @@ fn join(seen: &mut Cut, cut: &Cut)
     }
 }
 
-/// The first test that the line of this call fails after the lines before it, of the tests on cuts
-/// and on its caller's further lines. The call's caller has this many calls.
+/// The first of two tests that a line of this call fails: `Seen`, whether it fits the seen cuts and
+/// pending lines before it; and `Last`, whether it is delivered or is the last of its caller, which
+/// has `count` calls.
 pub(crate) fn misfit(limits: &Cut, seen: &Cut, call: Call, count: u64, line: &Line) -> Option<What>
     requires caller { call.caller < length limits.now }
     requires wide { length seen.now ≡ length limits.now }
@@ -79,7 +81,8 @@ pub(crate) fn misfit(limits: &Cut, seen: &Cut, call: Call, count: u64, line: &Li
     None
 }
 
-/// Whether the line's seen cut, or the call itself where it is pending, fits the lines before it.
+/// Whether the line fits the lines before it: where it is pending, no earlier seen cut may hold its
+/// call; and a seen cut of its own has to be within the limits and hold the call.
 fn fits_cuts(limits: &Cut, seen: &Cut, call: Call, line: &Line) -> bool
     requires caller { call.caller < length limits.now }
     requires wide { length seen.now ≡ length limits.now }
@@ -94,7 +97,7 @@ fn fits_cuts(limits: &Cut, seen: &Cut, call: Call, line: &Line) -> bool
     }
 }
 
-/// Whether a seen cut of this call holds the call, and is within the limits.
+/// Whether a seen cut of this call's line holds the call, and is within the limits.
 fn goes_right(cut: &Cut, limits: &Cut, call: Call) -> bool
     requires caller { call.caller < length limits.now }
     requires wide { length cut.now ≡ length limits.now }

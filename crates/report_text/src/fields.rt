@@ -23,8 +23,8 @@ struct Prefix {
     answer: Option<Record>,
 }
 
-/// Reads the line of this call, in a report about objects of this kind, and takes what it says into
-/// the book of the lines before it. `number` is the line's.
+/// Reads the line of this call, in a report about objects of this kind, and puts its operation and
+/// its record into the book of the lines before it. `number` is the line's number in the text.
 pub(crate) fn read_fields(
     kind: Kind,
     line: &[u8],
@@ -100,8 +100,8 @@ fn read_answer(words: &mut Words, n: u32) -> Result<Option<Record>, What>
     }
 }
 
-/// Takes this answer of the call into the book, and reads the verdict after the answer. `number` is
-/// the line's.
+/// Puts this answer of the call into the book, and reads the verdict after the answer. `number` is
+/// the line's number in the text.
 fn take_answer(
     book: &mut Book,
     call: Call,
@@ -128,7 +128,7 @@ fn take_answer(
     }
 }
 
-/// The verdict after a view, for this answer.
+/// Reads the words after the view of this answer: 'unchecked', or a verdict with its seen cut.
 fn read_verdict(words: &mut Words, answer: Record, n: u32) -> Result<LineEnd, What>
     requires some { 1 ≤ n }
     requires few { n ≤ MAX_CALLERS }
@@ -162,7 +162,7 @@ fn read_verdict(words: &mut Words, answer: Record, n: u32) -> Result<LineEnd, Wh
     }
 }
 
-/// A seen cut, and nothing after it.
+/// Reads a seen cut, which has to be the last of the line.
 fn read_seen(words: &mut Words, n: u32) -> Option<Cut>
     requires some { 1 ≤ n }
     requires few { n ≤ MAX_CALLERS }

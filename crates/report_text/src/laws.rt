@@ -13,7 +13,7 @@ pub fn one_report_per_text()
         → IsReportText bytes a → IsReportText bytes b → a ≡ b }
 {}
 
-/// A report has one text.
+/// A report has at most one text.
 pub fn one_text_per_report()
     ensures { (a b : List ℕ) (findings : Findings)
         → IsReportText a findings → IsReportText b findings → a ≡ b }
@@ -31,7 +31,8 @@ pub fn no_fault_of_a_text()
         → IsReportText bytes findings → ¬ (IsFirstReportFault bytes fault) }
 {}
 
-/// Bytes are read as a report, line by line, exactly where they are what is written of it.
+/// Bytes are read as a report, line by line, exactly where they are the text that is written of
+/// this report.
 pub fn a_text_is_its_reports_lines()
     ensures { (bytes : List ℕ) (findings : Findings)
         → IsWrittenText bytes findings ↔ IsReportText bytes findings }

@@ -13,8 +13,8 @@ use report_lines::Line;
 use seq_objects::Kind;
 use text_fields::Lines;
 
-/// Reads the line of this call, in a report about objects of this kind, and takes it into the draft
-/// of the lines before it.
+/// Reads the line of this call, in a report about objects of this kind, and adds it to the draft of
+/// the lines before it.
 pub(crate) fn read_line(
     lines: &mut Lines,
     kind: Kind,

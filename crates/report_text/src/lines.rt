@@ -17,8 +17,8 @@ use seq_objects::Kind;
 use std::alloc::Global;
 use text_fields::Lines;
 
-/// The lines of all callers, in a report about objects of this kind; the lines after them stay.
-/// `calls` has the number of calls of each caller.
+/// Reads the lines of all callers, in a report about objects of this kind, and leaves what comes
+/// after them unread. `calls` has the number of calls of each caller.
 pub(crate) fn read_callers(
     alloc: Global,
     lines: &mut Lines,
@@ -45,7 +45,7 @@ pub(crate) fn read_callers(
     Ok(callers)
 }
 
-/// The lines of a caller's calls, of which there are this many.
+/// Reads the `count` lines of caller `i`.
 fn read_own(
     alloc: Global,
     lines: &mut Lines,

@@ -15,9 +15,9 @@ use reports::Report;
 use std::alloc::Global;
 use text_fields::{Lines, read_head};
 
-/// The report that the bytes are the text of, in version 2.
+/// Reads the report that the bytes are the text of, in version 2.
 ///
-/// A text fault names the first line that is wrong, and of its tests the first that it fails.
+/// A text fault names the first line that is wrong, and the first test that this line fails.
 pub fn read_report(alloc: Global, bytes: &[u8]) -> Result<Report, ReadFault>
     // The bytes are the text of the report that is answered.
     ensures found { IfOk result (λ report. IsReportText bytes.now report) }
@@ -36,7 +36,7 @@ pub fn read_report(alloc: Global, bytes: &[u8]) -> Result<Report, ReadFault>
     read_text(alloc, bytes)
 }
 
-/// The report that the bytes are the text of.
+/// Reads the report that the bytes are the text of.
 fn read_text(alloc: Global, bytes: &[u8]) -> Result<Report, ReadFault>
     ensures found { IfOk result (λ report. IsReportText bytes.now report) }
     ensures refused { IfErr result (λ e.

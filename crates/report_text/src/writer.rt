@@ -18,7 +18,7 @@ use std::alloc::Global;
 
 /// The one text of a report.
 pub fn report_text(alloc: Global, report: &Report) -> Result<Vec<u8>, NoMemory>
-    // The bytes are what is written of the report.
+    // The bytes are the text that is written of the report.
     ensures written { IfOk result (λ bytes. IsWrittenText bytes.items report.now) }
     // A reader reads the bytes as the report.
     ensures read { IfOk result (λ bytes. IsReportText bytes.items report.now) }

@@ -17,12 +17,12 @@ abbrev pub FirstErrorsAreErrors : Type 0
 FirstErrorsAreErrors = (lines : List (List Line)) (cut : List ℕ) → HasFirstError lines cut
     → list_any any_error lines ≡ true
 
--- The first error is one line, which saw one cut.
+-- Lines have at most one first error line, which has one seen cut.
 abbrev pub FirstErrorIsOne : Type 0
 FirstErrorIsOne = (lines : List (List Line)) (a b : Call) (x y : List ℕ) → IsFirstError lines a x
     → IsFirstError lines b y → (a ≡ b) × (x ≡ y)
 
--- A report has at most one witness.
+-- Lines have at most one witness.
 abbrev pub WitnessIsOne : Type 0
 WitnessIsOne = (lines : List (List Line)) (a b : List Page) → IsWitness lines a
     → IsWitness lines b → a ≡ b

@@ -1,4 +1,4 @@
--- The book of lines, into which they are put one by one.
+-- How the book of lines is filled, one line after another.
 use Rattle.std.specs.Prelude.{◌≡◌, ℕ, ◌+◌, ◌<◌, ◌≤◌, List, ◌++◌, length, take, drop, Option, Some, IsSome, slice_get}
 use Rattle.book_base.specs.declared.call.Call.{Call}
 use Rattle.book_base.specs.declared.call.Record.{Record}
@@ -22,8 +22,8 @@ abbrev pub HaveRecords : List (List Line) → Type 0
 HaveRecords lines = (call : Call) (line : Line) → line_at lines call ≡ Some line
     → call.number + 1 < length (lines_at lines call.caller) → IsSome (answer_in line.end)
 
--- The lines are those of a book: of no more callers and calls than there may be, each with its
--- record but a caller's last, and their book is valid.
+-- The lines make a book: there is at least one caller, there are no more callers and calls than a
+-- book may have, each line but a caller's last has its record, and the book of the lines is valid.
 pub record AreOfABook (lines : List (List Line)) : Type 0 where
   pub some : 1 ≤ length lines
   pub callers : length lines ≤ MAX_CALLERS
@@ -31,16 +31,17 @@ pub record AreOfABook (lines : List (List Line)) : Type 0 where
   pub answered : HaveRecords lines
   pub valid : IsValid (book_of_lines lines)
 
--- The book after the line of a call is put in.
+-- The book once the operation of a call's line is put in, and the line's record, where it has one.
 abbrev pub with_line_of : List Page → Call → Line → List Page
 with_line_of book call line = with_line book call line.op (answer_in line.end)
 
--- The book takes the record of a line, where the line has one.
+-- The book may take the record of a call's line: where the line has a record, its view has a count
+-- for each caller, and the book stays valid with it.
 pub record MayTake (book : List Page) (call : Call) (line : Line) : Type 0 where
   pub wide : (r : Record) → answer_in line.end ≡ Some r → length r.view ≡ length book
   pub may : (r : Record) → answer_in line.end ≡ Some r → MayAnswer book call.caller r.view
 
--- The book of all lines, of which those of the first n callers are put in: each call of another
--- caller has the operation word 0, and no answer.
+-- The book in which the lines of the first n callers are put in, and each call of a later caller
+-- has the operation word 0 and no answer.
 abbrev pub filled_to : ℕ → List (List Line) → List Page
 filled_to n lines = book_of_lines (take n lines) ++ unanswered_book (sizes (drop n lines))

@@ -17,19 +17,19 @@ use Rattle.report_lines.specs.Lines.{book_of_lines, lines_at, line_at, delivered
 pub record Findings : Type 0 where
   -- the kind of the object
   pub kind : Kind
-  -- each caller's lines, one a call
+  -- the lines of each caller, one for each of its calls
   pub lines : List (List Line)
 
 -- How many lines each caller has.
 abbrev pub sizes : List (List Line) → List ℕ
 sizes lines = map (λ own. length own) lines
 
--- The call has a line.
+-- The lines have one for this call.
 abbrev pub HasLine : List (List Line) → Call → Type 0
 HasLine lines call = call.number < length (lines_at lines call.caller)
 
--- The seen cuts of the lines fit them: each has a count for each caller, none above the caller's
--- records, and holds its own call.
+-- The seen cuts of the lines fit their book: each seen cut has a count for each caller, none above
+-- that caller's number of records in the book, and holds its own line's call.
 pub record AreSeen (lines : List (List Line)) : Type 0 where
   pub wide : (call : Call) (cut : List ℕ) → seen_at lines call ≡ Some cut
       → length cut ≡ length lines
@@ -37,7 +37,8 @@ pub record AreSeen (lines : List (List Line)) : Type 0 where
       → IsWithin cut (answered (book_of_lines lines))
   pub own : (call : Call) (cut : List ℕ) → seen_at lines call ≡ Some cut → Holds cut call
 
--- The cut has a count for each caller, none above the caller's records.
+-- The cut has a count for each caller, none above that caller's number of records in the book of
+-- the lines.
 abbrev pub IsInBook : List (List Line) → List ℕ → Type 0
 IsInBook lines cut = (length cut ≡ length lines) × IsWithin cut (answered (book_of_lines lines))
 
@@ -76,16 +77,17 @@ pub record IsFirstError (lines : List (List Line)) (call : Call) (cut : List ℕ
 abbrev pub HasNoError : List (List Line) → Type 0
 HasNoError lines = list_any any_error lines ≡ false
 
--- The cut is what the first error line saw.
+-- The cut is the seen cut of the first error line, by caller and then by number.
 abbrev pub HasFirstError : List (List Line) → List ℕ → Type 0
 HasFirstError lines cut = (call : Call) × IsFirstError lines call cut
 
--- The cut is what the first error among a caller's lines saw.
+-- The cut is the seen cut of the first error line among one caller's lines.
 abbrev pub HasFirstErrorIn : List Line → List ℕ → Type 0
 HasFirstErrorIn own cut = (k : ℕ) × (line : Line) × (slice_get own k ≡ Some line)
     × (error_in line.end ≡ Some cut) × (any_error (take k own) ≡ false)
 
--- The book is the one at the seen cut of the first error line.
+-- The book is the witness of the lines: the book of the lines at the seen cut of the first error
+-- line.
 pub record IsWitness (lines : List (List Line)) (book : List Page) : Type 0 where
   pub call : Call
   pub cut : List ℕ

@@ -5,10 +5,10 @@ use Rattle.report_lines.specs.declared.line.Line.{Line}
 use Rattle.reports.specs.declared.report.Own.{Own}
 use Rattle.reports.specs.Findings.{Findings}
 
--- The lines that each caller has.
+-- The lines of each caller, by what a report has in memory.
 abbrev pub lines_in : List Own → List (List Line)
 lines_in callers = map (λ own. own.lines.items) callers
 
--- What a report of this kind says, by the lines that it has in memory.
+-- The findings of a report of this kind, by the lines that it has in memory.
 abbrev pub findings_in : Kind → List Own → Findings
 findings_in kind callers = record { kind = kind; lines = lines_in callers }

@@ -4,7 +4,7 @@ use Rattle.report_lines.specs.declared.line.Line.{Line}
 use Rattle.report_lines.specs.Lines.{delivered_in, is_error}
 use Rattle.reports.specs.declared.counts.Counts.{Counts}
 
--- The line is delivered.
+-- Whether a line is delivered.
 abbrev pub is_delivered : Line → Bool
 is_delivered line = is_some (delivered_in line.end)
 

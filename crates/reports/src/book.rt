@@ -52,7 +52,8 @@ fn sizes_of(callers: &[Own]) -> Cut
 /// There are no more callers and calls than a book may have, and each line has its record, but for
 /// a caller's last, which may have none.
 pub fn book_of(alloc: Global, callers: &[Own]) -> Result<Book, NoMemory>
-    // The lines are those of a book.
+    // The lines make a book: there are no more callers and calls than a book may have, each line
+    // but a caller's last has its record, and the book of the lines is valid.
     requires { AreOfABook (lines_in callers.now) }
     ensures { IfOk result (λ book. book ≡ book_of_lines (lines_in callers.now)) }
 {
@@ -111,7 +112,7 @@ fn answer_of(end: LineEnd) -> Option<Record>
     }
 }
 
-/// Adds an answer that keeps the book valid, which is refused for want of memory alone.
+/// Adds an answer that keeps the book valid; only want of memory refuses it.
 fn add_answer(book: &mut Book, caller: u32, answer: Record) -> Result<(), NoMemory>
     requires caller { caller < length book.old }
     requires wide { length answer.view ≡ length book.old }

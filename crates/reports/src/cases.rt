@@ -15,15 +15,15 @@ use report_lines::{Line, LineEnd};
 use seq_objects::Kind;
 use std::alloc::Global;
 
-/// Lines with all four ends are a report, of which the second caller's error has the witness.
+/// Lines with all four ends are a report, and the second caller's error has its witness.
 pub fn a_report_has_a_witness()
     // The worked lines are a report of a queue.
     ensures report { IsReport worked }
     // The first error of the worked lines is that of caller 1, which saw a record of each of the
     // first two callers.
     ensures first { IsFirstError worked_lines (call 1 0) (1 ∷ 1 ∷ 0 ∷ []) }
-    // The witness of the worked lines is the book with these two records and the calls that their
-    // views hold.
+    // The witness of the worked lines is the book with one record of each of the first two callers
+    // and the calls that their views hold.
     ensures witness { IsWitness worked_lines worked_witness }
     // One of the worked lines is an error.
     ensures any { list_any any_error worked_lines ≡ true }
@@ -33,16 +33,16 @@ pub fn a_report_has_a_witness()
 
 /// Of two errors the earlier caller's is the first, whatever their seen cuts are.
 pub fn the_earlier_callers_error_is_first()
-    // Of the two errors that of caller 0 is the first.
+    // Of two errors, one of caller 0 and one of caller 1, that of caller 0 is the first.
     ensures first { IsFirstError two_errors (call 0 0) (1 ∷ 0 ∷ []) }
-    // Of the two errors that of caller 1 isn't the first.
+    // Of two errors, one of caller 0 and one of caller 1, that of caller 1 isn't the first.
     ensures second { ¬ IsFirstError two_errors (call 1 0) (1 ∷ 1 ∷ []) }
-    // The two lines have two calls, none delivered and two errors.
+    // Two error lines count as two calls, none of them delivered, and two errors.
     ensures counts { counts_of two_errors ≡ record { calls = 2; delivered = 0; errors = 2 } }
 {}
 
-/// Lines after one that isn't delivered are no report, and neither are lines with seen cuts that
-/// their callers can't have seen, or with words that no text can have.
+/// Lines are no report where one follows a line that isn't delivered, where a seen cut doesn't fit
+/// the book of the lines, or where a text can't have their words.
 pub fn lines_that_are_no_report()
     // Lines with one after a pending line are no report.
     ensures after_pending { ¬ IsReport (of_queue after_pending) }
@@ -52,9 +52,9 @@ pub fn lines_that_are_no_report()
     ensures after_error { ¬ IsReport (of_queue after_error) }
     // A line whose seen cut lacks its own call is in no report.
     ensures own_unseen { ¬ IsReport (of_queue own_unseen) }
-    // A line whose seen cut has a count more than there are callers is in no report.
+    // A line whose seen cut has more counts than there are callers is in no report.
     ensures of_two_callers { ¬ IsReport (of_queue of_two_callers) }
-    // A line whose seen cut has a record more than its caller has is in no report.
+    // A line whose seen cut counts more records than its caller has is in no report.
     ensures one_too_many { ¬ IsReport (of_queue one_too_many) }
     // A line whose operation is no operation word is in no report.
     ensures no_operation { ¬ IsReport (of_queue no_operation) }
@@ -70,7 +70,7 @@ pub fn lines_that_are_no_report()
     ensures too_many_calls { ¬ IsReport (of_queue (replicate 257 (pending 5) ∷ [])) }
 {}
 
-/// The worked report of three callers, whose lines have all four ends.
+/// The worked report of a queue with three callers, whose lines have all four ends.
 pub fn worked_report(alloc: Global) -> Result<Report, NoMemory>
     ensures { IfOk result (λ report. report ≡ worked) }
 {
@@ -97,7 +97,8 @@ fn own(alloc: Global, lines: &[Line]) -> Result<Own, NoMemory>
     })
 }
 
-/// One call is delivered, one is an error, one wasn't judged, and one is under way.
+/// The lines of three callers: the first has a delivered and a pending line, the second an error
+/// line, and the third an unchecked line.
 fn worked_callers(alloc: Global) -> Result<Vec<Own>, NoMemory>
     ensures { IfOk result (λ callers. lines_in callers.items ≡ worked_lines) }
 {

@@ -17,7 +17,7 @@ pub struct Own {
 
 /// What a run found: for each caller a line for each of its calls.
 ///
-/// Clauses see it as its kind and its lines, which are always such as texts of version 2 can have.
+/// Clauses see a report as its kind and its lines. A text of version 2 can always say them.
 #[derive(Debug, Drop)]
 pub struct Report {
     kind: Kind,
@@ -39,7 +39,7 @@ impl Model for Report {
 impl Report {
     /// The report with these lines of each caller.
     pub fn of_lines(kind: Kind, callers: Vec<Own>) -> Report
-        // The lines are those of a report.
+        // A text of version 2 can say the kind and the lines.
         requires { IsReport (findings_in kind callers.items) }
         ensures { result ≡ findings_in kind callers.items }
     {
@@ -97,7 +97,7 @@ impl Report {
         &self.callers[i as usize].lines
     }
 
-    /// Whether a line is an error.
+    /// Whether one of the report's lines is an error.
     pub fn has_error(&self) -> bool
         ensures { result ≡ list_any any_error self.now.lines }
     {

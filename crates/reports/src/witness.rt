@@ -53,7 +53,7 @@ fn first_error_in(lines: &[Line]) -> Option<Cut>
     None
 }
 
-/// The seen cut of an error line.
+/// The seen cut of a line with this end, where the line is an error.
 fn error_of(end: LineEnd) -> Option<Cut>
     ensures { result ≡ error_in end }
 {

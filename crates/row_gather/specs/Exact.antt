@@ -1,5 +1,5 @@
--- That a book is the one at a cut of all callers' calls, in each reachable world in which one
--- caller has a given local.
+-- When a book is exact at a cut: in each reachable world in which one caller has a given local, it
+-- is the book at that cut, taken from the book of all callers' calls.
 use Rattle.std.specs.Prelude.{◌≡◌, ℕ, List}
 use Rattle.book_base.specs.Book.{Page}
 use Rattle.book_base.specs.BookAt.{book_at}
@@ -10,14 +10,14 @@ use Rattle.row_table.specs.declared.caller.Caller.{Caller}
 use Rattle.row_table.specs.declared.rows.Rows.{Rows}
 use Rattle.row_table.specs.Callers.{shape_of, who_of, local_with}
 
--- In each reachable world in which caller `i` has this local, the book is the book at the cut of
--- the book of all callers' calls.
+-- In each reachable world in which caller `i` has the local `l`, `book` is the book at the cut
+-- `cut`, taken from the book of all callers' calls.
 abbrev pub IsBookOfAll : Shape → ℕ → Local → List ℕ → List Page → Type 0
 IsBookOfAll s i l cut book = (locals : List Local) → AreTogether s locals → local_at locals i ≡ l
     → book ≡ book_at cut (book_in locals)
 
--- In each reachable world of these rows in which this caller has its local, the book is the book at
--- the cut of the book of all callers' calls.
+-- In each reachable world of the rows `r` in which the caller `c` has its local, `book` is the book
+-- at the cut `cut`, taken from the book of all callers' calls.
 abbrev pub IsTheBookAt : {P : Type 0} → (P → ℕ → ℕ → Meaning) → Rows P → Caller P → List ℕ
     → List Page → Type 0
 IsTheBookAt meaning r c cut book =

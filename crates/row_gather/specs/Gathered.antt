@@ -9,13 +9,14 @@ use Rattle.world_books.specs.Gathering.{HasPeekedAll}
 use Rattle.row_gather.specs.declared.gathered.Gathered.{Gathered}
 use Rattle.row_gather.specs.Words.{words_of_book}
 
--- Where a book is kept, it is one at the cut that is kept with it, and a caller with this local has
--- peeked each of its words.
+-- Where a book is kept, a caller with the local `l` has gathered it at the cut that is kept with
+-- it, by peeking each of its words.
 abbrev pub IsGatheredBy : Local → Option Gathered → Type 0
 IsGatheredBy l gathered = IfSome gathered (λ g. IsGathered (length g.book) l g.cut g.book)
 
--- A book that is kept, and that a caller with the local `l` has gathered, is gathered with each
--- local `m` too that has all peeked words of `l`; so it stays gathered while its caller peeks more.
+-- A kept book that is gathered by a caller with the local `l` is also gathered by a caller with a
+-- local `m` that has all peeked words of `l`. So the book stays gathered while its caller peeks
+-- more.
 abbrev pub GatheredByStays : Type 0
 GatheredByStays = (l m : Local) (gathered : Option Gathered) → HasPeekedAll l m
     → IsGatheredBy l gathered → IsGatheredBy m gathered
@@ -35,18 +36,19 @@ pub record HoldsAll (cut : List ℕ) (book : List Page) : Type 0 where
   pub callers : length book ≡ length cut
   pub within : IsWithin (answered book) cut
 
--- The book with which the gathering at a cut begins: the kept book, where one is kept whose callers
--- are those of the cut and all of whose records the cut holds; and else the book without a call, of
--- as many callers as the cut has counts.
+-- `book` is the book with which the gathering at the cut `cut` begins. It is the kept book, where
+-- the cut holds all records of that book and has one count for each of its callers. Otherwise it is
+-- the book without a call, of as many callers as the cut has counts.
 pub record IsBegunWith (gathered : Option Gathered) (cut : List ℕ) (book : List Page) : Type 0 where
   pub held : HoldsAll cut book
   pub kept : (g : Gathered) → gathered ≡ Some g → HoldsAll cut g.book → book ≡ g.book
   pub either : ((g : Gathered) × (gathered ≡ Some g) × (book ≡ g.book))
       ⊎ (book ≡ empty_book (length cut))
 
--- Where no book was kept, the counter has risen from `before` to `after` by the number of words of
--- the gathered book. Where the kept book is of n callers and its cut is within the new one, the
--- counter has risen by the number of words that the gathered book has and the kept one lacks.
+-- Where no book was kept, the counter of steps has risen from `before` to `after` by the number of
+-- words of the gathered book. Where the kept book is of n callers and its cut is within that of the
+-- gathered book, the counter has risen by the number of words that the gathered book has and the
+-- kept one lacks.
 abbrev pub TicksForNew : ℕ → Option Gathered → Gathered → ℕ → ℕ → Type 0
 TicksForNew n None g before after = after ≡ before + words_of_book g.book
 TicksForNew n (Some kept) g before after =

@@ -20,14 +20,14 @@ pub record HasOnlyPeeked (l m : Local) (before after : ℕ) : Type 0 where
   pub ticks : after ≡ before + length more
 
 module _ {P : Type 0} where
-  -- The caller is one of these rows, and it has no scan under way. (A scan under way might take a
-  -- word that its caller peeks.)
+  -- The caller belongs to these rows and has no scan under way. (A scan under way might take a word
+  -- that its caller peeks.)
   pub record IsReady (meaning : P → ℕ → ℕ → Meaning) (r : Rows P) (c : Caller P) : Type 0 where
     pub caller : IsCallerOf meaning r c
     pub unscanned : (local_with c).scan ≡ None
 
-  -- The caller `d` is the caller `c`, changed by peeks and no other event: it is one of these rows,
-  -- with the number and the stance of `c`, and the counter of steps has risen by 1 for each of
+  -- The caller `d` is the caller `c`, changed by peeks and no other event. It belongs to these rows
+  -- and has the number and the stance of `c`, and the counter of steps has risen by 1 for each of
   -- these peeks.
   pub record PeeksAlone (meaning : P → ℕ → ℕ → Meaning) (r : Rows P) (c d : Caller P)
       (before after : ℕ) : Type 0 where

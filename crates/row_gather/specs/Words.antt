@@ -23,31 +23,31 @@ one_answered =
     record { operations = 7 ∷ []; records = record { reply = 5; view = 1 ∷ 0 ∷ [] } ∷ [] }
     ∷ record { operations = 9 ∷ []; records = [] } ∷ []
 
--- With this local, a caller of n knows each row of caller `j` in the region whose number is below
--- the count.
+-- One of n callers, with the local `l`, knows that the first `count` rows of caller `j` in the
+-- region are counted.
 abbrev pub KnowsRows : ℕ → Local → Region → ℕ → ℕ → Type 0
 KnowsRows n l region j count = (k : ℕ) → k < count → IsTrue (knows_row n l region j k)
 
--- A caller with this local has peeked both words of the operation `op` in the row of N that the
--- call has.
+-- A caller with the local `l` has peeked both words of the operation `op`, the low and the high
+-- one, in the row that the call has in N.
 abbrev pub IsPeekedOperation : Local → Call → ℕ → Type 0
 IsPeekedOperation l call op = HasPeeked l N call 0 (low_of op) × HasPeeked l N call 1 (high_of op)
 
--- The view has n entries, and a caller with this local has peeked each of them in the row of M that
--- the call has.
+-- The view has n entries, and a caller with the local `l` has peeked each of them in the row that
+-- the call has in M.
 abbrev pub IsPeekedView : ℕ → Local → Call → List ℕ → Type 0
 IsPeekedView n l call view = (length view ≡ n)
     × ((j : ℕ) → j < n → HasPeeked l M call (1 + j) (slice_index view j))
 
--- A caller with this local has peeked the reply and the n entries of the view of this record in the
--- row of M that the call has.
+-- A caller with the local `l` has peeked the reply and the n entries of the view of the record `r`
+-- in the row that the call has in M.
 pub record IsPeekedRecord (n : ℕ) (l : Local) (call : Call) (r : Record) : Type 0 where
   pub reply : HasPeeked l M call 0 r.reply
   pub view : IsPeekedView n l call r.view
 
--- These are, in order, the records of the calls of caller `j` with the numbers from `from` up to
--- but not including `count`, and a caller with this local has peeked each of them in the row of its
--- call.
+-- `records` are, in order, the records of the calls of caller `j` with the numbers from `from` up
+-- to but not including `count`, and a caller with the local `l` has peeked each of them in the row
+-- that its call has in M.
 pub record ArePeekedRecords (n : ℕ) (l : Local) (j from count : ℕ)
     (records : List Record) : Type 0 where
   pub long : from + length records ≡ count
@@ -59,8 +59,8 @@ pub record ArePeekedRecords (n : ℕ) (l : Local) (j from count : ℕ)
 abbrev pub records_at : List (List Record) → ℕ → List Record
 records_at lists j = slice_index_or lists j []
 
--- These are, for each caller with a number below `callers`, the records that the cut holds and the
--- book lacks, and a caller of n with this local has peeked each of them.
+-- `lists` has, for each caller with a number below `callers`, the records that the cut holds and
+-- the book lacks, and one of n callers, with the local `l`, has peeked each of them.
 pub record ArePeekedTo (n : ℕ) (l : Local) (book : List Page) (cut : List ℕ) (callers : ℕ)
     (lists : List (List Record)) : Type 0 where
   pub wide : length lists ≡ callers
@@ -93,19 +93,19 @@ pub record HasPeekedCalls (l : Local) (book other : List Page) : Type 0 where
   pub records : (i : ℕ) → (page_of other i).records ≡ (page_of book i).records
   pub operations : ArePeekedOperations l other
 
--- The book `other` has `count` calls of caller `j`, or as many as `book` has of it where these are
--- more; and of each other caller it has as many calls as `book`.
+-- The book `other` has as many calls as `book` of each caller but `j`. Of caller `j` it has `count`
+-- calls, or as many as `book` where `book` has more.
 pub record IsLengthenedTo (j count : ℕ) (book other : List Page) : Type 0 where
   pub mine : calls_of other j ≡ max (calls_of book j) count
   pub others : (i : ℕ) → i ≢ j → calls_of other i ≡ calls_of book i
 
--- The counter has risen from `before` to `after` by 1 + n for each 1 by which `count` exceeds
--- `from`: for the reply and the n entries of the view of one record.
+-- The counter of steps has risen from `before` to `after` by 1 + n for each of the `count` - `from`
+-- records: by 1 for its reply, and by n for the entries of its view.
 abbrev pub TicksForRecords : ℕ → ℕ → ℕ → ℕ → ℕ → Type 0
 TicksForRecords n from count before after = after + (1 + n) * from ≡ before + (1 + n) * count
 
--- The counter has risen from `before` to `after` by 2 for each call by which the book `other` has
--- more than `book`: for the two words of an operation.
+-- The counter of steps has risen from `before` to `after` by 2 for each call that the book `other`
+-- has more than `book`: for the two words of the call's operation.
 abbrev pub TicksForCalls : List Page → List Page → ℕ → ℕ → Type 0
 TicksForCalls book other before after =
     after + 2 * sum (announced book) ≡ before + 2 * sum (announced other)

@@ -6,7 +6,7 @@ ghost use Rattle.row_gather.specs.Filling.{with_records, filled, IsFilled};
 
 use book_base::{Book, NoMemory, Record};
 
-// Adds these records to the book, in order, after the records that it has of caller `j`.
+// Adds the records to the book, in order, after the records that the book has of caller `j`.
 fn add_answers_of(book: &mut Book, j: u32, records: &[Record]) -> Result<(), NoMemory>
     requires caller { j < length book.old }
     requires valid { IsValid (with_records book.old j records.now) }
@@ -18,8 +18,8 @@ fn add_answers_of(book: &mut Book, j: u32, records: &[Record]) -> Result<(), NoM
     Ok(())
 }
 
-// Adds these lists of records to the book, each after the records that it has of the caller at the
-// list's place.
+// Adds the records of list `j` to the book, for each caller `j`, after the records that the book
+// has of that caller.
 pub fn add_answers(book: &mut Book, lists: &[Vec<Record>]) -> Result<(), NoMemory>
     requires callers { length lists.now ≡ length book.old }
     requires valid { IsValid (filled book.old (lists_in lists.now)) }

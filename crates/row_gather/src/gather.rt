@@ -35,8 +35,8 @@ fn holds_all(cut: &Cut, book: &Book) -> bool
     true
 }
 
-// The book with which the gathering at a cut begins: the kept one, where it has the callers of the
-// cut and the cut holds all its records; and else the book without a call.
+// The book with which the gathering at a cut begins: the kept book, where the cut has one count for
+// each of its callers and holds all its records; otherwise the book without a call.
 fn begin(alloc: Global, gathered: Option<Gathered>, cut: &Cut) -> Result<Book, NoMemory>
     ensures { IfOk result (IsBegunWith gathered cut.now) }
 {
@@ -53,14 +53,14 @@ fn begin(alloc: Global, gathered: Option<Gathered>, cut: &Cut) -> Result<Book, N
 ///
 /// The book at a cut has the records that the cut holds, of all callers, and the calls that some of
 /// their views hold, answered or not (Castañeda and Rodríguez 2023). It is read from the rows of
-/// the table. The kept book grows to it where the cut has a count for each of its callers and holds
-/// all its records, as the cut of a later scan of M by the same caller does; otherwise the book is
-/// read from the beginning.
+/// the table. The earlier book grows to the new one where the cut has one count for each of its
+/// callers and holds all its records, as the cut of a later scan of M by the same caller does;
+/// otherwise the new book is read from the beginning.
 ///
 /// The cut is one that a scan of M gave this caller, and no scan of the caller is under way. Each
-/// word of the gathered book costs one peek, except for the words of the kept book where that one
-/// grows. Where memory is lacking, the caller may have peeked some of these words, and the kept
-/// book is gone.
+/// word of the gathered book costs one peek, except for the words of the earlier book where that
+/// one grows. Where memory is lacking, the caller may have peeked some of these words, and the
+/// earlier book is gone.
 pub fn grow_at<P: Program, L: Ledger>(
     alloc: Global,
     rows: &Rows<P>,
@@ -69,35 +69,35 @@ pub fn grow_at<P: Program, L: Ledger>(
     cut: &Cut,
     steps: &mut Steps<L>,
 ) -> Result<Gathered, NoMemory>
-    // The caller is one of these rows.
+    // The caller belongs to these rows.
     requires caller { IsCallerOf P.meaning rows.now caller.old }
     // A scan of M gave the caller this cut.
     requires given { IsGivenIn (local_with caller.old).cuts Region.M cut.now }
     // The caller has no scan under way.
     requires unscanned { (local_with caller.old).scan ≡ None }
-    // Where a book is handed in, it is one at the cut that it is kept with, and the caller has
-    // peeked each of its words.
+    // Where a book is handed in, the caller has gathered it at the cut that comes with it, by
+    // peeking each of its words.
     requires gathered { IsGatheredBy (local_with caller.old) gathered }
-    // The caller is still one of these rows, with the same number.
+    // The caller still belongs to these rows, with the same number.
     ensures caller { IsStill P.meaning rows.now caller.old caller.new }
     // The caller keeps its stance.
     ensures stance { stance_of caller.new ≡ stance_of caller.old }
     // The caller has made peeks and no other event, and the counter of steps has risen by 1 for
     // each of them.
     ensures peeks { OnlyPeeks caller.old caller.new steps.old steps.new }
-    // The gathered book is answered with this cut.
+    // The cut that is returned with the gathered book is the cut `cut`.
     ensures cut { IfOk result (λ g. g.cut ≡ cut.now) }
-    // The gathered book is one at this cut, of as many callers as the rows have, and the caller has
-    // peeked each of its words.
+    // The caller has gathered the book at this cut, by peeking each of its words, and the book is
+    // of as many callers as the rows have.
     ensures gathered { IfOk result (λ g.
         IsGathered rows.now.callers (local_with caller.new) cut.now g.book) }
     // In each reachable world in which the caller has its local, the gathered book is the book at
-    // this cut of the book of all callers' calls.
+    // this cut, taken from the book of all callers' calls.
     ensures exact { IfOk result (λ g. IsTheBookAt P.meaning rows.now caller.new cut.now g.book) }
     // Where no book was handed in, the counter of steps has risen by the number of row words of the
     // gathered book. Where the book that was handed in is of as many callers as the rows have, and
     // its cut is within the new one, the counter has risen by the number of row words that the
-    // gathered book has and that one lacks.
+    // gathered book has and the earlier one lacks.
     ensures ticks { IfOk result (λ g. TicksForNew rows.now.callers gathered g steps.old steps.new) }
     // The counter of steps has risen by at most the number of row words of the gathered book.
     ensures most { IfOk result (λ g. steps.new ≤ steps.old + words_of_book g.book) }

@@ -6,8 +6,8 @@ ghost use Rattle.row_gather.specs.Known.{AreGreatest, lists_in};
 
 use book_base::{Cut, Record};
 
-// Raises each count of the cut to the greatest one for its caller in the views of these records,
-// where that is greater.
+// Raises each count of the cut to the greatest count that the views of these records have for the
+// same caller, where that is greater.
 fn raise_to_all(held: &mut Cut, records: &[Record])
     requires wide { AreWide (length held.old) records.now }
     ensures wide { length held.new ≡ length held.old }
@@ -20,7 +20,7 @@ fn raise_to_all(held: &mut Cut, records: &[Record])
 }
 
 // For each of n callers how many of its calls the views of these records hold: the greatest count
-// for it in any of these views.
+// that any of these views has for it, and 0 where there is no record.
 pub fn held_calls(n: u32, lists: &[Vec<Record>]) -> Cut
     requires some { 1 ≤ n }
     requires few { n ≤ MAX_CALLERS }

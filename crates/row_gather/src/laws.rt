@@ -1,4 +1,5 @@
-//! That a book which a caller has gathered stays gathered, and how many words a book has.
+//! Laws of gathered books: a book that a caller has gathered stays gathered. And the number of row
+//! words of one small book.
 
 ghost use Rattle.std.specs.Prelude.{◌≡◌};
 ghost use Rattle.row_gather.specs.Gathered.{GatheredByStays, EmptyIsGathered};

@@ -1,5 +1,5 @@
-//! Reads the published records at a cut from the rows of a table, as a book: exactly the book at
-//! that cut, which grows from the one that its caller has gathered before.
+//! Gathers books: reads the records that a cut holds from the rows of a table, as exactly the book
+//! at that cut. The book grows from the one that its caller gathered before.
 #![tactic(auto)]
 
 mod answers;

@@ -1,4 +1,4 @@
-//! Adds calls to a book, whose operations are peeked word by word.
+//! Adds calls to a book. Their operations are peeked from the table word by word.
 ghost use Rattle.std.specs.Prelude.{ℕ, ◌≡◌, ◌+◌, ◌<◌, ◌≤◌, max, length, slice_index, OnOk};
 ghost use Rattle.book_base.specs.declared.TheConstants.{MAX_CALLS};
 ghost use Rattle.book_base.specs.Book.{calls_of, with_call};
@@ -33,8 +33,8 @@ fn peek_operation<P: Program, L: Ledger>(
     join(low, high)
 }
 
-// Adds a call of caller `j`, who has fewer calls in the book than a caller may have; so only lack
-// of memory refuses it.
+// Adds a call of caller `j` to the book. Caller `j` has fewer calls in the book than a caller may
+// have, so only lack of memory refuses the call.
 fn add_call(book: &mut Book, j: u32, op: OpWord) -> Result<(), NoMemory>
     requires caller { j < length book.old }
     requires room { calls_of book.old j < MAX_CALLS }
@@ -47,7 +47,7 @@ fn add_call(book: &mut Book, j: u32, op: OpWord) -> Result<(), NoMemory>
     }
 }
 
-// Adds to the book the calls of caller `j` with numbers below `count` that it lacks, and peeks
+// Adds to the book the calls of caller `j` that it lacks among the first `count` ones, and peeks
 // their operations.
 fn add_calls_of<P: Program, L: Ledger>(
     rows: &Rows<P>,
@@ -75,8 +75,8 @@ fn add_calls_of<P: Program, L: Ledger>(
     Ok(())
 }
 
-// Adds to the book, of each caller, the calls with numbers below the count for this caller that it
-// lacks, and peeks their operations.
+// Adds to the book, for each caller `j`, the calls that it lacks among the first ones that `counts`
+// counts for `j`, and peeks their operations.
 pub fn add_calls<P: Program, L: Ledger>(
     rows: &Rows<P>,
     caller: &mut Caller<P>,

@@ -1,4 +1,4 @@
-//! Peeks the records that a cut holds, word by word.
+//! Peeks the records that a cut holds and a book lacks, word by word.
 ghost use Rattle.std.specs.Prelude.{◌≡◌, ◌+◌, ◌<◌, ◌≤◌, IfOk, length, sum};
 ghost use Rattle.book_base.specs.Cut.{IsWithin};
 ghost use Rattle.book_base.specs.Book.{answered};
@@ -83,7 +83,8 @@ fn peek_records_of<P: Program, L: Ledger>(
     Ok(records)
 }
 
-// Peeks the records that the cut holds and the book lacks, and answers them by caller.
+// Peeks the records that the cut holds and the book lacks, and returns a list of them for each
+// caller.
 pub fn peek_records<P: Program, L: Ledger>(
     alloc: Global,
     rows: &Rows<P>,

@@ -1,5 +1,4 @@
--- Which rows a caller and a bench are of, the locals that they have, and the stances of their
--- callers.
+-- To which table a caller and a bench belong, which locals they have, and which stances.
 use Rattle.std.specs.Prelude.{◌≡◌, ℕ, ◌<◌, List, Option, Some, None, map, length, slice_index_or, IsTrue}
 use Rattle.world_core.specs.declared.region.Region.{Region}
 use Rattle.world_core.specs.Shape.{Meaning, Shape}
@@ -29,12 +28,12 @@ kept_stance None = None
 kept_stance (Some kept) = Some kept.stance
 
 module _ {P : Type 0} where
-  -- The key of some rows, which their table was told: their program, their callers, their cap and
-  -- their object words.
+  -- The key that a table of rows was made with: its program, its number of callers, its cap and its
+  -- number of object words.
   abbrev pub key_of : Rows P → Key P
   key_of r = record { program = r.program; callers = r.callers; cap = r.cap; objects = r.objects }
 
-  -- The shape of the world of some rows.
+  -- The shape of the world that a table of rows is in, by what its program means.
   abbrev pub shape_of : (P → ℕ → ℕ → Meaning) → Rows P → Shape
   shape_of meaning r = shape_for meaning (key_of r)
 
@@ -68,24 +67,24 @@ module _ {P : Type 0} where
   abbrev pub locals_on : Bench P → List Local
   locals_on b = map the b.seat.me.0
 
-  -- A caller's seat is one of these rows' table, its caller is one of theirs, and the local that it
-  -- has is the one of that caller in a reachable world.
+  -- A caller's seat belongs to the table `r`: it is a seat of this table, its caller is one of the
+  -- table's callers, and the local that it has is that caller's in some reachable world.
   pub record IsSeatOf (meaning : P → ℕ → ℕ → Meaning) (r : Rows P)
       (seat : CallerSeat) : Type 0 where
     pub table : seat.seat.table_id ≡ r.table.shared.table_id
     pub who : seat.who < r.callers
     pub local : IsLocalOf (shape_of meaning r) seat.who (seated seat)
 
-  -- A caller is one of these rows: its seat is one of theirs, and it has their program, their
-  -- number of callers and their cap.
+  -- A caller belongs to the table `r`: its seat belongs to it, and the caller has the table's
+  -- program, number of callers and cap.
   pub record IsCallerOf (meaning : P → ℕ → ℕ → Meaning) (r : Rows P) (c : Caller P) : Type 0 where
     pub seat : IsSeatOf meaning r c.seat
     pub program : c.program ≡ r.program
     pub callers : c.callers ≡ r.callers
     pub cap : c.cap ≡ r.cap
 
-  -- A bench is one of these rows: it is of their table, has their number of callers and their cap,
-  -- and the locals that it has are those of one reachable world.
+  -- A bench belongs to the table `r`: its seat is one of this table, it has the table's number of
+  -- callers and cap, and its locals, one at most for each caller, are those of one reachable world.
   pub record IsBenchOf (meaning : P → ℕ → ℕ → Meaning) (r : Rows P) (b : Bench P) : Type 0 where
     pub table : b.seat.table_id ≡ r.table.shared.table_id
     pub callers : b.callers ≡ r.callers
@@ -115,17 +114,17 @@ module _ {P : Type 0} where
     pub idle : IsIdle local
     pub stance : stance_on b i ≡ Some fresh_stance
 
-  -- The caller's program, which is that of its rows, allows the caller this reply, by its local.
+  -- The caller's program allows the caller this reply, by its local.
   abbrev pub MayGet : (P → ℕ → ℕ → Meaning) → Caller P → ℕ → Type 0
   MayGet meaning c reply =
       IsTrue ((meaning c.program c.callers c.cap).may_reply (who_of c) (local_with c) reply)
 
-  -- Whatever rows caller `c` is one of, caller `d` is one of these rows too.
+  -- Caller `d` belongs to each table of rows to which caller `c` belongs.
   abbrev pub StaysWith : Caller P → Caller P → Type 0
   StaysWith c d = (meaning : P → ℕ → ℕ → Meaning) (r : Rows P) → IsCallerOf meaning r c
       → IsCallerOf meaning r d
 
-  -- Caller `d` is one of these rows, and has the number of caller `c`.
+  -- Caller `d` belongs to the table `r`, and has the number of caller `c`.
   abbrev pub IsStill : (P → ℕ → ℕ → Meaning) → Rows P → Caller P → Caller P → Type 0
   IsStill meaning r c d = IsCallerOf meaning r d × (who_of d ≡ who_of c)
 

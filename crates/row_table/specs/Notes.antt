@@ -33,7 +33,7 @@ abbrev pub scan_kept : ℕ → ℕ → Option Scan → Option ScanUnderWay
 scan_kept n me None = None
 scan_kept n me (Some scan) = Some (under_way n me scan)
 
--- The cut that a scan gave last, if a scan gave one.
+-- The last cut in a list of given cuts; `None` where the list is empty.
 abbrev pub last_given : List Given → Option (List ℕ)
 last_given [] = None
 last_given (given ∷ []) = Some given.cut
@@ -57,8 +57,8 @@ notes_of n me l =
       given = last_given l.cuts;
     }
 
--- The notes of the locals of a view, by caller from number `i` on; none of a caller whose local the
--- view lacks.
+-- The notes of the locals that a seat has, by caller from number `i` on; none of a caller whose
+-- local the seat doesn't have.
 abbrev pub notes_from : ℕ → ℕ → List (Option Local) → List (Option Notes)
 notes_from n i [] = []
 notes_from n i (None ∷ v) = None ∷ notes_from n (suc i) v
@@ -71,7 +71,7 @@ phase_after Viewing N true = Publishing
 phase_after Judging M is_view = Announcing
 phase_after phase region is_view = phase
 
--- A scan of this region is under way, and what is due next in it passes a test.
+-- Whether a scan of this region is under way, and what is due next in it passes the test `is_it`.
 abbrev pub takes : ℕ → Option Scan → Region → (Want → Bool) → Bool
 takes n None region is_it = false
 takes n (Some scan) region is_it = is_same_region scan.region region && is_it (wanted n scan.taken)
@@ -86,7 +86,8 @@ abbrev pub wanted_next : ℕ → Option Scan → Option Want
 wanted_next n None = None
 wanted_next n (Some scan) = Some (wanted n scan.taken)
 
--- The cut that was given last, if a scan gave one and no scan is under way.
+-- The last cut in a list of given cuts, where no scan is under way; `None` where a scan is under
+-- way, or where the list is empty.
 abbrev pub given_by_last : Option Scan → List Given → Option (List ℕ)
 given_by_last None cuts = last_given cuts
 given_by_last (Some scan) cuts = None

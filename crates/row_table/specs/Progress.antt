@@ -1,5 +1,5 @@
--- The work of a caller's calls, and that peeks, and looks that don't begin the view's scan, don't
--- change it.
+-- What a caller has done for its calls: no peek changes it, and a look changes it only where it
+-- begins the view's scan.
 use Rattle.std.specs.Prelude.{◌≡◌, ℕ, List, Contains}
 use Rattle.world_core.specs.declared.region.Region.{Region}
 use Rattle.world_core.specs.Local.{Local, Object_step, Peeked}
@@ -14,7 +14,7 @@ pub record CallWork : Type 0 where
   pub replies : List ℕ
   pub object_steps : List (List Object_step)
 
--- The work of a caller with this local.
+-- The operations, counts, replies and object steps that a caller with this local has.
 abbrev pub work_of : Local → CallWork
 work_of l = record {
   operations = l.operations;
@@ -24,15 +24,16 @@ work_of l = record {
   object_steps = l.object_steps;
 }
 
--- A look that begins nothing, or a scan which isn't the view's, doesn't change the work of its
--- caller, even if a scan ends with it.
+-- A look that begins nothing, or a scan that isn't the view's, changes none of its caller's
+-- operations, counts, replies and object steps, even where a scan ends with it.
 abbrev pub LooksLeaveWork : Type 0
 LooksLeaveWork =
     (n : ℕ) (l : Local) (region : Region) (j x : ℕ)
     → (work_of (local_after n l (Look region j x Begins_none)) ≡ work_of l)
     × (work_of (local_after n l (Look region j x Begins_scan)) ≡ work_of l)
 
--- A peek doesn't change the work of its caller, even if a scan ends with it.
+-- A peek changes none of its caller's operations, counts, replies and object steps, even where a
+-- scan ends with it.
 abbrev pub PeeksLeaveWork : Type 0
 PeeksLeaveWork = (n : ℕ) (l : Local) (region : Region) (j row place x : ℕ)
     → work_of (local_after n l (Peek region j row place x)) ≡ work_of l

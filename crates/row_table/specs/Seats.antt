@@ -1,5 +1,6 @@
--- The rule of the table: each caller has exactly one local in all views together, and words and
--- locals are a reachable world; and what a step does to the view of the seat that makes it.
+-- The rule of the table: its words and the locals of its callers are a reachable world, and each
+-- caller's local is with exactly one seat; and how a step changes the locals of the seat that makes
+-- it.
 use Rattle.std.specs.Prelude.{◌≡◌, ℕ, ◌<◌, ◌^◌, IsTrue, List, [], ◌∷◌, ◌++◌, Option, Some, None, replicate, length, slice_index, slice_index_or, slice_set}
 use mathlib.Core.Option.{some}
 use lib.ListN.{get_elem?}
@@ -13,7 +14,7 @@ use Rattle.world_core.specs.World.{World, local_of, IsReachable}
 abbrev pub View : Type 0
 View = List (Option Local)
 
--- The local that a view has of a caller, where it has one.
+-- The local of caller `i` that a seat's view has, where it has one.
 abbrev pub has : View → ℕ → Option Local
 has v i = slice_index_or v i None
 
@@ -30,9 +31,9 @@ whole n = replicate n (Some fresh)
 abbrev pub only : ℕ → Local → View
 only i l = replicate i None ++ Some l ∷ []
 
--- The rule: the table was told how many object words its program has; its words and the locals of
--- its callers are a reachable world; and the local of each caller is in the view of exactly one
--- seat.
+-- The rule of a table with this shape: its number of object words is the one that its program has;
+-- its words and the locals of its callers are a reachable world; and the local of each caller is in
+-- the view of exactly one seat.
 pub record Ruled (s : Shape) (objects : ℕ) (t : State (Unit {0}) View) : Type 0 where
   pub counted : objects ≡ s.program.objects
   pub world : World
@@ -45,14 +46,16 @@ pub record Ruled (s : Shape) (objects : ℕ) (t : State (Unit {0}) View) : Type 
   pub kept : (i : ℕ) → i < s.callers → (v : View) × (get_elem? t.views (owner i) ≡ some v)
       × (has v i ≡ Some (local_of world i))
 
--- The locals of a view are those of one reachable world, which has one local for each caller.
+-- The locals of a seat's view are those of one reachable world, which has one local for each
+-- caller.
 pub record Together (s : Shape) (v : View) : Type 0 where
   pub world : World
   pub reach : IsReachable s world
   pub wide : length world.locals ≡ s.callers
   pub locals_are : (i : ℕ) (l : Local) → has v i ≡ Some l → local_of world i ≡ l
 
--- The view after an event of a caller.
+-- A seat's view after an event of caller `who`: it has this caller's local as it is after the
+-- event.
 abbrev pub moved : ℕ → View → ℕ → Event → View
 moved n v who event = slice_set v who (Some (local_after n (the (has v who)) event))
 
@@ -77,9 +80,9 @@ pub record Shows (s : Shape) (me after : Me (Unit {0}) View) : Type 0 where
   pub same : after ≡ me
   pub together : Together s me.0
 
--- The change `f` of a word is this event of a caller with this local, for whichever word is found:
--- the event is allowed, it loads the word that is found, and it makes this change of the words and
--- no other.
+-- To change the word at the index `word` by `f` is an event of caller `who` with this local,
+-- whatever word is found: the event is allowed, it loads the found word, and it changes this word
+-- by `f` and no other word.
 pub record Makes (s : Shape) (objects : ℕ) (who : ℕ) (local : Local) (word : ℕ) (f : ℕ → ℕ)
     (event : ℕ → Event) : Type 0 where
   pub allowed : objects ≡ s.program.objects → (x : ℕ) → x < 2 ^ 64
@@ -88,15 +91,15 @@ pub record Makes (s : Shape) (objects : ℕ) (who : ℕ) (local : Local) (word :
   pub writes : (words : List ℕ) → words_after s who local words (event (slice_index words word))
       ≡ slice_set words word (f (slice_index words word))
 
--- The view that has the locals of two views, and those of the first where both have a local of a
--- caller.
+-- The view of a seat that takes over the locals of another seat's view `w`: a caller's local is the
+-- one in the first view, or, where the first view has none, the one in `w`.
 abbrev pub joined : View → View → View
 joined [] w = []
 joined (x ∷ v) [] = x ∷ v
 joined (None ∷ v) (y ∷ w) = y ∷ joined v w
 joined (Some l ∷ v) (y ∷ w) = Some l ∷ joined v w
 
--- These words and locals are a reachable world.
+-- Some reachable world has just these words and these locals.
 pub record IsWorldOf (s : Shape) (words : List ℕ) (locals : List Local) : Type 0 where
   pub world : World
   pub reach : IsReachable s world

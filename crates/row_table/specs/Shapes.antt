@@ -1,4 +1,4 @@
--- The shape of the world of a table that was told this key.
+-- The shape of the world of a table that was made with a key.
 use Rattle.std.specs.Prelude.{ℕ}
 use Rattle.world_core.specs.Shape.{Meaning, Shape}
 use Rattle.row_table.specs.declared.plays.Key.{Key}

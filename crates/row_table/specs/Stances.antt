@@ -6,9 +6,9 @@ use Rattle.row_table.specs.declared.action.Opening.{Opening}
 use Rattle.row_table.specs.declared.action.Opening.TheVariants.{Nothing, Scan, View}
 use Rattle.row_table.specs.declared.stance.Stance.{Stance}
 
--- What a look begins, by the region of the scan that it is to begin and the reply that is kept:
--- nothing where it is to begin no scan, the view's scan where it is to begin one of N and a reply
--- is kept, and else a scan which isn't the view's.
+-- What a look begins, by the region of the scan that it is to begin, if any, and by the reply that
+-- is kept, if any: nothing where it is to begin no scan; the view's scan where it is to begin one
+-- of N and a reply is kept; and otherwise a scan that isn't the view's.
 abbrev pub opening_with : Option Region → Option ℕ → Opening
 opening_with None reply = Nothing
 opening_with (Some N) None = Scan
@@ -30,7 +30,7 @@ reply_after _ reply = reply
 abbrev pub looked : Stance → Stance
 looked s = record s { begins = None; reply = reply_after (opening_by s) s.reply }
 
--- The scan that the next look is to begin is of this region, if it is to begin one.
+-- Where the next look is to begin a scan, that scan is one of this region.
 abbrev pub FitsRegion : Option Region → Region → Type 0
 FitsRegion None region = Unit {0}
 FitsRegion (Some r) region = r ≡ region

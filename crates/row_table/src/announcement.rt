@@ -8,17 +8,17 @@ use crate::staged_words::stage_from;
 use book_base::{Cut, OpWord, high, low};
 use world_core::{Program, Region};
 
-/// Stages a caller's row of N, the two words of an operation and the entries of the cut that the
-/// row embeds, and raises the caller's count there: the call is announced.
+/// Announces a call of this operation: stages the caller's row of N, with the two words of the
+/// operation and the entries of the cut that the row embeds, and raises the caller's count in N.
 ///
-/// The cut is the one that the caller's last scan of N gave it for this row. No step here is a look
-/// or a peek.
+/// The cut is the one that the caller's last scan of N gave it for this row. The call makes no look
+/// and no peek.
 pub fn announce_row<P: Program>(rows: &Rows<P>, caller: &mut Caller<P>, op: OpWord, cut: &Cut)
-    // The caller is one of these rows.
+    // The caller belongs to this table.
     requires caller { IsCallerOf P.meaning rows.now caller.old }
     // The caller may announce a call in a row that embeds this cut.
     requires may { MayAnnounce rows.now.callers rows.now.cap cut.now (local_with caller.old) }
-    // The caller is still one of these rows, with the same number.
+    // The caller still belongs to this table, and keeps its number.
     ensures caller { IsStill P.meaning rows.now caller.old caller.new }
     // The caller's local is the one before, changed by the announcement of a call with this
     // operation.

@@ -103,13 +103,13 @@ impl<P> Caller<P> {
         }
     }
 
-    /// Halts the caller: it has its local as it is, and makes no more calls.
+    /// Halts the caller, which keeps its local and makes no more calls.
     pub fn halt(mut self) -> Caller<P>
-        // The caller no longer makes calls, and its stance is as it was besides.
+        // The caller doesn't make calls any more, and nothing else of its stance changes.
         ensures stance { stance_of result ≡ record (stance_of self) { live = false } }
         // The caller keeps its number and its local.
         ensures local { (who_of result ≡ who_of self) × (local_with result ≡ local_with self) }
-        // The caller is still one of each table that it was one of.
+        // The caller still belongs to each table that it belonged to.
         ensures rows { StaysWith self result }
     {
         self.stance.live = false;
@@ -119,15 +119,15 @@ impl<P> Caller<P> {
     /// Makes the next look begin a scan of this region: that look has to be at the count of caller
     /// 0 there. No step is made.
     pub fn begin_scan(&mut self, region: Region)
-        // No view's scan is under way.
+        // The caller has no view's scan under way.
         requires { event.is_view_under_way (local_with self.old).scan ≡ false }
-        // The caller means to begin a scan of this region with its next look, and its stance is as
-        // it was besides.
+        // The caller means to begin a scan of this region with its next look, and nothing else of
+        // its stance changes.
         ensures stance { stance_of self.new ≡ record (stance_of self.old) { begins = Some region } }
         // The caller keeps its number and its local.
         ensures local { (who_of self.new ≡ who_of self.old)
             × (local_with self.new ≡ local_with self.old) }
-        // The caller is still one of each table that it was one of.
+        // The caller still belongs to each table that it belonged to.
         ensures rows { StaysWith self.old self.new }
     {
         self.stance.begins = Some(region);
@@ -144,18 +144,18 @@ impl<P: Program> Caller<P> {
     pub fn keep_reply(&mut self, reply: u64)
         // The program allows the caller this reply, by its local.
         requires allowed { MayGet P.meaning self.old reply }
-        // The caller has announced a call that isn't replied yet.
+        // The caller has announced a call that has no reply yet.
         requires asking { (local_with self.old).phase ≡ local.Asking }
         // The caller keeps no reply yet.
         requires unreplied { (stance_of self.old).reply ≡ None }
         // The program still allows the caller this reply.
         ensures allowed { MayGet P.meaning self.new reply }
-        // The caller keeps this reply, and its stance is as it was besides.
+        // The caller keeps this reply, and nothing else of its stance changes.
         ensures stance { stance_of self.new ≡ record (stance_of self.old) { reply = Some reply } }
         // The caller keeps its number and its local.
         ensures local { (who_of self.new ≡ who_of self.old)
             × (local_with self.new ≡ local_with self.old) }
-        // The caller is still one of each table that it was one of.
+        // The caller still belongs to each table that it belonged to.
         ensures rows { StaysWith self.old self.new }
     {
         self.stance.reply = Some(reply);

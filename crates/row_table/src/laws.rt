@@ -1,4 +1,4 @@
-//! What a caller's looks and peeks don't change.
+//! What looks and peeks leave as it is in their caller's local.
 
 ghost use Rattle.row_table.specs.Progress.{LooksLeaveWork, PeeksLeaveWork, PeekedWordsStay};
 
@@ -6,10 +6,10 @@ ghost use Rattle.row_table.specs.Progress.{LooksLeaveWork, PeeksLeaveWork, Peeke
 /// operations, counts, replies and object steps, even if a scan ends with it.
 #[tactic(auto, using(crate::proofs::Working::looks_leave_work, crate::proofs::Working::peeks_leave_work))]
 pub fn looks_and_peeks_leave_work()
-    // A look that begins nothing, or a scan which isn't the view's, doesn't change the work of its
-    // caller.
+    // A look that begins nothing, or a scan that isn't the view's, changes none of its caller's
+    // operations, counts, replies and object steps.
     ensures looks { LooksLeaveWork }
-    // A peek doesn't change the work of its caller.
+    // A peek changes none of its caller's operations, counts, replies and object steps.
     ensures peeks { PeeksLeaveWork }
 {}
 

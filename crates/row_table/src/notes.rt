@@ -81,8 +81,8 @@ impl ScanUnderWay {
         }
     }
 
-    // Adds the word that is due next to those that the scan took. The answer is the cut with which
-    // the scan has ended, if it has ended now.
+    // Adds the word that is due next to those that the scan took. The answer is the scan's cut,
+    // where the scan ends with this word.
     fn take(&mut self, word: u64) -> Option<Cut>
         requires { scan.has_ended self.old.core.course ≡ false }
         ensures taken { (n me : ℕ) (s : local.Scan) → self.old ≡ under_way n me s
@@ -138,7 +138,7 @@ impl Notes {
         }
     }
 
-    // Makes the notes those after a look began what it begins: nothing, a scan, or the view's scan.
+    // Changes the notes by what a look begins: nothing, a scan, or the view's scan.
     fn open(&mut self, n: u32, me: u32, region: Region, opening: Opening)
         requires caller { me < n }
         requires few { n ≤ MAX_CALLERS }
@@ -181,9 +181,9 @@ impl Notes {
         }
     }
 
-    // Adds the word that is due next to those that the scan under way took. Where the scan has
-    // ended now, it is no longer under way, the phase is the one after it, and its cut is the one
-    // given last.
+    // Adds the word that is due next to those that the scan under way took. Where the scan ends
+    // with this word, no scan is under way any more, the phase is the one after that scan, and its
+    // cut is the last given one.
     fn take(&mut self, word: u64)
         requires { IsOpen self.old.scan }
         ensures { (n me : ℕ) (l : local.Local) (s : local.Scan) → l.scan ≡ Some s
@@ -201,7 +201,7 @@ impl Notes {
         }
     }
 
-    /// Makes the notes those after a look, which may begin a scan.
+    /// Changes the notes by a look, which may begin a scan.
     pub fn look(&mut self, n: u32, me: u32, region: Region, j: u32, opening: Opening, word: u64)
         requires caller { me < n }
         requires few { n ≤ MAX_CALLERS }
@@ -214,7 +214,7 @@ impl Notes {
         }
     }
 
-    /// Makes the notes those after a peek.
+    /// Changes the notes by a peek.
     pub fn peek(&mut self, n: u32, region: Region, j: u32, row: u64, place: u32, word: u64)
         ensures { (me : ℕ) (l : local.Local) → self.old ≡ notes_of n me l → self.new
             ≡ notes_of n me (event.local_after n l (event.Peek region j row place word)) }
@@ -224,7 +224,7 @@ impl Notes {
         }
     }
 
-    /// Makes the notes those after a word was staged.
+    /// Changes the notes by the staging of a word.
     pub fn stage(&mut self)
         ensures { (n me : ℕ) (l : local.Local) (region : Region) (place word : ℕ)
             → self.old ≡ notes_of n me l
@@ -233,7 +233,7 @@ impl Notes {
         self.unstaged = false;
     }
 
-    /// Makes the notes those after an announcement.
+    /// Changes the notes by an announcement.
     pub fn announce(&mut self)
         requires { self.old.announced < 2 ^ 64 - 1 }
         ensures { (n me : ℕ) (l : local.Local) → self.old ≡ notes_of n me l
@@ -245,7 +245,7 @@ impl Notes {
         self.scan = None;
     }
 
-    /// Makes the notes those after a publication.
+    /// Changes the notes by a publication.
     pub fn publish(&mut self)
         requires { self.old.published < 2 ^ 64 - 1 }
         ensures { (n me : ℕ) (l : local.Local) → self.old ≡ notes_of n me l

@@ -18,17 +18,18 @@ impl<P: InWorld> Rows<P> {
 
     /// Loads an object word, which is one object step that doesn't change the word.
     ///
-    /// Like the three calls below it, it is for a caller that has announced its call and keeps no
-    /// reply yet, and the program allows the step for every word that may be found.
+    /// The caller has announced its call and keeps no reply yet, and its program allows the step
+    /// whatever word is found.
     pub fn object_load(&self, caller: &mut Caller<P>, place: u64) -> u64
-        // The caller is one of these rows, has announced its call, and keeps no reply of the object
-        // yet.
+        // The caller belongs to this table, has announced its call, and keeps no reply of the
+        // object yet.
         requires caller { IsCallerOf P.meaning self.now caller.old × IsAsking caller.old }
         // The table has an object word at this place.
         requires place { place < self.now.objects }
-        // The program allows the caller a step that doesn't change the word there, whichever it is.
+        // The program allows the caller a step that leaves the word at this place as it is,
+        // whatever word it finds.
         requires program { MayStep P.meaning self.now caller.old place (λ x. x) }
-        // The caller is still one of these rows, with the same number.
+        // The caller still belongs to this table, and keeps its number.
         ensures caller { IsStill P.meaning self.now caller.old caller.new }
         // The caller's local is the one before, changed by one object step, which found the
         // answered word and left it there.
@@ -40,17 +41,18 @@ impl<P: InWorld> Rows<P> {
         self.load_as::<Brand>(&mut caller.seat, Action::Load(place), index)
     }
 
-    /// Stores a word into an object word, which is one object step.
+    /// Stores a word into an object word, which is one object step. The word that was found isn't
+    /// answered.
     pub fn object_store(&self, caller: &mut Caller<P>, place: u64, word: u64)
-        // The caller is one of these rows, has announced its call, and keeps no reply of the object
-        // yet.
+        // The caller belongs to this table, has announced its call, and keeps no reply of the
+        // object yet.
         requires caller { IsCallerOf P.meaning self.now caller.old × IsAsking caller.old }
         // The table has an object word at this place.
         requires place { place < self.now.objects }
-        // The program allows the caller a step that stores this word over whichever word it finds
-        // there.
+        // The program allows the caller a step that stores this word at this place, whatever word
+        // it finds.
         requires program { MayStep P.meaning self.now caller.old place (λ _. word) }
-        // The caller is still one of these rows, with the same number.
+        // The caller still belongs to this table, and keeps its number.
         ensures caller { IsStill P.meaning self.now caller.old caller.new }
         // The caller's local is the one before, changed by one object step, which found some word
         // and left the stored one.
@@ -66,15 +68,15 @@ impl<P: InWorld> Rows<P> {
     /// Adds to an object word, modulo 2^64, which is one object step. It answers the word that it
     /// found.
     pub fn object_add(&self, caller: &mut Caller<P>, place: u64, add: u64) -> u64
-        // The caller is one of these rows, has announced its call, and keeps no reply of the object
-        // yet.
+        // The caller belongs to this table, has announced its call, and keeps no reply of the
+        // object yet.
         requires caller { IsCallerOf P.meaning self.now caller.old × IsAsking caller.old }
         // The table has an object word at this place.
         requires place { place < self.now.objects }
-        // The program allows the caller a step that adds this number, modulo 2^64, to whichever
-        // word it finds there.
+        // The program allows the caller a step that adds this number, modulo 2^64, to the word at
+        // this place, whatever word it finds.
         requires program { MayStep P.meaning self.now caller.old place (λ x. (x + add) % 2 ^ 64) }
-        // The caller is still one of these rows, with the same number.
+        // The caller still belongs to this table, and keeps its number.
         ensures caller { IsStill P.meaning self.now caller.old caller.new }
         // The caller's local is the one before, changed by one object step, which found the
         // answered word and left the sum modulo 2^64.
@@ -96,19 +98,19 @@ impl<P: InWorld> Rows<P> {
         old: u64,
         new: u64,
     ) -> Result<u64, u64>
-        // The caller is one of these rows, has announced its call, and keeps no reply of the object
-        // yet.
+        // The caller belongs to this table, has announced its call, and keeps no reply of the
+        // object yet.
         requires caller { IsCallerOf P.meaning self.now caller.old × IsAsking caller.old }
         // The table has an object word at this place.
         requires place { place < self.now.objects }
-        // The program allows the caller a step that puts `new` over `old`, and doesn't change any
-        // other word.
+        // The program allows the caller a step that puts `new` over `old` at this place, and leaves
+        // any other word that it finds as it is.
         requires program { MayStep P.meaning self.now caller.old place
             (λ x. either (x == old) new x) }
-        // The caller is still one of these rows, with the same number.
+        // The caller still belongs to this table, and keeps its number.
         ensures caller { IsStill P.meaning self.now caller.old caller.new }
         // The caller's local is the one before, changed by one object step, which found the
-        // answered word, and left `new` exactly where that was `old`.
+        // answered word; it left `new` where that word is `old`, and otherwise the found word.
         ensures event { HasDone self.now caller.old caller.new (object_step place (found_by result)
             (either (found_by result == old) new (found_by result))) }
         // The caller's stance stays.

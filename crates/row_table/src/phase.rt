@@ -1,4 +1,4 @@
-/// The phase of a caller, as it keeps it while it runs.
+/// The phase of a caller, as the caller keeps it while it runs.
 #[derive(Clone, Copy, Debug, PartialEq, Eq)]
 pub enum Phase {
     Announcing,

@@ -45,7 +45,7 @@ impl<P: Program> TableRule<(), Holding, Key<P>> for Worlds<P> {
 }
 
 /// A step as an event: the shape of the world that it is made in, the caller that makes it, and its
-/// event for each word that it may find. A call at `Brand` picks these.
+/// event for each word that it may find. A call that names `Brand` as the type chooses all three.
 pub trait StepEvent {
     ghost shape: { Shape };
 

@@ -9,11 +9,12 @@ use crate::staged_words::stage_from;
 use book_base::Cut;
 use world_core::{Program, Region};
 
-/// Stages a caller's row of M, the reply, the entries of the view and those of the cut that the row
-/// embeds, and raises the caller's count there: the record of its last call is published.
+/// Publishes the record of the caller's last call: stages the caller's row of M, with the reply,
+/// the entries of the view and those of the cut that the row embeds, and raises the caller's count
+/// in M.
 ///
-/// The cut is the one that the caller's last scan of M gave it for this row. No step here is a look
-/// or a peek.
+/// The cut is the one that the caller's last scan of M gave it for this row. The call makes no look
+/// and no peek.
 pub fn publish_row<P: Program>(
     rows: &Rows<P>,
     caller: &mut Caller<P>,
@@ -21,12 +22,12 @@ pub fn publish_row<P: Program>(
     view: &Cut,
     cut: &Cut,
 )
-    // The caller is one of these rows.
+    // The caller belongs to this table.
     requires caller { IsCallerOf P.meaning rows.now caller.old }
     // The caller may publish the record of its last call, with this reply and this view, in a row
     // that embeds this cut.
     requires may { MayPublish rows.now.callers reply view.now cut.now (local_with caller.old) }
-    // The caller is still one of these rows, with the same number.
+    // The caller still belongs to this table, and keeps its number.
     ensures caller { IsStill P.meaning rows.now caller.old caller.new }
     // The caller's local is the one before, changed by the publication of its record.
     ensures published { HasDone rows.now caller.old caller.new event.Publish }

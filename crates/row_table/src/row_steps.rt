@@ -27,7 +27,7 @@ impl<P: Program> Rows<P> {
         j: u32,
         steps: &mut Steps<L>,
     ) -> u64
-        // The caller is one of these rows.
+        // The caller belongs to this table.
         requires caller { IsCallerOf P.meaning self.now caller.old }
         // The table has a caller `j`.
         requires counted { j < self.now.callers }
@@ -36,7 +36,7 @@ impl<P: Program> Rows<P> {
         requires region { FitsRegion (stance_of caller.old).begins region }
         // By a look at this count the caller may begin what it means to begin.
         requires begins { MayBegin P.meaning self.now caller.old region j }
-        // The caller is still one of these rows, with the same number.
+        // The caller still belongs to this table, and keeps its number.
         ensures caller { IsStill P.meaning self.now caller.old caller.new }
         // The caller's local is the one before, changed by one look, which found the answered count
         // and began what the caller meant to begin.
@@ -71,7 +71,7 @@ impl<P: Program> Rows<P> {
         place: u32,
         steps: &mut Steps<L>,
     ) -> u64
-        // The caller is one of these rows.
+        // The caller belongs to this table.
         requires caller { IsCallerOf P.meaning self.now caller.old }
         // The table has a caller `j`.
         requires caller_fits { j < self.now.callers }
@@ -80,7 +80,7 @@ impl<P: Program> Rows<P> {
         // The caller knows, by its local, that this row of caller `j` is counted in the region.
         requires known { IsTrue
             (event.knows_row self.now.callers (local_with caller.old) region j row) }
-        // The caller is still one of these rows, with the same number.
+        // The caller still belongs to this table, and keeps its number.
         ensures caller { IsStill P.meaning self.now caller.old caller.new }
         // The caller's local is the one before, changed by one peek, which found the answered word
         // at that place.
@@ -102,11 +102,11 @@ impl<P: Program> Rows<P> {
     /// Stores a word at a place of the caller's own row under way, in a region. The row exists, and
     /// the word is the one due at this place in the caller's phase.
     pub fn stage(&self, caller: &mut Caller<P>, region: Region, place: u32, word: u64)
-        // The caller is one of these rows.
+        // The caller belongs to this table.
         requires caller { IsCallerOf P.meaning self.now caller.old }
         // The caller has a row under way in the region, and this word belongs at this place of it.
         requires due { MayStage P.meaning self.now caller.old region place word }
-        // The caller is still one of these rows, with the same number.
+        // The caller still belongs to this table, and keeps its number.
         ensures caller { IsStill P.meaning self.now caller.old caller.new }
         // The caller's local is the one before, changed by the staging of this word at this place.
         ensures event { HasDone self.now caller.old caller.new (event.Stage region place word) }
@@ -123,12 +123,12 @@ impl<P: Program> Rows<P> {
     /// Raises the caller's own count in N, which announces its call. All places of its row are
     /// staged.
     pub fn announce(&self, caller: &mut Caller<P>)
-        // The caller is one of these rows.
+        // The caller belongs to this table.
         requires caller { IsCallerOf P.meaning self.now caller.old }
-        // All places of the caller's row in N are staged, in a phase that stages N.
+        // The caller's phase is announce, and all places of its row in N are staged.
         requires staged { IsTrue
             (event.is_row_staged self.now.callers (local_with caller.old) Region.N) }
-        // The caller is still one of these rows, with the same number.
+        // The caller still belongs to this table, and keeps its number.
         ensures caller { IsStill P.meaning self.now caller.old caller.new }
         // The caller's local is the one before, changed by the announcement of its call.
         ensures event { HasDone self.now caller.old caller.new event.Announce }
@@ -144,12 +144,12 @@ impl<P: Program> Rows<P> {
     /// Raises the caller's own count in M, which publishes its record. All places of its row are
     /// staged.
     pub fn publish(&self, caller: &mut Caller<P>)
-        // The caller is one of these rows.
+        // The caller belongs to this table.
         requires caller { IsCallerOf P.meaning self.now caller.old }
-        // All places of the caller's row in M are staged, in a phase that stages M.
+        // The caller's phase is publish, and all places of its row in M are staged.
         requires staged { IsTrue
             (event.is_row_staged self.now.callers (local_with caller.old) Region.M) }
-        // The caller is still one of these rows, with the same number.
+        // The caller still belongs to this table, and keeps its number.
         ensures caller { IsStill P.meaning self.now caller.old caller.new }
         // The caller's local is the one before, changed by the publication of its record.
         ensures event { HasDone self.now caller.old caller.new event.Publish }

@@ -22,11 +22,12 @@ use std::alloc::{AllocError, Global};
 use std::marker::{Brand, PhantomData};
 use world_core::{Outside, Program, Region};
 
-/// The table of rows of some callers, in a world of a program.
+/// The table of a world: the counts and the rows of its callers, and the object words of its
+/// program.
 ///
 /// Each step is one sequentially consistent atomic step and one event of the world, on the local of
-/// the caller that makes it, with the word that was really loaded. Nothing locks, waits or takes
-/// memory but the calls that open and close the table.
+/// the caller that makes it, with the word that was really loaded. No step locks, waits or takes
+/// memory; only the calls that open and close the table take memory.
 #[derive(Drop)]
 pub struct Rows<P: Program = Outside> {
     pub(crate) table: Table<(), Holding, Key<P>, Worlds<P>, Global>,
@@ -42,7 +43,7 @@ pub struct Rows<P: Program = Outside> {
     ghost told: { table.shared.key.program ≡ program } by { Coded-set P.code table.shared.key.program program },
 }
 
-// The first words of a closed table, as many as `count` says, in order.
+// The words of a closed table that has `count` words, in order.
 fn copied(alloc: Global, closed: &Closed<(), Global>, count: usize) -> Result<Vec<u64>, AllocError>
     requires { (slots_len closed.now.words ≡ count) × IsFull closed.now.words }
     ensures { IfOk result (λ v. v.items ≡ slots_items closed.now.words) }
@@ -214,7 +215,7 @@ impl<P: Program> Rows<P> {
         // the program says.
         ensures rows { IfOk result (λ r. (r.0.callers ≡ n) × (r.0.cap ≡ cap)
             × (r.0.program ≡ program) × (r.0.objects ≡ (P.meaning program n cap).objects)) }
-        // The bench is one of these rows, and its locals are those of one reachable world.
+        // The bench belongs to this table, and its locals are those of one reachable world.
         ensures bench { IfOk result (λ r. IsBenchOf P.meaning r.0 r.1) }
         // The bench has each caller with the local and the stance of the start.
         ensures fresh { IfOk result (λ r. (i : ℕ) → i < n → (on_bench r.1 i ≡ Some local.fresh)
@@ -259,9 +260,9 @@ impl<P: Program> Rows<P> {
     pub fn embedded_place(&self, region: Region, caller: u32) -> u32
         // The caller is one of the table's.
         requires { caller < self.now.callers }
-        // The answer is the place that the layout gives that entry in a row of the region.
+        // The answer is the place that the layout gives the caller's entry in a row of the region.
         ensures place { result ≡ words.embedded_place self.now.callers region caller }
-        // A row of the region has that place.
+        // A row has the answered place in this region.
         ensures fits { result < words.places self.now.callers region }
     {
         embedded_place(self.callers, region, caller) as u32
@@ -277,18 +278,18 @@ impl<P: Program> Rows<P> {
     /// Takes a caller off the bench, with its local and its stance: where the bench holds it free,
     /// it is free. One load of word 0 is made, which is no event.
     pub fn part(&self, bench: &mut Bench<P>, caller: u32) -> Caller<P>
-        // The bench is one of these rows, and its locals are those of one reachable world.
+        // The bench belongs to this table, and its locals are those of one reachable world.
         requires bench { IsBenchOf P.meaning self.now bench.old }
         // The bench holds the caller.
         requires held { Holds bench.old caller }
-        // The bench is still one of these rows, and its locals are those of one reachable world.
+        // The bench still belongs to this table, and its locals are those of one reachable world.
         ensures bench { IsBenchOf P.meaning self.now bench.new }
-        // The bench no longer has the local of the caller.
+        // The bench has no local of the caller.
         ensures gone { on_bench bench.new caller ≡ None }
         // The bench has the local and the stance of each other caller as before.
         ensures others { (i : ℕ) → i ≢ caller → (on_bench bench.new i ≡ on_bench bench.old i)
             × (stance_on bench.new i ≡ stance_on bench.old i) }
-        // The answered caller is one of these rows, and has this number.
+        // The answered caller belongs to this table, and has this number.
         ensures caller { IsCallerOf P.meaning self.now result × (who_of result ≡ caller) }
         // The answered caller has the local that the bench had of it.
         ensures local { on_bench bench.old caller ≡ Some (local_with result) }
@@ -316,13 +317,13 @@ impl<P: Program> Rows<P> {
     /// made, which are no events: after the second the locals on the bench are known to be those of
     /// one reachable world.
     pub fn back(&self, bench: &mut Bench<P>, caller: Caller<P>)
-        // The bench is one of these rows, and its locals are those of one reachable world.
+        // The bench belongs to this table, and its locals are those of one reachable world.
         requires bench { IsBenchOf P.meaning self.now bench.old }
-        // The caller is one of these rows.
+        // The caller belongs to this table.
         requires caller { IsCallerOf P.meaning self.now caller }
         // The bench doesn't have the local of the caller.
         requires gone { on_bench bench.old (who_of caller) ≡ None }
-        // The bench is still one of these rows, and its locals are those of one reachable world.
+        // The bench still belongs to this table, and its locals are those of one reachable world.
         ensures bench { IsBenchOf P.meaning self.now bench.new }
         // The bench has the caller's local and its stance.
         ensures here { (on_bench bench.new (who_of caller) ≡ Some (local_with caller))
@@ -349,24 +350,24 @@ impl<P: Program> Rows<P> {
 
     /// The locals of a bench that holds all callers are those of one reachable world.
     pub fn whole_bench_is_together(&self, bench: &Bench<P>)
-        // The bench is one of these rows, and its locals are those of one reachable world.
+        // The bench belongs to this table, and its locals are those of one reachable world.
         requires bench { IsBenchOf P.meaning self.now bench.now }
         // The bench holds all callers.
         requires all { HoldsAll bench.now }
         ensures { AreTogether (shape_of P.meaning self.now) (locals_on bench.now) }
     {}
 
-    /// Closes the table, whose words are the answer: with the locals of the bench, which holds all
-    /// callers, they are a reachable world. Where memory lacks, the table is given up.
+    /// Closes the table and answers its words: with the locals of the bench, which holds all
+    /// callers, they are a reachable world. Where memory runs out, the words are lost.
     pub fn close(self, alloc: Global, bench: Bench<P>) -> Result<World<P>, NoMemory>
-        // The bench is one of these rows, and its locals are those of one reachable world.
+        // The bench belongs to this table, and its locals are those of one reachable world.
         requires bench { IsBenchOf P.meaning self bench }
         // The bench holds all callers.
         requires all { HoldsAll bench }
         // The closed table's words are, with the bench's locals, a reachable world.
         ensures world { IfOk result
             (λ world. IsWorldOf (shape_of P.meaning self) (words_in world) (locals_on bench)) }
-        // There are as many words as the table's layout has.
+        // The answered world has as many words as the table's layout.
         ensures count { IfOk result
             (λ world. length (words_in world) ≡ words_of (shape_of P.meaning self)) }
     {

@@ -7,7 +7,8 @@ use crate::caller::Caller;
 use crate::rows::Rows;
 use world_core::{Program, Region};
 
-// Stages these words in the caller's row under way in a region, one a place, from a place on.
+// Stages these words in the caller's row under way in a region, the first at the place `first` and
+// each further one at the next place.
 pub fn stage_from<P: Program>(
     rows: &Rows<P>,
     caller: &mut Caller<P>,

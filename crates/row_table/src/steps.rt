@@ -5,7 +5,8 @@ use std::sync::ledger::{Blank, Book, Ledger, Share};
 
 /// A counter of steps, which has no bytes at run time. Clauses see it as the number of its ticks.
 ///
-/// Only looks and peeks tick. A caller that counts nothing makes one from `Blank::new(1)`.
+/// Only looks and peeks tick. A caller whose steps nobody counts has a counter made from
+/// `Blank::new(1)`.
 #[derive(Drop)]
 pub struct Steps<L: Ledger> {
     book: Book<L>,

@@ -19,8 +19,8 @@ abbrev pub plan_to : ℕ → Plan
 plan_to phases =
     record { kind = Queue; operations = five_and_six; stops = stops_after phases; turns = [] }
 
--- The report in which the first caller has its record and the second one has announced its call is
--- that of this plan and of the locals after these steps.
+-- The report of a plan in which the first caller stops after this many phases, at the locals after
+-- these steps: the first caller has its record, and the second one has announced its call.
 abbrev pub IsStoppedReport : ℕ → List Step → Type 0
 IsStoppedReport phases steps =
     IsReportOf silent pair (locals_after steps) (plan_to phases)

@@ -10,7 +10,7 @@ pub record IsOwnPass {T : Type 0} (is_own : T → Type 0) (caller : T → ℕ) (
   pub of : caller pass ≡ i
 
 -- A pass is unused: it is the object's own and the one of caller i, no call was made with it, and
--- it has a call for each operation of that caller.
+-- one may be made for each operation of that caller.
 pub record IsUnusedPass {T : Type 0} (is_own : T → Type 0) (caller made cap : T → ℕ)
     (operations : List (List ℕ)) (i : ℕ) (pass : T) : Type 0 where
   pub own : is_own pass

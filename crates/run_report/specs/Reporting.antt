@@ -22,11 +22,11 @@ use Rattle.reports.specs.Findings.{Findings}
 abbrev pub outside_shape : ℕ → Shape
 outside_shape n = record { callers = n; cap = MAX_CALLS; program = outside }
 
--- Findings are those of a plan's callers that were given these phases and left these locals. They
--- are of the plan's kind, have the lines of just these locals, which are those of one reachable
--- world, and are lawful. Each caller has made just the phases that its lines determine, so that one
--- which stopped after its publish has published. A call under way that was announced and not asked
--- has no object step, and to one that was asked and has no view the program allows a reply.
+-- The findings are those of the callers of a plan, with these allotments and these locals. They are
+-- of the plan's kind and lawful. Their lines are those of the locals, which are of one reachable
+-- world, and each caller has made just the phases that its lines determine: one that stopped after
+-- its publication has published. A call under way that was announced and not asked has no object
+-- step, and for one that was asked and has no view the program allows the caller some reply.
 pub record IsReportOf (spec : SeqSpec) (s : Shape) (locals : List Local) (plan : Plan)
     (allotments : List ℕ) (findings : Findings) : Type 0 where
   pub kind : findings.kind ≡ plan.kind
@@ -38,17 +38,16 @@ pub record IsReportOf (spec : SeqSpec) (s : Shape) (locals : List Local) (plan :
       (phases_of (slice_index allotments i) (lines_at findings.lines i)) (local_at locals i)
   pub lawful : IsLawful spec s plan.operations allotments findings.lines
 
--- Where no line of caller i is an error, and by its lines it stopped between two calls, or made all
--- of its calls, it is on the bench, free for its next call.
+-- Where caller i has no error line, and by its lines stopped between two calls, or made all of its
+-- calls, it is on the bench, free for its next call.
 abbrev pub IsFreeAgain : {P : Type 0} → Bench P → List ℕ → Findings → ℕ → Type 0
 IsFreeAgain b allotments findings i =
     any_error (lines_at findings.lines i) ≡ false
     → phases_of (slice_index allotments i) (lines_at findings.lines i) % 5 ≡ 0
     → stance_on b i ≡ Some fresh_stance
 
--- With the pass of caller i the object was asked exactly for the calls that the caller's lines
--- determine, and the pass tells, where it tells anything, an operation and a reply for each of
--- them.
+-- With the pass of caller i just as many calls were made as the object was asked for by the
+-- caller's lines. Where the pass tells calls, it tells an operation and a reply for each.
 pub record IsToldIn {T : Type 0} (made : T → ℕ) (told : T → Option (List (ℕ × ℕ)))
     (allotments : List ℕ) (findings : Findings) (i : ℕ) (pass : T) : Type 0 where
   pub asked_for : made pass
@@ -57,12 +56,12 @@ pub record IsToldIn {T : Type 0} (made : T → ℕ) (told : T → Option (List (
       (IsTold (phases_of (slice_index allotments i) (lines_at findings.lines i))
       (map made_of (lines_at findings.lines i)))
 
--- The count of caller i's pass is that of exactly the calls that the caller's lines determine, and
--- tells, where it tells anything, an operation and a reply for each of them.
+-- The count of caller i's pass is of exactly the calls that the object was asked for by the
+-- caller's lines, and tells, where it tells calls, an operation and a reply for each.
 abbrev pub IsCountIn : List ℕ → Findings → ℕ → PassCount → Type 0
 IsCountIn = IsToldIn (λ (count : PassCount). count.made) (λ (count : PassCount). count.told)
 
--- The pass of caller i, where it counts its calls, counts exactly those that the caller's lines
--- determine.
+-- The pass of caller i, where it counts calls, counts exactly those that the object was asked for
+-- by the caller's lines, and tells, where it tells calls, an operation and a reply for each.
 abbrev pub IsCountedIn : {T : Type 0} → (T → Option PassCount) → List ℕ → Findings → ℕ → T → Type 0
 IsCountedIn count allotments findings i pass = IfSome (count pass) (IsCountIn allotments findings i)

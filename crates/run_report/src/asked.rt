@@ -16,15 +16,15 @@ use std::alloc::Global;
 use std::thread::Threads;
 use world_core::Program;
 
-/// Runs all callers of a script, each in a thread of its own where one can be had, whatever object
-/// they ask and wherever it is: each judges each of its calls by the sequential object. The answer
-/// is their report, which is lawful.
+/// Runs all callers of a script, each in a thread of its own where one can be had. Each asks an
+/// object, inside the world or outside it, and judges each of its calls by the sequential object.
+/// The answer is their report, which is lawful.
 ///
 /// Whatever the answer, the bench holds all callers again, the passes are in their order, and each
 /// caller has made a prefix of its phases: all of them where a report is answered, but for those
 /// after an error. Where a report is answered, each caller without an error that stopped between
-/// two calls, or made all of them, is free for its next call. Want of memory is answered before the
-/// first call, or where a judgement wanted it.
+/// two calls, or made all of them, is free for its next call. `NoMemory` is answered before the
+/// first call, or where a call was left unjudged for want of memory.
 pub fn run_asked<
     R: Threads + Sync,
     P: Program + Send + Sync,
@@ -40,38 +40,38 @@ pub fn run_asked<
     passes: &mut Vec<T>,
     script: &Script,
 ) -> Result<Report, NoMemory>
-    // These rows are those whose callers may ask the object.
+    // The callers of the shared rows may ask the object.
     requires serves { A.serves shared.now.asks.now shared.now.rows.now }
-    // The rows have just the script's callers, and capacity for their calls; the bench is that of
-    // the rows and holds each of these callers, ready and idle, without a call.
+    // The shared rows have just the script's callers, and capacity for their calls. The bench is a
+    // bench of these rows, and holds each of these callers, live and idle, without a call.
     requires begins { MayBegin P.meaning script.now 0 shared.now.rows.now bench.old }
-    // There is a pass for each caller of the script, in order, which fits the caller; where it
-    // counts calls, none was made with it, and it has one for each operation.
+    // There is a pass for each caller of the script, in order, which fits the caller. Where it
+    // counts calls, none was made with it, and one may be made for each operation of the caller.
     requires passes { AreFreshPasses shared.now.rows.now (A.fits shared.now.asks.now) A.count
         script.now.operations passes.old.items }
-    // Whatever the answer, the bench is still one of these rows, and holds all their callers.
+    // Whatever the answer, the bench is still a bench of the shared rows, and holds each caller.
     ensures bench { IsBenchOf P.meaning shared.now.rows.now bench.new × HoldsAll bench.new }
     // There is one pass for each caller of the script.
     ensures all_passes { vec_len passes.new ≡ length script.now.operations }
     // Each caller of the script is back on the bench with its pass, which fits it, and has made a
-    // prefix of its phases: at most as many as the script gives it; where the pass counts calls, it
-    // counts those that were asked.
+    // prefix of its phases: at most as many as the script gives it. A pass that counts calls counts
+    // those that the object was asked for.
     ensures back { (i : ℕ) → i < length script.now.operations
         → IsBackOn P.meaning shared.now.rows.now
         (A.fits shared.now.asks.now) A.count script.now.operations (run_allotments script.now)
         bench.new passes.new.items i }
-    // A report that is answered is of the script's kind, and its lines are those of the locals on
-    // the bench, which are of one reachable world; they are lawful, and each caller has made just
-    // the phases that its lines determine.
+    // A report that is answered is of the script's kind and lawful. Its lines are those of the
+    // locals on the bench, which are of one reachable world, and each caller has made just the
+    // phases that its lines determine.
     ensures report { IfOk result
         (λ report. IsReportOf (S.spec sequential.now) (shape_of P.meaning shared.now.rows.now)
         (locals_on bench.new) script.now (run_allotments script.now) report) }
-    // Where a report is answered, each caller that by its lines has no error and stopped between
-    // two calls, or made all of them, is free for its next call.
+    // Where a report is answered, each caller that has no error line and by its lines stopped
+    // between two calls, or made all of them, is free for its next call.
     ensures free { IfOk result (λ report. (i : ℕ) → i < length script.now.operations
         → IsFreeAgain bench.new (run_allotments script.now) report i) }
-    // Where a report is answered, each pass that counts calls counts exactly those that by its
-    // caller's lines were asked, and tells, where it tells anything, an operation and a reply for
+    // Where a report is answered, a pass that counts calls counts exactly those that the object was
+    // asked for by its caller's lines. Where it tells calls, it tells an operation and a reply for
     // each of them.
     ensures counted { IfOk result (λ report. AreInOrder
         (IsCountedIn A.count (run_allotments script.now) report) passes.new.items) }

@@ -4,9 +4,9 @@ ghost use Rattle.std.specs.Prelude.{◌++◌, take};
 ghost use Rattle.world_core.specs.Schedules.{announced_both, published_one, two_calls};
 ghost use Rattle.run_report.specs.Cases.{IsStoppedReport};
 
-/// A caller stops exactly after the phase of its stop, though the lines alone don't show it. A
-/// caller that stops after its third phase has its record, and one that stops after its fourth has
-/// published it too: their lines are the same, and the report of one isn't that of the other.
+/// A report belongs to one stop alone, though its lines don't show which. A caller that stops after
+/// its third phase has its record, and one that stops after its fourth has also published it. Both
+/// leave the same lines, but the report of one isn't that of the other.
 pub fn stops_are_kept_to_the_phase()
     // The worked report is that of a caller that stops after its third phase, where its record
     // isn't published.

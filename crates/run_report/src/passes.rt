@@ -6,15 +6,16 @@ use client_scripts::Script;
 use drv_wrapper::{BlackBox, ObjectPass};
 use row_table::Rows;
 
-/// Passes with which no call was made tell of no call.
+/// Passes of an object outside the world with which no call was made fit their callers, have
+/// counted no call, and tell of none.
 pub fn passes_are_fresh<B: BlackBox>(
     _rows: &Rows,
     _object: &B,
     _passes: &Vec<B::Pass>,
     _script: &Script,
 )
-    // There is a pass of the object's own for each caller of the script, in order, with which no
-    // call was made, and which has a call for each operation of its caller.
+    // There is a pass of the object's own for each caller of the script, in order. No call was made
+    // with it, and one may be made for each operation of its caller.
     requires { AreUnusedPasses (B.is_own _object.now) B.Pass.caller B.Pass.made B.Pass.cap
         _script.now.operations _passes.now.items }
     ensures { AreFreshPasses _rows.now (fits_own (B.is_own _object.now) B.Pass.caller)

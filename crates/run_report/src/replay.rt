@@ -22,14 +22,14 @@ use std::sync::ledger::Blank;
 use world_core::{Outside, Program};
 
 /// Runs all callers of a script in one thread, by the script's turns: at each turn the caller that
-/// it names makes its next phase, where it has one left up to its stop, and isn't halted. Each call
-/// is judged by the sequential object. The answer is the callers' report, which is lawful.
+/// the turn names makes its next phase, unless it has reached its stop or is halted. Each call is
+/// judged by the sequential object. The answer is the callers' report, which is lawful.
 ///
 /// Whatever the answer, the bench holds all callers again, the passes are in their order, and each
 /// caller has made a prefix of its phases: all of them where a report is answered, but for those
 /// after an error. Where a report is answered, each caller without an error that stopped between
-/// two calls, or made all of them, is free for its next call. Want of memory is answered before the
-/// first call, or where a judgement wanted it.
+/// two calls, or made all of them, is free for its next call. `NoMemory` is answered before the
+/// first call, or where a call was left unjudged for want of memory.
 pub fn replay_over<S: SeqObject, B: BlackBox>(
     alloc: Global,
     rows: &Rows,
@@ -39,41 +39,41 @@ pub fn replay_over<S: SeqObject, B: BlackBox>(
     passes: &mut Vec<B::Pass>,
     script: &Script,
 ) -> Result<Report, NoMemory>
-    // The rows have just the script's callers, and capacity for their calls; the bench is that of
-    // the rows and holds each of these callers, ready and idle, without a call.
+    // The rows have just the script's callers, and capacity for their calls. The bench is a bench
+    // of the rows, and holds each of these callers, live and idle, without a call.
     requires begins { MayBegin ⟦<Outside as Program>⟧.meaning script.now 0 rows.now bench.old }
-    // There is a pass of the object's own for each caller of the script, in order, with which no
-    // call was made, and which has a call for each operation of its caller.
+    // There is a pass of the object's own for each caller of the script, in order. No call was made
+    // with it, and one may be made for each operation of its caller.
     requires passes { AreUnusedPasses (B.is_own object.now) B.Pass.caller B.Pass.made B.Pass.cap
         script.now.operations passes.old.items }
-    // Whatever the answer, the bench is still one of these rows, and holds all their callers.
+    // Whatever the answer, the bench is still a bench of `rows`, and holds each of their callers.
     ensures bench { IsBenchOf ⟦<Outside as Program>⟧.meaning rows.now bench.new
         × HoldsAll bench.new }
     // There is one pass for each caller of the script.
     ensures all_passes { vec_len passes.new ≡ length script.now.operations }
     // Each caller of the script is back on the bench with its pass, and has made a prefix of its
-    // phases: at most as many as the script's turns give it; its pass counts those of its calls
-    // that were asked.
+    // phases: at most as many as the script's turns give it. Its pass counts the calls that the
+    // object was asked for.
     ensures back { (i : ℕ) → i < length script.now.operations → IsBackOn
         ⟦<Outside as Program>⟧.meaning rows.now (fits_own (B.is_own object.now) B.Pass.caller)
         (own_count B.Pass.made B.Pass.cap B.Pass.told) script.now.operations
         (replay_allotments script.now)
         bench.new passes.new.items i }
-    // Each pass is one of this object's, and that of its caller, in order.
+    // Each pass is one of the object's own, and pass i is that of caller i.
     ensures passes { AreInOrder (IsOwnPass (B.is_own object.now) B.Pass.caller) passes.new.items }
-    // A report that is answered is of the script's kind, and its lines are those of the locals on
-    // the bench, which are of one reachable world; they are lawful, and each caller has made just
-    // the phases that its lines determine.
+    // A report that is answered is of the script's kind and lawful. Its lines are those of the
+    // locals on the bench, which are of one reachable world, and each caller has made just the
+    // phases that its lines determine.
     ensures report { IfOk result
         (λ report. IsReportOf (S.spec sequential.now) (shape_of ⟦<Outside as Program>⟧.meaning
         rows.now) (locals_on bench.new) script.now (replay_allotments script.now) report) }
-    // Where a report is answered, each caller that by its lines has no error and stopped between
-    // two calls, or made all of them, is free for its next call.
+    // Where a report is answered, each caller that has no error line and by its lines stopped
+    // between two calls, or made all of them, is free for its next call.
     ensures free { IfOk result (λ report. (i : ℕ) → i < length script.now.operations
         → IsFreeAgain bench.new (replay_allotments script.now) report i) }
-    // Where a report is answered, the object was asked with each pass for exactly the calls that by
-    // its caller's lines were asked, and the pass tells, where it tells anything, an operation and
-    // a reply for each of them.
+    // Where a report is answered, just as many calls were made with each pass as the object was
+    // asked for by its caller's lines. A pass that tells calls tells an operation and a reply for
+    // each of them.
     ensures told { IfOk result (λ report. AreInOrder (IsToldIn B.Pass.made B.Pass.told
         (replay_allotments script.now) report) passes.new.items) }
 {

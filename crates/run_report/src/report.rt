@@ -55,8 +55,8 @@ fn read_replies(lines: &[Own])
     }
 }
 
-/// The report of callers that are back on their bench with their passes, and left these lines, by
-/// the allotments that they had at this pace.
+/// The report of these lines, which callers left that are back on their bench with their passes. At
+/// the pace `_pace` the script gave the callers their allotments.
 pub(crate) fn report_of<P: Program, T, S: SeqObject, A: Asks<Program = P, Pass = T>>(
     _shared: &Shared<A, P>,
     _bench: &Bench<P>,

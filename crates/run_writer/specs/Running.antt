@@ -14,23 +14,24 @@ use Rattle.run_report.specs.Reporting.{IsReportOf, IsFreeAgain, IsToldIn}
 use Rattle.byte_streams.specs.declared.status.Status.{Status}
 use Rattle.byte_streams.specs.declared.status.Status.TheVariants.{Fine, Found, WriteFault, NoMemory}
 
--- The report of a plan's callers that had these allotments, judged by a sequential object: of the
--- locals that are on this bench, and lawful.
+-- The findings are a lawful report of a plan's callers with these allotments, of the locals on this
+-- bench, judged by a sequential object.
 abbrev pub IsBenchReport : {P : Type 0} → SeqSpec → (P → ℕ → ℕ → Meaning) → Rows P → Bench P → Plan
     → List ℕ → Findings → Type 0
 IsBenchReport object meaning rows bench plan allotments findings =
     IsReportOf object (shape_of meaning rows)
     (locals_on bench) plan allotments findings
 
--- The report of a plan's callers, of the locals that are on this bench, with no error line.
+-- The findings are a lawful report of a plan's callers, of the locals on this bench, with no error
+-- line.
 pub record IsCoreReport {P : Type 0} (object : SeqSpec) (meaning : P → ℕ → ℕ → Meaning)
     (rows : Rows P) (bench : Bench P) (plan : Plan) (allotments : List ℕ)
     (findings : Findings) : Type 0 where
   pub report : IsBenchReport object meaning rows bench plan allotments findings
   pub no_error : list_any any_error findings.lines ≡ false
 
--- The report of a plan's callers, of the locals that are on this bench, with the calls of these
--- passes, in order. With each pass the object was asked for just the calls that its caller's lines
+-- The findings are a lawful report of a plan's callers, of the locals on this bench, with the calls
+-- of these passes. With pass i the object was asked for just the calls that the lines of caller i
 -- determine, and where the pass tells a list, this has their operations and their replies.
 pub record IsToldBenchReport {P T : Type 0} (object : SeqSpec) (meaning : P → ℕ → ℕ → Meaning)
     (rows : Rows P) (bench : Bench P) (made : T → ℕ) (told : T → Option (List (ℕ × ℕ)))
@@ -38,10 +39,10 @@ pub record IsToldBenchReport {P T : Type 0} (object : SeqSpec) (meaning : P → 
   pub report : IsBenchReport object meaning rows bench plan allotments findings
   pub told_in : AreInOrder (IsToldIn made told allotments findings) passes
 
--- A run ended with this status by its report, failed writes and want of memory aside: `Found` where
--- a line of the report is an error, and `Fine` where none is. Each caller without an error line
--- that stopped between two calls, or made all of its calls, is free for its next one, want of
--- memory aside.
+-- A run ended with this status. Unless a write failed or memory was lacking, the status is `Found`
+-- where a line of the run's report is an error, and `Fine` where none is. Unless memory was
+-- lacking, each caller that has no error line, and stopped between two calls or made all of its
+-- calls, is free for its next one.
 pub record EndsByReport {P : Type 0} (object : SeqSpec) (meaning : P → ℕ → ℕ → Meaning)
     (rows : Rows P) (bench : Bench P) (plan : Plan) (allotments : List ℕ)
     (status : Status) : Type 0 where

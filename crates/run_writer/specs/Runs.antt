@@ -22,8 +22,8 @@ use Rattle.byte_streams.specs.declared.status.Status.{Status}
 use Rattle.byte_streams.specs.declared.status.Status.TheVariants.{Fine, Found}
 use Rattle.byte_streams.specs.Writing.{EndsWriting}
 
--- What is written after a report: where one of its lines is an error, the text of the book at the
--- seen cut of the first error line, else nothing.
+-- The text that is written after a report: where one of its lines is an error, the text of the book
+-- at the seen cut of the first error line, else nothing.
 abbrev pub IsWitnessText : Findings → List ℕ → Type 0
 IsWitnessText report rest =
     ((list_any any_error report.lines ≡ false) × (rest ≡ []))
@@ -60,8 +60,9 @@ abbrev pub IsRunOutput : SeqSpec → (Findings → Type 0) → Form → Status �
 IsRunOutput object IsReportOf form status text = (report : Findings) × IsReportOf report
     × IsWritten object form report text × (status ≡ status_of report)
 
--- A call that writes what a form shows of a run with one of these reports has ended with a status:
--- what it wrote, after the bytes that the sink had taken.
+-- A call that writes what a form shows of a run with one of these reports has ended with this
+-- status: it wrote, after the bytes that the sink had taken, all of that with `Found` or `Fine`, a
+-- prefix of it with `WriteFault`, and nothing with `NoMemory`.
 abbrev pub RunEnds : SeqSpec → (Findings → Type 0) → Form → Status → Option (List ℕ)
     → Option (List ℕ) → Type 0
 RunEnds object IsReportOf form status taken taken' =

@@ -11,8 +11,8 @@ use reports::Report;
 use std::alloc::Global;
 
 /// A certificate of a report: the text of the book at the greatest seen cut of the delivered lines,
-/// and of an order of it that is legal for the sequential object. There is none exactly where that
-/// book has no legal order, which no lawful report leaves.
+/// and of an order of it that is legal for the sequential object. `None` is answered exactly where
+/// that book has no legal order; the book of a lawful report has one.
 pub fn report_certificate<S: SeqObject>(
     alloc: Global,
     object: &S,

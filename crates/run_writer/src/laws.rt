@@ -25,7 +25,7 @@ pub fn certificates_are_legal_and_tell_one_book()
     // Where a report was judged by the object of its kind, the order in its certificate is legal
     // for the kind that the certificate names.
     ensures of_their_kind { CertificatesAreOfTheirKind }
-    // Whoever reads two certificates of a report reads one kind and one book.
+    // Whoever reads two certificates of a report reads the same kind and the same book in both.
     ensures one_book { CertificatesTellOneBook }
 {}
 
@@ -36,20 +36,26 @@ pub fn statuses_tell_errors()
 {}
 
 /// Worked outputs: the counts of a report with an error, and of one without, each with its status
-/// and with no other one and no other text; and no output where there is no report.
+/// and with no other status or text; and no output where there is no report.
 #[tactic(auto, using(crate::proofs::Statuses::found, crate::proofs::Statuses::not_fine, crate::proofs::Statuses::fine, crate::proofs::Statuses::not_found, crate::proofs::Statuses::no_text, crate::proofs::Statuses::no_report))]
 pub fn outputs_have_their_status()
+    // The counts of a report with an error are written with the status `Found`.
     ensures found { IsRunOutput (kind_spec Queue) (λ report. report ≡ worked) Numbers Found
         (counts_text (record { calls = 4; delivered = 1; errors = 1 })) }
+    // The counts of a report with an error aren't written with the status `Fine`.
     ensures not_fine { ¬ IsRunOutput (kind_spec Queue) (λ report. report ≡ worked) Numbers Fine
         (counts_text (record { calls = 4; delivered = 1; errors = 1 })) }
+    // The counts of a report without an error are written with the status `Fine`.
     ensures fine { IsRunOutput (kind_spec Queue)
         (λ report. report ≡ of_queue ((pending 5 ∷ []) ∷ [])) Numbers Fine
         (counts_text (record { calls = 1; delivered = 0; errors = 0 })) }
+    // The counts of a report without an error aren't written with the status `Found`.
     ensures not_found { ¬ IsRunOutput (kind_spec Queue)
         (λ report. report ≡ of_queue ((pending 5 ∷ []) ∷ [])) Numbers Found
         (counts_text (record { calls = 1; delivered = 0; errors = 0 })) }
+    // The empty text is no output of the worked report's counts.
     ensures no_text { ¬ IsRunOutput (kind_spec Queue) (λ report. report ≡ worked) Numbers Found [] }
+    // A run without a report has no output.
     ensures no_report { ¬ IsRunOutput (kind_spec Queue) (λ report. ⊥) Numbers Fine
         (counts_text (record { calls = 0; delivered = 0; errors = 0 })) }
 {}

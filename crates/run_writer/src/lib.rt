@@ -1,6 +1,6 @@
-//! Whole runs and replays of a script over any object behind the trait, and what is written of
-//! them: the report, its counts, or a certificate, which is the book of what was delivered with a
-//! legal order of it.
+//! Whole runs and replays of a script over an object under test, or over one inside the world, and
+//! what is written of them: the report, its counts, or a certificate, which is the book of what was
+//! delivered with a legal order of it.
 #![tactic(auto)]
 
 mod certificate;

@@ -16,9 +16,9 @@ use reports::{Counts, Report};
 use seq_objects::put_number;
 use std::alloc::Global;
 
-/// Writes what a form shows of a report that was judged by a sequential object. Every lawful report
-/// has a certificate, as the form for it needs. All of the text is built before its first byte is
-/// written.
+/// Writes what a form shows of a report that was judged by a sequential object. The form of a
+/// certificate needs a report that has one, as every lawful report has. All of the text is built
+/// before its first byte is written.
 pub fn write_report<S: SeqObject, K: Sink>(
     alloc: Global,
     form: Form,
@@ -29,21 +29,22 @@ pub fn write_report<S: SeqObject, K: Sink>(
     // Where the form is a certificate, what was delivered by the report has a legal order.
     requires form { HasForm (S.spec sequential.now) form report.now }
 
-    // What was written, with each status, is that of this report.
+    // What the sink has taken fits the status: all that the form shows of this report, a prefix of
+    // it with `WriteFault`, and nothing with `NoMemory`.
     ensures ends { RunEnds (S.spec sequential.now) (λ other. other ≡ report.now) form result
         (K.taken sink.old) (K.taken sink.new) }
 
-    // Where a line of the report is an error, the status is `Found`, failed writes and want of
-    // memory aside.
+    // Where a line of the report is an error, the status is `Found`, or `WriteFault` after a failed
+    // write, or `NoMemory` where memory was lacking.
     ensures found { list_any any_error report.now.lines ≡ true →
         (result ≡ Status.Found) ⊎ (result ≡ Status.WriteFault) ⊎ (result ≡ Status.NoMemory) }
-    // Where no line of the report is an error, the status is `Fine`, failed writes and want of
-    // memory aside.
+    // Where no line of the report is an error, the status is `Fine`, or `WriteFault` after a failed
+    // write, or `NoMemory` where memory was lacking.
     ensures fine { list_any any_error report.now.lines ≡ false →
         (result ≡ Status.Fine) ⊎ (result ≡ Status.WriteFault) ⊎ (result ≡ Status.NoMemory) }
 
-    // The status is `WriteFault` only where the sink's count of faults rose in this call, and
-    // another one only where that count stayed; with `NoMemory` the sink is as it was.
+    // The status is `WriteFault` only where the sink's count of faults rose in this call, and any
+    // other status only where that count stayed. With `NoMemory` the sink is as it was.
     ensures faults { LeavesSink K.faults result sink.old sink.new }
 {
     match shown(alloc, form, sequential, report) {
@@ -52,7 +53,8 @@ pub fn write_report<S: SeqObject, K: Sink>(
     }
 }
 
-/// The status that comes with a report.
+/// The status that is written with a report: `Found` where one of its lines is an error, else
+/// `Fine`.
 fn status_of(report: &Report) -> Status
     ensures { result ≡ status_of report.now }
 {
@@ -63,7 +65,7 @@ fn status_of(report: &Report) -> Status
     }
 }
 
-/// What a form shows of a report.
+/// The text that a form shows of a report.
 fn shown<S: SeqObject>(
     alloc: Global,
     form: Form,

@@ -30,15 +30,15 @@ use std::alloc::Global;
 use std::thread::Threads;
 use world_core::{Outside, Program};
 
-/// Runs all callers of a script over any object behind the trait, each in a thread of its own where
-/// one can be had, and writes what the form shows of their report. The report is lawful: each call
-/// made has its line, and all delivered replies are in one order that is legal for the script's
+/// Runs all callers of a script over an object under test, each in a thread of its own where one
+/// can be had, and writes what the form shows of their report. The report is lawful: each call that
+/// was made has its line, and all delivered replies are in one order that is legal for the script's
 /// kind and keeps the views' precedence. A line is an error only where the published records have
-/// no such order, and no run over linearizable object calls leaves such records (Castañeda and
+/// no legal order, and no run over linearizable object calls leaves such records (Castañeda and
 /// Rodríguez 2023).
 ///
-/// The bench holds all callers, unused, and each has its pass of the object, unused too; afterwards
-/// it holds them all again, and the passes are in their order, whatever the answer.
+/// The bench holds all callers, unused, and each has its pass of the object, unused too. Whatever
+/// the answer, the bench holds them all again afterwards, and the passes are in their order.
 pub fn run_and_write<R: Threads + Sync, B: BlackBox + Sync, K: Sink>(
     rt: &R,
     alloc: Global,
@@ -52,44 +52,46 @@ pub fn run_and_write<R: Threads + Sync, B: BlackBox + Sync, K: Sink>(
 ) -> Status
 where
     B::Pass: Send,
-    // The rows have just the script's callers, and capacity for their calls; the bench is that of
-    // the rows and holds each of these callers, ready and idle, without a call.
+    // The rows have just the script's callers, and capacity for their calls. The bench is a bench
+    // of the rows, and holds each of these callers, live and idle, without a call.
     requires begins { MayBegin ⟦<Outside as Program>⟧.meaning script.now 0 rows.now bench.old }
-    // There is a pass of the object's own for each caller of the script, in order, with which no
-    // call was made, and which has a call for each operation of its caller.
+    // There is a pass of the object's own for each caller of the script, in order. No call was made
+    // with it, and one may be made for each operation of its caller.
     requires passes { AreUnusedPasses (B.is_own object.now) B.Pass.caller B.Pass.made B.Pass.cap
         script.now.operations passes.old.items }
 
-    // Whatever the answer, the bench is still one of these rows, and holds all their callers.
+    // Whatever the answer, the bench is still a bench of `rows`, and holds each of their callers.
     ensures bench { IsBenchOf ⟦<Outside as Program>⟧.meaning rows.now bench.new
         × HoldsAll bench.new }
     // There is one pass for each caller of the script.
     ensures all_passes { vec_len passes.new ≡ length script.now.operations }
-    // Each pass is one of this object's, and that of its caller, in order.
+    // Each pass is one of the object's own, and pass i is that of caller i.
     ensures passes { AreInOrder (IsOwnPass (B.is_own object.now) B.Pass.caller) passes.new.items }
     // Each caller of the script is back on the bench with its pass, and has made a prefix of its
-    // phases: at most as many as the script gives it; its pass counts those of its calls that were
-    // asked.
+    // phases: at most as many as the script gives it. Its pass counts the calls that the object was
+    // asked for.
     ensures back { (i : ℕ) → i < length script.now.operations → IsBackOn
         ⟦<Outside as Program>⟧.meaning rows.now (fits_own (B.is_own object.now) B.Pass.caller)
         (own_count B.Pass.made B.Pass.cap B.Pass.told) script.now.operations
         (run_allotments script.now)
         bench.new passes.new.items i }
 
-    // The headline: what was written, with each status, is that of a lawful report of the locals on
-    // the bench.
+    // The headline: what the sink has taken fits the status. It is all that the form shows of a
+    // lawful report of the locals on the bench, with the calls of the passes; a prefix of it with
+    // `WriteFault`; and nothing with `NoMemory`.
     ensures ends { RunEnds (kind_spec script.now.kind)
         (IsToldBenchReport (kind_spec script.now.kind) ⟦<Outside as Program>⟧.meaning rows.now
         bench.new B.Pass.made B.Pass.told passes.new.items script.now (run_allotments script.now))
         form result (K.taken sink.old) (K.taken sink.new) }
 
-    // The report determines the status, by whether one of its lines is an error, and which callers
-    // are free for their next calls.
+    // Unless a write failed or memory was lacking, the status is `Found` where a line of the report
+    // is an error, and `Fine` where none is. Unless memory was lacking, each caller that has no
+    // error line, and stopped between two calls or made all of them, is free for its next call.
     ensures reported { EndsByReport (kind_spec script.now.kind) ⟦<Outside as Program>⟧.meaning
         rows.now bench.new script.now (run_allotments script.now) result }
 
-    // The status is `WriteFault` only where the sink's count of faults rose in this call, and
-    // another one only where that count stayed; with `NoMemory` the sink is as it was.
+    // The status is `WriteFault` only where the sink's count of faults rose in this call, and any
+    // other status only where that count stayed. With `NoMemory` the sink is as it was.
     ensures faults { LeavesSink K.faults result sink.old sink.new }
 {
     let kind = script.kind();
@@ -99,11 +101,11 @@ where
     }
 }
 
-/// Lets all callers of a script take its turns over any object behind the trait, in one thread, and
-/// writes what the form shows of their report, which is lawful.
+/// Lets all callers of a script take its turns over an object under test, in one thread, and writes
+/// what the form shows of their report, which is lawful.
 ///
-/// The bench holds all callers, unused, and each has its pass of the object, unused too; afterwards
-/// it holds them all again, and the passes are in their order, whatever the answer.
+/// The bench holds all callers, unused, and each has its pass of the object, unused too. Whatever
+/// the answer, the bench holds them all again afterwards, and the passes are in their order.
 pub fn replay_and_write<B: BlackBox, K: Sink>(
     alloc: Global,
     rows: &Rows,
@@ -114,44 +116,46 @@ pub fn replay_and_write<B: BlackBox, K: Sink>(
     form: Form,
     sink: &mut K,
 ) -> Status
-    // The rows have just the script's callers, and capacity for their calls; the bench is that of
-    // the rows and holds each of these callers, ready and idle, without a call.
+    // The rows have just the script's callers, and capacity for their calls. The bench is a bench
+    // of the rows, and holds each of these callers, live and idle, without a call.
     requires begins { MayBegin ⟦<Outside as Program>⟧.meaning script.now 0 rows.now bench.old }
-    // There is a pass of the object's own for each caller of the script, in order, with which no
-    // call was made, and which has a call for each operation of its caller.
+    // There is a pass of the object's own for each caller of the script, in order. No call was made
+    // with it, and one may be made for each operation of its caller.
     requires passes { AreUnusedPasses (B.is_own object.now) B.Pass.caller B.Pass.made B.Pass.cap
         script.now.operations passes.old.items }
 
-    // Whatever the answer, the bench is still one of these rows, and holds all their callers.
+    // Whatever the answer, the bench is still a bench of `rows`, and holds each of their callers.
     ensures bench { IsBenchOf ⟦<Outside as Program>⟧.meaning rows.now bench.new
         × HoldsAll bench.new }
     // There is one pass for each caller of the script.
     ensures all_passes { vec_len passes.new ≡ length script.now.operations }
-    // Each pass is one of this object's, and that of its caller, in order.
+    // Each pass is one of the object's own, and pass i is that of caller i.
     ensures passes { AreInOrder (IsOwnPass (B.is_own object.now) B.Pass.caller) passes.new.items }
     // Each caller of the script is back on the bench with its pass, and has made a prefix of its
-    // phases: at most as many as the script's turns give it; its pass counts those of its calls
-    // that were asked.
+    // phases: at most as many as the script's turns give it. Its pass counts the calls that the
+    // object was asked for.
     ensures back { (i : ℕ) → i < length script.now.operations → IsBackOn
         ⟦<Outside as Program>⟧.meaning rows.now (fits_own (B.is_own object.now) B.Pass.caller)
         (own_count B.Pass.made B.Pass.cap B.Pass.told) script.now.operations
         (replay_allotments script.now)
         bench.new passes.new.items i }
 
-    // The headline: what was written, with each status, is that of a lawful report of the locals on
-    // the bench.
+    // The headline: what the sink has taken fits the status. It is all that the form shows of a
+    // lawful report of the locals on the bench, with the calls of the passes; a prefix of it with
+    // `WriteFault`; and nothing with `NoMemory`.
     ensures ends { RunEnds (kind_spec script.now.kind)
         (IsToldBenchReport (kind_spec script.now.kind) ⟦<Outside as Program>⟧.meaning rows.now
         bench.new B.Pass.made B.Pass.told passes.new.items script.now
         (replay_allotments script.now)) form result (K.taken sink.old) (K.taken sink.new) }
 
-    // The report determines the status, by whether one of its lines is an error, and which callers
-    // are free for their next calls.
+    // Unless a write failed or memory was lacking, the status is `Found` where a line of the report
+    // is an error, and `Fine` where none is. Unless memory was lacking, each caller that has no
+    // error line, and stopped between two calls or made all of them, is free for its next call.
     ensures reported { EndsByReport (kind_spec script.now.kind) ⟦<Outside as Program>⟧.meaning
         rows.now bench.new script.now (replay_allotments script.now) result }
 
-    // The status is `WriteFault` only where the sink's count of faults rose in this call, and
-    // another one only where that count stayed; with `NoMemory` the sink is as it was.
+    // The status is `WriteFault` only where the sink's count of faults rose in this call, and any
+    // other status only where that count stayed. With `NoMemory` the sink is as it was.
     ensures faults { LeavesSink K.faults result sink.old sink.new }
 {
     let kind = script.kind();
@@ -164,12 +168,12 @@ pub fn replay_and_write<B: BlackBox, K: Sink>(
 /// Runs all callers of a script over an object inside the world, each in a thread of its own where
 /// one can be had, and writes what the form shows of their report. The report is lawful and has no
 /// error line: every run of the object's program is linearizable (Herlihy and Wing 1990), and no
-/// such run leaves published records without a legal order (Castañeda and Rodríguez 2023). So the
-/// answer is never that an error was found.
+/// such run leaves published records without a legal order (Castañeda and Rodríguez 2023). The
+/// status is never `Found`.
 ///
 /// The rows were opened with the object's program. The bench holds all callers, unused, and each
-/// has its pass of the object, which fits it; afterwards the bench holds them all again, and each
-/// pass fits the object steps that its caller has made, whatever the answer.
+/// has its pass of the object, which fits it. Whatever the answer, the bench holds them all again
+/// afterwards, and each pass fits the object steps that its caller has made.
 pub fn core_and_write<R: Threads + Sync, O: CoreObject + Sync, K: Sink>(
     rt: &R,
     alloc: Global,
@@ -187,46 +191,46 @@ where
     O::Pass: Send,
     // The rows were opened with the program of this object.
     requires program { AreOpenedWith O.P.meaning (O.program_of object.now) rows.now }
-    // The rows have just the script's callers, and capacity for their calls; the bench is that of
-    // the rows and holds each of these callers, ready and idle, without a call.
+    // The rows have just the script's callers, and capacity for their calls. The bench is a bench
+    // of the rows, and holds each of these callers, live and idle, without a call.
     requires begins { MayBegin O.P.meaning script.now 0 rows.now bench.old }
-    // There is one pass for each caller of the rows, in order, which fits the caller, the number of
-    // callers, the cap, and no object steps.
+    // There is one pass for each caller of the rows, in order. It fits the caller before its first
+    // object step, with the number of callers and the cap of the rows.
     requires passes { ArePassesFor (O.fits object.now) rows.now.callers rows.now.cap
         passes.old.items }
 
-    // Whatever the answer, the bench is still one of these rows, and holds all their callers.
+    // Whatever the answer, the bench is still a bench of `rows`, and holds each of their callers.
     ensures bench { IsBenchOf O.P.meaning rows.now bench.new × HoldsAll bench.new }
     // There is one pass for each caller of the script.
     ensures all_passes { vec_len passes.new ≡ length script.now.operations }
     // Each caller of the script is back on the bench with its pass, which fits the object steps
-    // that it has made, and has made a prefix of its phases: at most as many as the script gives
-    // it.
+    // that it has made. It has made a prefix of its phases: at most as many as the script gives it.
     ensures back { (i : ℕ) → i < length script.now.operations
         → IsBackOn O.P.meaning rows.now (fits_inside (O.fits object.now)) (λ pass. None)
         script.now.operations (run_allotments script.now) bench.new passes.new.items i }
 
-    // The headline: what was written, with each status, is that of a lawful report of the locals on
-    // the bench, which has no error line.
+    // The headline: what the sink has taken fits the status. It is all that the form shows of a
+    // lawful report of the locals on the bench, without an error line; a prefix of it with
+    // `WriteFault`; and nothing with `NoMemory`.
     ensures ends { RunEnds (O.S.spec (O.sequential_of object.now))
         (IsCoreReport (O.S.spec (O.sequential_of object.now)) O.P.meaning rows.now bench.new
         script.now (run_allotments script.now)) form result (K.taken sink.old) (K.taken sink.new) }
 
-    // The status is never that an error was found.
+    // The status is never `Found`.
     ensures right { ¬ (result ≡ Status.Found) }
     // The status is `Fine`, `WriteFault` or `NoMemory`.
     ensures fine { (result ≡ Status.Fine) ⊎ (result ≡ Status.WriteFault)
         ⊎ (result ≡ Status.NoMemory) }
 
-    // Want of memory aside, each caller that by the report has no error and stopped between two
-    // calls, or made all of its calls, is free for its next one.
+    // Unless memory was lacking, each caller that has no error line in the report, and stopped
+    // between two calls or made all of its calls, is free for its next one.
     ensures free { ¬ (result ≡ Status.NoMemory) → (report : Findings)
         → IsBenchReport (O.S.spec (O.sequential_of object.now)) O.P.meaning rows.now bench.new
         script.now (run_allotments script.now) report → (i : ℕ) → i < length script.now.operations
         → IsFreeAgain bench.new (run_allotments script.now) report i }
 
-    // The status is `WriteFault` only where the sink's count of faults rose in this call, and
-    // another one only where that count stayed; with `NoMemory` the sink is as it was.
+    // The status is `WriteFault` only where the sink's count of faults rose in this call, and any
+    // other status only where that count stayed. With `NoMemory` the sink is as it was.
     ensures faults { LeavesSink K.faults result sink.old sink.new }
 {
     match run_core(rt, alloc, rows, bench, object, passes, script) {

@@ -17,8 +17,8 @@ in_second_call second published = record fresh {
   seen = (1 ∷ []) ∷ [];
 }
 
--- A pass of the first caller: how many calls were made with it, and the calls that it tells of,
--- where it tells of any.
+-- A pass of the first caller: how many calls were made with it, and, where it tells of its calls,
+-- the operation and the reply of each.
 pub record Pass : Type 0 where
   pub made : ℕ
   pub told : Option (List (ℕ × ℕ))
@@ -32,12 +32,12 @@ IsBackAfter given p l pass =
     (λ (pass : Pass). Some (record { made = pass.made; room = 2; told = pass.told }))
     ((5 ∷ 7 ∷ []) ∷ []) (given ∷ []) 0 p l pass
 
--- This local, with an object step in its second call.
+-- The local `l`, but with an object step in its second call.
 abbrev pub with_object_step : Local → Local
 with_object_step l =
     record l { object_steps = [] ∷ (record { place = 0; old = 0; new = 1 } ∷ []) ∷ [] }
 
--- A pass that tells of no calls, with which this many were made.
+-- A pass with which this many calls were made, and that tells of none.
 abbrev pub silent_pass : ℕ → Pass
 silent_pass made = record { made = made; told = None }
 

@@ -1,8 +1,8 @@
 -- Lists with an item for each of n callers.
 use Rattle.std.specs.Prelude.{◌≡◌, ℕ, ◌+◌, List, Some, slice_get}
 
--- The items are those of the callers below n, the last caller first: item j is that of caller n - 1
--- - j.
+-- The items are those of the callers below n, the last caller first: item 0 is that of caller
+-- n - 1, and the last item is that of caller 0.
 abbrev pub AreDownFrom : {X : Type 0} → ℕ → (ℕ → X → Type 0) → List X → Type 0
 AreDownFrom {X} n Is xs = (i j : ℕ) (x : X) → i + j + 1 ≡ n → slice_get xs j ≡ Some x → Is i x
 

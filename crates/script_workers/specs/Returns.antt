@@ -24,7 +24,8 @@ use Rattle.script_workers.specs.Starts.{RunCourse, IsClientOf}
 use Rattle.script_workers.specs.declared.worker.Worker.{Worker}
 
 module _ {P T E : Type 0} where
-  -- The worker of caller i, whose client has spent all its phases.
+  -- The worker is that of caller i, and its client has made all phases of its allotment, or was
+  -- halted within it.
   pub record IsSpent (meaning : P → ℕ → ℕ → Meaning) (r : Rows P) (says : Says)
       (object : E → SeqSpec) (fits : Fits T) (count : T → Option PassCount) (course : RunCourse)
       (i : ℕ) (w : Worker P T E) : Type 0 where
@@ -33,8 +34,8 @@ module _ {P T E : Type 0} where
     pub of : IsClientOf meaning r says object fits count course i client
     pub spent : HasSpent (slice_index course.allotments i) client
 
--- What a pass counts of a caller that has made p phases: the object was asked as often as p phases
--- ask it, and the pass, where it tells anything, tells of these calls.
+-- What the pass of a caller counts after p phases of the caller: how often the object was asked in
+-- these phases. Where the pass tells calls, it tells an operation and a reply for each of them.
 pub record IsCountOf (p : ℕ) (l : Local) (count : PassCount) : Type 0 where
   pub asked_for : count.made ≡ asked p
   pub told_is : IfSome count.told (IsTold p (calls_in l))
@@ -51,8 +52,8 @@ pub record IsBackWith {T : Type 0} (s : Shape) (fits : Fits T) (count : T → Op
   pub asked : KeepsAsked s.program i p l
   pub counts : IfSome (count pass) (IsCountOf p l)
 
--- Caller i of this course left these lines: those of its allotment, and it made exactly the phases
--- that they determine.
+-- Caller i of this course left these lines, one for each of its calls, and made p phases: exactly
+-- those that the lines and the caller's allotment determine.
 abbrev pub HasLeftLines : Says → ℕ → RunCourse → ℕ → ℕ → Local → List Line → Type 0
 HasLeftLines says n course i p l own =
     HasLeftAt (says course.object) n (operations_at course.operations i)
@@ -66,7 +67,8 @@ pub record StandsAgain {P : Type 0} (b : Bench P) (i phases : ℕ) (l : Local) :
   pub standing : IsLeftStanding phases l stance
 
 module _ {P T : Type 0} where
-  -- Caller i is back on the bench, with its pass among these.
+  -- Caller i is back on the bench after some phases of its allotment, with a stance that fits them,
+  -- and item i of these passes is its pass.
   pub record IsBackOn (meaning : P → ℕ → ℕ → Meaning) (r : Rows P) (fits : Fits T)
       (count : T → Option PassCount) (operations : List (List ℕ)) (allotments : List ℕ)
       (b : Bench P) (passes : List T) (i : ℕ) : Type 0 where
@@ -78,9 +80,9 @@ module _ {P T : Type 0} where
     pub back : IsBackWith (shape_of meaning r) fits count operations allotments i phases local pass
     pub stands : StandsAgain b i phases local
 
-  -- Caller i is back on the bench with its pass, and its lines are among these. Where no line is an
-  -- error and it stopped between two calls, or made all of them, it is free for its next call.
-  -- Where memory was wanted, of whichever caller, nothing is said of lines.
+  -- Caller i is back on the bench with its pass, and item i of `lines` has its lines. Where no line
+  -- is an error and it stopped between two calls, or made all of them, it is free for its next
+  -- call. Where memory was lacking, for whichever caller (`wanted`), its lines may be any.
   pub record IsBack (meaning : P → ℕ → ℕ → Meaning) (r : Rows P) (says : Says) (fits : Fits T)
       (count : T → Option PassCount) (course : RunCourse) (b : Bench P) (passes : List T)
       (lines : List (List Line)) (wanted : Bool) (i : ℕ) : Type 0 where
@@ -91,7 +93,7 @@ module _ {P T : Type 0} where
         → on.stands.stance ≡ fresh_stance
     pub left : wanted ≡ false → HasLeftLines says r.callers course i on.phases on.local own
 
-  -- Of the first n callers those below k are back, and no other.
+  -- Of the callers below n, those below k are back on the bench, and no other one is on it.
   pub record AreBack (meaning : P → ℕ → ℕ → Meaning) (r : Rows P) (says : Says) (fits : Fits T)
       (count : T → Option PassCount) (n k : ℕ) (course : RunCourse) (b : Bench P) (passes : List T)
       (lines : List (List Line)) (wanted : Bool) : Type 0 where

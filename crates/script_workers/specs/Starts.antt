@@ -84,7 +84,8 @@ module _ {P : Type 0} where
     pub callers : r.callers ≡ length plan.operations + beside
     pub others : (i : ℕ) → length plan.operations ≤ i → i < r.callers → IsUnused b i
 
-  -- The two benches hold the same callers from caller n on, with the same stances.
+  -- Of each caller from caller n on, the two benches have the same local and the same stance, or
+  -- neither bench has any.
   abbrev pub AreAlikeFrom : ℕ → Bench P → Bench P → Type 0
   AreAlikeFrom n b c = (i : ℕ) → n ≤ i → (on_bench c i ≡ on_bench b i)
       × (stance_on c i ≡ stance_on b i)
@@ -96,20 +97,20 @@ module _ {P : Type 0} where
     pub gone : (i : ℕ) → k ≤ i → i < n → on_bench c i ≡ None
     pub others : AreAlikeFrom n b c
 
--- An empty list of lines with capacity for one of each operation of caller i.
+-- The list has no line, and capacity for a line for each operation of caller i.
 pub record IsCapacityFor (operations : List (List ℕ)) (i : ℕ) (own : Own) : Type 0 where
   pub none : own.lines.items ≡ []
   pub has_capacity : length (operations_at operations i) ≤ vec_capacity own.lines
 
--- A pass that counts its calls is new: no call was made with it, it has a call for each of this
--- many operations, and it tells of none.
+-- The count is that of a new pass: no call was made with it, it allows as many calls as there are
+-- operations, and it tells of none.
 pub record IsNewCount (operations : ℕ) (count : PassCount) : Type 0 where
   pub none : count.made ≡ 0
   pub has_capacity : operations ≤ count.room
   pub silent : IfSome count.told (λ pairs. pairs ≡ [])
 
--- The pass of caller i of these rows, with which no call was made: it fits the caller without
--- object steps, and where it counts it has a call for each operation.
+-- The pass is one of caller i of these rows with which no call was made. It fits the caller without
+-- object steps, and where it counts calls, one may be made for each operation of the caller.
 pub record IsFreshPass {P T : Type 0} (r : Rows P) (fits : Fits T) (count : T → Option PassCount)
     (operations : List (List ℕ)) (i : ℕ) (pass : T) : Type 0 where
   pub fits_caller : fits r.callers r.cap pass i []
@@ -124,14 +125,16 @@ pub record AreFreshPasses {P T : Type 0} (r : Rows P) (fits : Fits T) (count : T
 module _ {P T E : Type 0} (meaning : P → ℕ → ℕ → Meaning) (r : Rows P) (says : Says)
     (object : E → SeqSpec) (fits : Fits T) (count : T → Option PassCount) (course : RunCourse)
     (i : ℕ) where
-  -- The client of caller i, which is at work on this course.
+  -- The client is that of caller i, at work with the operations and the sequential object of this
+  -- course.
   pub record IsClientOf (c : Client P T E) : Type 0 where
     pub work : IsAtWork meaning r says object fits count c
     pub who : c.sheet.who ≡ i
     pub operations : c.sheet.operations.now ≡ operations_at course.operations i
     pub judges : object c.sheet.ending ≡ course.object
 
-  -- The worker of caller i, before its first phase.
+  -- The worker is that of caller i, before its first phase: its client is at work on this course,
+  -- and it has the caller's whole allotment left.
   pub record IsStart (w : Worker P T E) : Type 0 where
     pub client : Client P T E
     pub here : w.client ≡ Some client

@@ -13,9 +13,9 @@ use Rattle.script_workers.specs.declared.worker.Worker.{Worker}
 
 module _ {P T E : Type 0} (meaning : P → ℕ → ℕ → Meaning) (r : Rows P) (says : Says)
     (object : E → SeqSpec) (fits : Fits T) (count : T → Option PassCount) where
-  -- The worker of caller i, after this many turns that named it: its client has spent a phase at
-  -- each, but none beyond its allotment, and where it isn't halted it has the other phases of its
-  -- allotment left.
+  -- The worker is that of caller i after this many turns that named it. Its client has made a phase
+  -- at each of them, but none beyond its allotment, or was halted before. Where it isn't halted,
+  -- the worker has the other phases of the allotment left.
   pub record IsTurned (course : RunCourse) (i turns : ℕ) (w : Worker P T E) : Type 0 where
     pub client : Client P T E
     pub here : w.client ≡ Some client
@@ -25,8 +25,8 @@ module _ {P T E : Type 0} (meaning : P → ℕ → ℕ → Meaning) (r : Rows P)
         → phases_by client + w.allotment ≡ slice_index course.allotments i
     pub within : slice_index course.allotments i ≤ 5 * length client.sheet.operations.now
 
-  -- A worker may take a turn: its client is at work and, where it isn't halted, has at least as
-  -- many phases left as the worker.
+  -- A worker may take a turn: its client is at work, and, where it isn't halted, has at least as
+  -- many phases left as the worker is to make.
   pub record IsTurning (w : Worker P T E) : Type 0 where
     pub client : Client P T E
     pub here : w.client ≡ Some client

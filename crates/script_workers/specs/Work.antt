@@ -14,7 +14,8 @@ use Rattle.client_calls.specs.Keeping.{KeepsStanding}
 use Rattle.client_calls.specs.declared.client.Client.{Client}
 use Rattle.script_workers.specs.declared.worker.Worker.{Worker}
 
--- What the end of a line says, by a sequential object.
+-- What the end of a line says, by the sequential object, the number of callers, the local of the
+-- call's caller, and the record and the seen cut of the call.
 abbrev pub Says : Type 1
 Says = SeqSpec → ℕ → Local → Record → List ℕ → LineEnd → Type 0
 
@@ -22,17 +23,17 @@ Says = SeqSpec → ℕ → Local → Record → List ℕ → LineEnd → Type 0
 -- of lines say, and by which object an ending judges; whom a pass fits, and what it counts.
 module _ {P T E : Type 0} (meaning : P → ℕ → ℕ → Meaning) (r : Rows P) (says : Says)
     (object : E → SeqSpec) (fits : Fits T) (count : T → Option PassCount) where
-  -- A client is at work: it has come to its state and its lines, its pass fits its caller and
-  -- agrees with them, there is capacity for all its calls, and the order that it keeps is one of
-  -- its object's.
+  -- A client is at work: its lines and its local are those of the phases that it has made, its pass
+  -- fits its caller and agrees with these phases, it has capacity for all its calls, and its kept
+  -- order stands in its kept book, judged by its object.
   pub record IsAtWork (c : Client P T E) : Type 0 where
     pub course : IsUnderWay meaning r (says (object c.sheet.ending)) c
     pub pass : HasPass fits count c
     pub has_capacity : HasCapacity r c
     pub stands : KeepsStanding (object c.sheet.ending) c.sheet
 
-  -- A worker is ready: the object serves its caller, and its client is at work, isn't halted, and
-  -- has at least as many phases left as the worker.
+  -- A worker is ready: its caller may ask the object (`serves`), and its client is at work, isn't
+  -- halted, and has at least as many phases left as the worker is to make.
   pub record IsReady (serves : Type 0) (w : Worker P T E) : Type 0 where
     pub served : serves
     pub client : Client P T E
@@ -41,7 +42,8 @@ module _ {P T E : Type 0} (meaning : P → ℕ → ℕ → Meaning) (r : Rows P)
     pub goes : GoesOnFrom client.stand
     pub left : phases_by client + w.allotment ≤ 5 * length client.sheet.operations.now
 
-  -- A worker has run: its client has spent its phases, and is still at work.
+  -- A worker has run: its client is still at work, and has made as many phases as the worker was to
+  -- make, or was halted within them.
   pub record HasRun (w d : Worker P T E) : Type 0 where
     pub before : Client P T E
     pub after : Client P T E

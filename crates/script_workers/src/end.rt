@@ -17,8 +17,8 @@ use row_table::Bench;
 use world_core::Program;
 
 // Finishes the client of a caller, brings the caller back to its bench, and puts its pass and its
-// lines after those of the callers before it. The answer is whether the caller's last call wasn't
-// judged for want of memory.
+// lines after those of the callers before it. The answer is whether the caller's last call was left
+// unjudged for want of memory.
 fn bring_back<'a, P: Program, T, E: Ending + Drop, A: Asks<Program = P, Pass = T>>(
     shared: &Shared<A, P>,
     _script: &Script,
@@ -67,11 +67,11 @@ fn bring_back<'a, P: Program, T, E: Ending + Drop, A: Asks<Program = P, Pass = T
     wants_memory
 }
 
-/// Finishes the clients of all workers, and brings their callers back to their bench, with their
-/// passes and lines in order, whatever the answer.
+/// Finishes the clients of all workers, and brings their callers back to their bench, and their
+/// passes back into their list, by caller. It does so whether it answers lines or an error.
 ///
-/// The answer is the lines of each caller, in order, or want of memory where a judgement wanted it.
-/// The pace says how many phases each caller was given.
+/// The answer is the list of each caller's lines, by caller, or `NoMemory` where a call was left
+/// unjudged for want of memory. The pace says how many phases each caller was given.
 pub fn end_all<'a, P: Program, T, E: Ending + Drop, A: Asks<Program = P, Pass = T>>(
     shared: &Shared<A, P>,
     script: &Script,
@@ -84,18 +84,18 @@ pub fn end_all<'a, P: Program, T, E: Ending + Drop, A: Asks<Program = P, Pass = 
 ) -> Result<Vec<Own>, NoMemory>
     // There is one worker for each caller of the script.
     requires all { vec_len workers ≡ length script.now.operations }
-    // The workers are those of the script's callers, from the last one on, and each has its client,
-    // at work on the script's course at this pace, which has made all phases of its allotment or
-    // was halted before.
+    // The workers are those of the script's callers, the last caller's first. Each has its client,
+    // with the operations of its caller and the allotment at this pace, and the client has made all
+    // phases of its allotment or was halted within it.
     requires workers { AreDownFrom (length script.now.operations)
         (IsSpent P.meaning shared.now.rows.now E.says E.object (A.fits shared.now.asks.now) A.count
         (course_of script.now (allotments_by pace script.now) (E.object ending.now)))
         workers.items }
     // The list of lines is empty.
     requires no_lines { lines.items ≡ [] }
-    // The list of lines has capacity for those of each caller of the script.
+    // The list of lines has capacity for one list for each caller of the script.
     requires lines { length script.now.operations ≤ vec_capacity lines }
-    // The bench is one of these rows.
+    // The bench is a bench of the shared rows.
     requires bench { IsBenchOf P.meaning shared.now.rows.now bench.old }
     // The bench holds none of the script's callers.
     requires gone { (i : ℕ) → i < length script.now.operations → on_bench bench.old i ≡ None }
@@ -103,7 +103,7 @@ pub fn end_all<'a, P: Program, T, E: Ending + Drop, A: Asks<Program = P, Pass = 
     requires no_passes { passes.old.items ≡ [] }
     // The list of passes has capacity for one for each caller of the script.
     requires passes { length script.now.operations ≤ vec_capacity passes.old }
-    // The bench is still one of these rows.
+    // The bench is still a bench of the shared rows.
     ensures bench { IsBenchOf P.meaning shared.now.rows.now bench.new }
     // The callers after those of the script are on the bench as before.
     ensures others { AreAlikeFrom (length script.now.operations) bench.old bench.new }
@@ -112,16 +112,16 @@ pub fn end_all<'a, P: Program, T, E: Ending + Drop, A: Asks<Program = P, Pass = 
     // The list of passes has at least the capacity that it had.
     ensures capacity { vec_capacity passes.old ≤ vec_capacity passes.new }
     // Each caller of the script is back on the bench with its pass, which fits it, and has made a
-    // prefix of its phases: at most as many as its allotment; where the pass counts calls, it
-    // counts those that were asked.
+    // prefix of its phases: at most as many as its allotment. A pass that counts calls counts those
+    // that the object was asked for.
     ensures back { (i : ℕ) → i < length script.now.operations
         → IsBackOn P.meaning shared.now.rows.now (A.fits shared.now.asks.now) A.count
         script.now.operations (allotments_by pace script.now) bench.new passes.new.items i }
     // Where lines are answered, there is one list of them for each caller of the script.
     ensures all_lines { IfOk result (λ lines. vec_len lines ≡ length script.now.operations) }
-    // Where lines are answered, each caller's lines are those of its allotment and of just the
-    // phases that it has made. A caller without an error line that stopped between two calls, or
-    // made all of its calls, is then free for its next call.
+    // Where lines are answered, each caller has a line for each of its calls, and its lines and its
+    // allotment determine just the phases that it has made. A caller without an error line that
+    // stopped between two calls, or made all of its calls, is then free for its next call.
     ensures lines { IfOk result (λ lines. AreBack P.meaning shared.now.rows.now E.says
         (A.fits shared.now.asks.now) A.count
         (length script.now.operations) (length script.now.operations)

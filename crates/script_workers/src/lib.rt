@@ -1,5 +1,5 @@
-//! All callers of a bench at work: they are taken off the bench into clients, work, and are brought
-//! back.
+//! The callers of a script at work: they are taken off their bench into clients, make their phases,
+//! and are brought back.
 #![tactic(auto)]
 
 pub mod cases;

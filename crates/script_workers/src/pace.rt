@@ -1,8 +1,8 @@
-/// How the callers of a script work.
+/// Whether the callers of a script work each by itself, or take turns.
 #[derive(Clone, Copy, Debug, PartialEq, Eq)]
 pub enum Pace {
     /// Each caller works by itself, up to its stop.
     Alone,
-    /// Each caller takes the turns that name it, up to its stop.
+    /// Each caller makes a phase at each turn that names it, up to its stop.
     ByTurns,
 }

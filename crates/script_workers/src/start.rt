@@ -18,7 +18,7 @@ use world_core::Program;
 /// How many phases a script gives a caller: those up to its stop, where it has one, and else all
 /// five of each call.
 pub fn allotment_of(script: &Script, who: u32) -> u64
-    // The script is one that texts of version 2 have.
+    // The script is one that a text of version 2 can have.
     requires plan { IsPlan Second script.now }
     // The caller is one of the script's.
     requires who { who < length script.now.operations }
@@ -33,7 +33,8 @@ pub fn allotment_of(script: &Script, who: u32) -> u64
     }
 }
 
-// The worker of a caller that is off its bench and has made no call, for the phases up to its stop.
+// A worker that has made no phase, for a caller that is off its bench and has made no call. The
+// worker's allotment is the phases up to the caller's stop.
 fn begin<'a, P: Program, T, E: Ending, A: Asks<Program = P, Pass = T>>(
     _shared: &Shared<A, P>,
     caller: Caller<P>,
@@ -99,8 +100,8 @@ fn make_capacity(alloc: Global, script: &Script) -> Result<Vec<Own>, NoMemory>
 /// for the phases up to its stop. It answers the workers, and an empty list for the lines of all
 /// callers.
 ///
-/// The passes are the callers', in order, and each worker gets an ending such as this one. Where
-/// memory is wanted, nothing is done.
+/// The list `passes` has the callers' passes, in order, and each worker gets an ending of the kind
+/// of `ending`. Where memory is lacking, no caller leaves the bench, and no pass the list.
 pub fn start_all<'a, P: Program, T, E: Ending, A: Asks<Program = P, Pass = T>>(
     alloc: Global,
     shared: &Shared<A, P>,
@@ -109,22 +110,22 @@ pub fn start_all<'a, P: Program, T, E: Ending, A: Asks<Program = P, Pass = T>>(
     script: &'a Script,
     ending: &E,
 ) -> Result<(Vec<Worker<'a, P, T, E>>, Vec<Own>), NoMemory>
-    // The rows have capacity for the script's callers and their calls, and the bench is that of the
-    // rows and holds each of these callers, ready and idle, without a call.
+    // The rows have capacity for the script's callers and their calls. The bench is a bench of the
+    // rows, and holds each of these callers, live and idle, without a call.
     requires starts { MayStart P.meaning script.now shared.now.rows.now bench.old }
-    // There is a pass for each caller of the script, in order, which fits the caller; where it
-    // counts calls, none was made with it, and it has one for each operation.
+    // There is a pass for each caller of the script, in order, which fits the caller. Where it
+    // counts calls, none was made with it, and one may be made for each operation of the caller.
     requires passes { AreFreshPasses shared.now.rows.now (A.fits shared.now.asks.now) A.count
         script.now.operations passes.old.items }
-    // The bench is still one of these rows.
+    // The bench is still a bench of the shared rows.
     ensures bench { IsBenchOf P.meaning shared.now.rows.now bench.new }
     // The callers after those of the script are on the bench as before.
     ensures others { AreAlikeFrom (length script.now.operations) bench.old bench.new }
     // The list of passes keeps its capacity.
     ensures capacity { vec_capacity passes.new ≡ vec_capacity passes.old }
-    // Where memory is wanted, the callers may still start.
+    // Where memory is lacking, the callers may still start.
     ensures starts { OnErr result (MayStart P.meaning script.now shared.now.rows.now bench.new) }
-    // Where memory is wanted, the passes are still in the list, as they were.
+    // Where memory is lacking, the passes are still in the list, as they were.
     ensures passes { OnErr result (AreFreshPasses shared.now.rows.now (A.fits shared.now.asks.now)
         A.count script.now.operations passes.new.items) }
     // Where workers are answered, the bench holds none of the script's callers any more.
@@ -134,14 +135,14 @@ pub fn start_all<'a, P: Program, T, E: Ending, A: Asks<Program = P, Pass = T>>(
     ensures no_passes { OnOk result (passes.new.items ≡ []) }
     // There is one worker for each caller of the script.
     ensures all { IfOk result (λ r. vec_len r.0 ≡ length script.now.operations) }
-    // The workers are those of the script's callers, from the last one on, and each has its client,
-    // at work on the course that the script gives, before its first phase.
+    // The workers are those of the script's callers, the last caller's first. Each has its client,
+    // before its first phase, with the operations of its caller and the allotment up to its stop.
     ensures workers { IfOk result (λ r. AreDownFrom (length script.now.operations)
         (IsStart P.meaning shared.now.rows.now E.says E.object (A.fits shared.now.asks.now) A.count
         (course_of script.now (run_allotments script.now) (E.object ending.now))) r.0.items) }
-    // The list of lines is empty.
+    // The answered list of lines is empty.
     ensures no_lines { IfOk result (λ r. r.1.items ≡ []) }
-    // The list of lines has capacity for those of each caller of the script.
+    // The list of lines has capacity for one list for each caller of the script.
     ensures room { IfOk result (λ r. length script.now.operations ≤ vec_capacity r.1) }
 {
     let mut left = script.callers();

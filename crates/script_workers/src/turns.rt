@@ -44,9 +44,9 @@ impl<'a, P: Program, T, E: Ending> Worker<'a, P, T, E> {
     }
 }
 
-/// Lets the workers of a script's callers make their phases in the order of its turns, in one
-/// thread. At each turn the worker of the caller that the turn names makes its next phase, where a
-/// phase is left up to its stop and the worker isn't halted. One counter counts the steps of all
+/// Lets the workers of a script's callers make their phases in the order of the script's turns, in
+/// one thread. At each turn the worker of the caller that the turn names makes its next phase,
+/// unless the caller has reached its stop or is halted. One counter counts the steps of all
 /// callers.
 pub fn take_turns<'a, P: Program, T, E: Ending, A: Asks<Program = P, Pass = T>, L: Ledger>(
     shared: &Shared<A, P>,
@@ -55,22 +55,23 @@ pub fn take_turns<'a, P: Program, T, E: Ending, A: Asks<Program = P, Pass = T>, 
     workers: &mut Vec<Worker<'a, P, T, E>>,
     blank: Blank,
 )
-    // The blank is of this ledger, and has a part left.
+    // The blank is one for a counter of the ledger `L`, and isn't used up.
     requires blank { (blank.name ≡ L.name) × (blank.parts ≡ L.parts) × (0 < blank.parts) }
-    // These rows are those whose callers may ask the object.
+    // The callers of the shared rows may ask the object.
     requires serves { A.serves shared.now.asks.now shared.now.rows.now }
     // There is one worker for each caller of the script.
     requires all { length workers.old.items ≡ length script.now.operations }
-    // The workers are those of the script's callers, from the last one on, and each has its client,
-    // at work on the course that the script gives, before its first phase.
+    // The workers are those of the script's callers, the last caller's first. Each has its client,
+    // before its first phase, with the operations of its caller and the allotment up to its stop.
     requires workers { AreDownFrom (length script.now.operations)
         (IsStart P.meaning shared.now.rows.now E.says E.object (A.fits shared.now.asks.now) A.count
         (course_of script.now (run_allotments script.now) (E.object _ending.now)))
         workers.old.items }
     // There is still one worker for each caller of the script.
     ensures all { length workers.new.items ≡ length script.now.operations }
-    // Each worker's client has made as many phases as turns name its caller, up to its stop, or was
-    // halted before it had made them.
+    // The workers are still those of the script's callers, the last caller's first. The client of
+    // each has made a phase for each turn that names its caller, up to its stop, or was halted
+    // before.
     ensures workers { AreDownFrom (length script.now.operations)
         (IsSpent P.meaning shared.now.rows.now E.says E.object (A.fits shared.now.asks.now) A.count
         (course_of script.now (replay_allotments script.now) (E.object _ending.now)))

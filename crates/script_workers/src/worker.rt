@@ -12,14 +12,15 @@ use std::thread::Threads;
 use work_halves::{Work, work_all};
 use world_core::Program;
 
-/// A client, and how many further phases it is to make.
+/// A client, and how many further phases it is to make. The client is `None` only while it makes
+/// phases.
 pub struct Worker<'a, P, T, E> {
     pub client: Option<Client<'a, P, T, E>>,
     pub allotment: u64,
 }
 
-// Makes this many further phases of the client, or those up to where it is halted. Its steps are
-// counted on their own.
+// Makes `count` further phases of the client, or fewer where it is halted within them. The steps
+// are counted by a counter that is made from `blank`.
 fn run_counted<'a, P: Program, T, E: Ending, A: Asks<Program = P, Pass = T>, L: Ledger>(
     client: Client<'a, P, T, E>,
     shared: &Shared<A, P>,
@@ -82,12 +83,13 @@ pub fn run_workers<
     E: Ending + Send,
     A: Asks<Program = P, Pass = T> + Sync,
 >(rt: &R, shared: &Shared<A, P>, workers: &mut Vec<Worker<'a, P, T, E>>)
-    // Each worker is ready: the object serves these rows, and its client is at work, isn't halted,
-    // and has as many phases left as it is to make.
+    // Each worker is ready: the callers of the shared rows may ask the object, and the worker's
+    // client is at work, isn't halted, and has at least as many phases left as it is to make.
     requires { All (IsReady P.meaning shared.now.rows.now E.says E.object
         (A.fits shared.now.asks.now) A.count
         (A.serves shared.now.asks.now shared.now.rows.now)) workers.old.items }
-    // Each worker's client has made these phases, or was halted within them.
+    // Each worker's client has made as many phases as the worker was to make, or was halted within
+    // them.
     ensures { AllZip (HasRun P.meaning shared.now.rows.now E.says E.object
         (A.fits shared.now.asks.now) A.count) workers.old.items workers.new.items }
 {

@@ -14,7 +14,8 @@ behaviours = Lawful ∷ Tally ∷ Cell ∷ Lossy ∷ Twice ∷ Late ∷ Invent �
 unfoldable pub behaviour_named : List ℕ → Option Behaviour
 behaviour_named name = find (λ behaviour. bytes_eq (behaviour_name behaviour) name) behaviours
 
--- the number that a word spells in decimal digits, where it is one of a soak: at most 4,294,967,295
+-- the number of a soak that a word spells in decimal digits without leading zeros: at most
+-- 4,294,967,295
 unfoldable pub soak_number : List ℕ → Option ℕ
 soak_number word =
     let number = digits_value 10 word in

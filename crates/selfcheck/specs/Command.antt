@@ -20,7 +20,7 @@ words_of (Certify behaviour) = codes "certify" ∷ behaviour_name behaviour ∷ 
 words_of (Monitor behaviour) = codes "monitor" ∷ behaviour_name behaviour ∷ []
 words_of (Soak number) = codes "soak" ∷ decimal number ∷ []
 
--- A command that words can name: the number of a soak is at most 4,294,967,295.
+-- The command is one that words can name: if it is a soak, its number is at most 4,294,967,295.
 abbrev pub CanBeNamed : Command → Type 0
 CanBeNamed (Soak number) = number ≤ 4294967295
 CanBeNamed _ = Unit {0}
@@ -35,7 +35,7 @@ lone_commands =
     ∷ (codes "sets", Sets)
     ∷ []
 
--- The first of these commands that has this word.
+-- The command of the first row that has this word, where one has it.
 abbrev pub named_in : List (List ℕ × Command) → List ℕ → Option Command
 named_in [] word = None
 named_in (row ∷ rows) word = if bytes_eq word row.0 then Some row.1 else named_in rows word
@@ -54,18 +54,19 @@ argued_commands =
     ∷ (codes "soak", λ argument. option_map Soak (soak_number argument))
     ∷ []
 
--- Whether one of these commands has this word.
+-- Whether a row of this table of commands has this word.
 abbrev pub names_argued : List (List ℕ × (List ℕ → Option Command)) → List ℕ → Bool
 names_argued [] word = false
 names_argued (row ∷ rows) word = if bytes_eq word row.0 then true else names_argued rows word
 
--- The command that the first of these commands with this word is for this argument.
+-- The command that the first row with this word reads from this argument, where a row has this word
+-- and the argument is right for it.
 abbrev pub argued_in : List (List ℕ × (List ℕ → Option Command)) → List ℕ → List ℕ → Option Command
 argued_in [] word argument = None
 argued_in (row ∷ rows) word argument =
     if bytes_eq word row.0 then row.1 argument else argued_in rows word argument
 
--- whether the command with this word has an argument
+-- whether a command that has an argument has this word
 unfoldable pub has_argument : List ℕ → Bool
 has_argument word = names_argued argued_commands word
 
@@ -93,7 +94,8 @@ reads_source (Certify behaviour) = true
 reads_source (Monitor behaviour) = true
 reads_source (Soak number) = false
 
--- The command words name a command exactly where they are its words.
+-- The command words name a command exactly where they are its words and, if it is a soak, its
+-- number is at most 4,294,967,295.
 abbrev pub HaveTheirCommand : Type 0
 HaveTheirCommand = (words : List (String Global)) (command : Command)
     → (command_of words ≡ Some command)

@@ -1,4 +1,4 @@
--- The command line as clap reads it, and which words are handed to it.
+-- The command line as clap reads it, and which command words are handed to clap.
 use Rattle.std.specs.Prelude.{ℕ, ◌==◌, ◌&&◌, ◌++◌, Bool, true, false, not, List, [], ◌∷◌, Option, Some, None, map, codes, String, string_bytes}
 use Rattle.std.specs.declared.alloc.Global.{Global}
 use Rattle.clap.specs.Simple.{App, Shape, new_rule, new_shape}
@@ -34,8 +34,8 @@ abbrev pub begins_with_hyphen : List ℕ → Bool
 begins_with_hyphen [] = false
 begins_with_hyphen (byte ∷ bytes) = byte == 45
 
--- Whether words are handed to clap: they are two where the first is that of a command with an
--- argument, and else one, and none begins with a hyphen.
+-- Whether the command words are handed to clap: there are two words, of which the first is that of
+-- a command with an argument, or one word, which isn't; and no word begins with a hyphen.
 unfoldable pub is_parsed : List (String Global) → Bool
 is_parsed [] = false
 is_parsed (word ∷ []) =
@@ -44,11 +44,12 @@ is_parsed (word ∷ argument ∷ []) =
     has_argument (string_bytes word) && not (begins_with_hyphen (string_bytes argument))
 is_parsed (word ∷ argument ∷ third ∷ rest) = false
 
--- The subcommand that clap meets, and its argument where it has one.
+-- The subcommand that clap has read, and its argument where it has one.
 abbrev pub met_in : Text × List Row → Text × Option Text
 met_in p = (p.0, first_of (codes "argument") p.1)
 
--- The command of a subcommand and its argument.
+-- The command for the subcommand and the argument that clap has read, and `None` where they name no
+-- command.
 abbrev pub command_met : Option (Text × Option Text) → Option Command
 command_met None = None
 command_met (Some (name, None)) = lone_command name

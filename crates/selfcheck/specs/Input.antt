@@ -1,4 +1,4 @@
--- Which inputs are refused, and for what.
+-- For which fault an input is refused.
 use Rattle.std.specs.Prelude.{◌≡◌, ◌⊎◌, ℕ, ◌<◌, ◌≤◌, List, length}
 use Rattle.book_base.specs.declared.fault.TextFault.{TextFault}
 use Rattle.book_base.specs.declared.fault.What.TheVariants.{Long}

@@ -14,7 +14,8 @@ use Rattle.faulty_objects.specs.declared.behaviour.Behaviour.{Behaviour}
 use Rattle.byte_streams.specs.declared.status.Status.{Status}
 use Rattle.named_runs.specs.Monitored.{AreNamedMonitored, IsMonitorOutput}
 
--- A plan leaves two callers for the monitors.
+-- The plan leaves two callers for the monitors: it has at least two callers fewer than a table can
+-- have.
 abbrev pub LeavesTwo : Plan → Type 0
 LeavesTwo plan = length plan.operations + 2 ≤ MAX_CALLERS
 
@@ -45,8 +46,8 @@ abbrev pub IsCrowded : List ℕ → Type 0
 IsCrowded bytes = (callers : ℕ) × IsOpening bytes callers × (MAX_CALLERS < callers + 2)
 
 -- The first fault of bytes that are no text of a script that leaves two callers for the monitors:
--- in the third line where this has too many callers, whatever follows it, and else the first fault
--- of a script's text.
+-- in the third line where this has too many callers, whatever follows it, and otherwise the first
+-- fault of a script's text.
 unfoldable pub IsFirstMonitorFault : List ℕ → TextFault → Type 0
 IsFirstMonitorFault bytes fault =
     (IsCrowded bytes × (fault ≡ record { line = 3; what = Callers }))

@@ -5,7 +5,7 @@ use Rattle.text_fields.specs.Lines.{line_text}
 use Rattle.order_check.specs.declared.fault.OrderFault.{OrderFault}
 use Rattle.order_check.specs.declared.fault.OrderFault.TheVariants.{Unknown, Twice, Skipped, Late, Record, Run, Missing}
 
--- The words of a fault: its name, its places or its call, and its replies.
+-- The words of the fault of an order: its name, its places or its call, and its replies.
 abbrev pub fault_words : OrderFault → List (List ℕ)
 fault_words (Unknown p) = codes "Unknown" ∷ decimal p ∷ []
 fault_words (Twice p) = codes "Twice" ∷ decimal p ∷ []

@@ -32,7 +32,8 @@ use Rattle.selfcheck.specs.SetInput.{IsSetInput, IsLegalSetInput, IsIllegalSetIn
 use Rattle.byte_streams.specs.Told.{HasRead, AppendsPart, read_of}
 use Rattle.selfcheck.specs.Upgrade.{IsOldInput, IsFirstOldFault, IsUpgraded}
 
--- A form of texts that a command may want; one that reads no source wants none.
+-- The form of text that a command takes as its input; `NoForm` is for a command that reads no
+-- source.
 pub data InputForm : Type 0 where
   BookForm : InputForm
   CertificateForm : InputForm
@@ -42,7 +43,7 @@ pub data InputForm : Type 0 where
   MonitorForm : InputForm
   NoForm : InputForm
 
--- The form of text that a command wants.
+-- The form of text that a command takes as its input.
 abbrev pub form_of : Command → InputForm
 form_of Verify = BookForm
 form_of Sketch = BookForm
@@ -75,7 +76,8 @@ IsFirstFaultOf ScriptForm bytes fault = IsFirstScriptFault Second bytes fault
 IsFirstFaultOf MonitorForm bytes fault = IsFirstMonitorFault bytes fault
 IsFirstFaultOf NoForm bytes fault = ⊥
 
--- The command takes the bytes: there are few enough, and they are a text of the form that it wants.
+-- The command takes the bytes: there are at most `INPUT_LIMIT` of them, and they are a text of the
+-- form that the command takes.
 abbrev pub IsTaken : Command → List ℕ → Type 0
 IsTaken command bytes = (length bytes ≤ INPUT_LIMIT) × IsTextOf (form_of command) bytes
 
@@ -85,7 +87,7 @@ IsVerdict bytes Fine text = IsLegalBook bytes × (text ≡ codes "legal\n")
 IsVerdict bytes Found text = IsIllegalBook bytes × (text ≡ codes "illegal\n")
 IsVerdict bytes _ text = ⊥
 
--- The text of a book's sketch.
+-- The text is that of the sketch of the book that the bytes are the text of.
 pub record IsSketchText (bytes text : List ℕ) : Type 0 where
   pub kind : Kind
   pub book : List Page
@@ -117,8 +119,8 @@ IsSetVerdict bytes Fine text = IsLegalSetInput bytes × (text ≡ codes "legal\n
 IsSetVerdict bytes Found text = IsIllegalSetInput bytes × (text ≡ codes "illegal\n")
 IsSetVerdict bytes _ text = ⊥
 
--- What a command says of an input that it takes: a status and a text, of which there may be more
--- than one.
+-- What a command may answer to an input that it takes: a status and a text. There may be several
+-- such answers.
 abbrev pub IsAnswerOf : Command → List ℕ → Status → List ℕ → Type 0
 IsAnswerOf Verify bytes status text = IsVerdict bytes status text
 IsAnswerOf Sketch bytes status text = IsSketchOutput bytes status text
@@ -131,20 +133,21 @@ IsAnswerOf (Certify behaviour) bytes status text = IsCertifiedOf behaviour bytes
 IsAnswerOf (Monitor behaviour) bytes status text = IsMonitoredOf behaviour bytes status text
 IsAnswerOf (Soak number) bytes status text = (bytes ≡ []) × IsSoakOf number status text
 
--- The line and the name of the fault for which a command refuses the bytes.
+-- The text has the line and the name of the fault for which a command refuses the bytes.
 abbrev pub IsRefusal : Command → List ℕ → List ℕ → Type 0
 IsRefusal command bytes text = (fault : TextFault)
     × IsRefusedFor (IsFirstFaultOf (form_of command)) bytes fault × (text ≡ refusal_text fault)
 
--- The output of a command for the bytes read: a status and a text. Inputs are refused alike by all
--- commands.
+-- An output of a command for the bytes that it works on: a status and a text. With the status
+-- `Refused` the text tells the fault of the bytes; with any other status the bytes aren't too many,
+-- and the text is an answer of the command to them.
 abbrev pub IsOutputOf : Command → List ℕ → Status → List ℕ → Type 0
 IsOutputOf command bytes Refused text = IsRefusal command bytes text
 IsOutputOf command bytes status text = (length bytes ≤ INPUT_LIMIT)
     × IsAnswerOf command bytes status text
 
--- The command makes a run over an object inside the world: of the script that these bytes are, or,
--- where the command is a soak, of its own script.
+-- The command makes a run over an object inside the world: of the script that the bytes are the
+-- text of, or, where the command is a soak, of the script made from its number.
 abbrev pub RunsInside : Command → List ℕ → Type 0
 RunsInside (Run behaviour) bytes = IsRunInside behaviour bytes
 RunsInside (Certify behaviour) bytes = IsRunInside behaviour bytes
@@ -162,7 +165,8 @@ IsDetermined command = (bytes : List ℕ) (status other : Status) (text text' : 
     → IsOutputOf command bytes status text → IsOutputOf command bytes other text' → (status ≡ other)
     × (text ≡ text')
 
--- Whatever number a soak has, all calls of its script are delivered, and none is an error.
+-- Whatever number a soak has, its output says that all 128 calls of its script are delivered and
+-- none is an error, and its status is `Fine`.
 abbrev pub SoaksDeliverAll : Type 0
 SoaksDeliverAll = (number : ℕ) (status : Status) (text : List ℕ)
     → IsOutputOf (Soak number) [] status text
@@ -182,17 +186,21 @@ abbrev pub IsOutput : List (String Global) → List ℕ → Status → List ℕ 
 IsOutput words bytes status text = MatchOption (command_of words) (IsUsage status text)
     (λ command. IsOutputOf command bytes status text)
 
--- The bytes that a command works on, of those that the source holds.
+-- The bytes that a command works on, where the source holds `held`: those that are read of them,
+-- and none where the command reads no source.
 abbrev pub input_of : Command → List ℕ → List ℕ
 input_of command held = if reads_source command then read_of held else []
 
--- The bytes that a command works on: the source's where it reads one, else none.
+-- A command works on `bytes`: those read from the source, where the command reads one; otherwise
+-- none, and the source is left as it was. `old` and `new` are the bytes that the source had left
+-- before and afterwards.
 abbrev pub ReadsFor : Command → Option (List ℕ) → Option (List ℕ) → List ℕ → Type 0
 ReadsFor command old new bytes =
     MatchBool (reads_source command) (HasRead old new bytes) (Keeps old new × (bytes ≡ []))
 
--- The bytes that the program works on; where the words name no command, the source is left as it
--- is.
+-- The program works on `bytes`, where the command that the words name does. Where the words name no
+-- command, the source is left as it was, whatever `bytes` are. `old` and `new` are the bytes that
+-- the source had left before and afterwards.
 abbrev pub Reads : List (String Global) → Option (List ℕ) → Option (List ℕ) → List ℕ → Type 0
 Reads words old new bytes =
     MatchOption (command_of words) (Keeps old new) (λ command. ReadsFor command old new bytes)

@@ -1,4 +1,4 @@
--- Why an input was refused, or not read.
+-- Why the reading of an input failed: a fault of its text, or want of memory.
 use Rattle.std.specs.Prelude.{ℕ, List}
 use Rattle.book_base.specs.declared.fault.TextFault.{TextFault}
 use Rattle.book_base.specs.declared.fault.ReadFault.{ReadFault}

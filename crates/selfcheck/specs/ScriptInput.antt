@@ -1,4 +1,5 @@
--- What the bytes of an input say of a script, and what is written of a script's run.
+-- Whether the bytes of an input are the text of a script, and what is written of a run of this
+-- script.
 use Rattle.std.specs.Prelude.{ℕ, List, IsSome}
 use Rattle.seq_objects.specs.Objects.{kind_spec}
 use Rattle.client_scripts.specs.Generator.{generated}

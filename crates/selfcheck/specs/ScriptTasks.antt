@@ -10,19 +10,19 @@ use Rattle.selfcheck.specs.declared.script_task.ScriptTask.{ScriptTask}
 use Rattle.selfcheck.specs.declared.script_task.ScriptTask.TheVariants.{Run, Replay, Certify}
 use Rattle.named_runs.specs.BehaviourRuns.{IsNamedRunReport, IsNamedReplayReport}
 
--- The command that does this over the object of a behaviour.
+-- The command that does this task over the object of a behaviour.
 abbrev pub command_for : ScriptTask → Behaviour → Command
 command_for Run behaviour = commands.Run behaviour
 command_for Replay behaviour = commands.Replay behaviour
 command_for Certify behaviour = commands.Certify behaviour
 
--- A report of a plan's callers that made the run of this task.
+-- A report that this task may make of a plan's callers over the object of a behaviour.
 abbrev pub IsReportBy : ScriptTask → Behaviour → Plan → Findings → Type 0
 IsReportBy Run behaviour plan findings = IsNamedRunReport behaviour plan findings
 IsReportBy Replay behaviour plan findings = IsNamedReplayReport behaviour plan findings
 IsReportBy Certify behaviour plan findings = IsNamedRunReport behaviour plan findings
 
--- The form in which the report of this task is written.
+-- The form in which the report that this task makes is written.
 abbrev pub form_by : ScriptTask → Form
 form_by Run = Report
 form_by Replay = Report

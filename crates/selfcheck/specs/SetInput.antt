@@ -1,4 +1,5 @@
--- What the bytes of an input say of a set book.
+-- Whether the bytes of an input are the text of a set book, and whether this book has a legal set
+-- order.
 use Rattle.std.specs.Prelude.{ℕ, List, [], ◌∷◌}
 use Rattle.book_base.specs.Book.{Page}
 use Rattle.set_order.specs.Joins.{served_joins}

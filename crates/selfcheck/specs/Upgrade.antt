@@ -1,4 +1,5 @@
--- What `upgrade` takes, and what it writes: the text of version 2 of what a text of version 1 says.
+-- What `upgrade` takes, and what it writes: it takes a text of version 1 of a script or a book, and
+-- writes the text of version 2 of the same script or book.
 use Rattle.std.specs.Prelude.{◌≡◌, ◌⊎◌, ℕ, List, ◌++◌, codes}
 use Rattle.book_base.specs.declared.fault.TextFault.{TextFault}
 use Rattle.book_base.specs.Book.{Page}
@@ -14,8 +15,8 @@ use Rattle.text_fields.specs.declared.version.Version.TheVariants.{First, Second
 unfoldable pub BeginsAsScript : List ℕ → Type 0
 BeginsAsScript bytes = (rest : List ℕ) × (bytes ≡ codes "script 1\n" ++ rest)
 
--- The bytes are as a script's text where their first line is the title of a script of version 1,
--- and else as a book's.
+-- Where the first line of the bytes is the title of a script of version 1, `Script` is true; and
+-- where it isn't, `Book` is true.
 abbrev pub ByTitle : List ℕ → Type 0 → Type 0 → Type 0
 ByTitle bytes Script Book = (BeginsAsScript bytes × Script) ⊎ (¬ (BeginsAsScript bytes) × Book)
 
@@ -29,19 +30,19 @@ abbrev pub IsFirstOldFault : List ℕ → TextFault → Type 0
 IsFirstOldFault bytes fault =
     ByTitle bytes (IsFirstScriptFault First bytes fault) (IsFirstBookFault First bytes fault)
 
--- The text is that of version 2 of the script that has these bytes in version 1.
+-- The text is that of version 2 of the script whose text of version 1 the bytes are.
 pub record IsUpgradedScript (bytes text : List ℕ) : Type 0 where
   pub plan : Plan
   pub old : IsScriptText First bytes plan
   pub new : scripts.IsWrittenText Second text plan
 
--- The text is that of version 2 of the book that has these bytes in version 1.
+-- The text is that of version 2 of the book whose text of version 1 the bytes are.
 pub record IsUpgradedBook (bytes text : List ℕ) : Type 0 where
   pub kind : Kind
   pub book : List Page
   pub old : IsBookText First bytes kind book
   pub new : books.IsWrittenText Second text kind book
 
--- The text of version 2 of what the bytes say in version 1.
+-- The text is that of version 2 of the script or the book whose text of version 1 the bytes are.
 abbrev pub IsUpgraded : List ℕ → List ℕ → Type 0
 IsUpgraded bytes text = ByTitle bytes (IsUpgradedScript bytes text) (IsUpgradedBook bytes text)

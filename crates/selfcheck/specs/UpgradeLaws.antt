@@ -19,8 +19,8 @@ pub record SaysTheSame (bytes text : List ℕ) : Type 0 where
       ↔ IsBookText Second text kind book
   pub scripts : (plan : Plan) → IsScriptText First bytes plan ↔ IsScriptText Second text plan
 
--- Where `upgrade` succeeds, what it writes is in version 2 a text of exactly those books and plans
--- of which its input is a text in version 1.
+-- Where `upgrade` succeeds, the text that it writes says in version 2 what its input says in
+-- version 1: it is a text of exactly the same books and plans.
 abbrev pub UpgradesSayTheSame : Type 0
 UpgradesSayTheSame = (bytes text : List ℕ) → IsOutputOf Upgrade bytes Fine text
     → SaysTheSame bytes text

@@ -6,7 +6,7 @@ ghost use Rattle.selfcheck.specs.Arguments.{behaviour_named, soak_number};
 use faulty_objects::Behaviour;
 use seq_objects::number;
 
-/// The greatest number of a soak.
+/// The greatest number that a soak can have.
 const MOST: u64 = 4_294_967_295;
 
 /// The behaviour with this name.
@@ -16,7 +16,7 @@ pub(crate) fn behaviour_named(name: &str) -> Option<Behaviour>
     Behaviour::from_name(name.as_bytes())
 }
 
-/// The number of a soak that this word spells.
+/// The number of a soak that this word spells, where it spells one.
 pub(crate) fn soak_number(word: &str) -> Option<u64>
     ensures { result ≡ soak_number word.now }
 {

@@ -36,12 +36,12 @@ impl Command {
     ghost use Rattle.selfcheck.specs.Command.{argued_command, command_of, has_argument, lone_command, reads_source};
     ghost use Rattle.selfcheck.specs.CommandLine.{is_parsed};
 
-    /// The command that the words after the program's name name. Words that no command can have are
-    /// answered before clap reads them.
+    /// The command that these words, those after the program's name, stand for. For words that no
+    /// command can have, `None` is returned before clap reads them.
     pub fn from_words(alloc: Global, words: &[String]) -> Result<Option<Command>, NoMemory>
-        // The answered command is the one that the words name, and None where they name none.
+        // The result is the command that the words name, and `None` where they name none.
         ensures command { IfOk result (λ command. command ≡ command_of words.now) }
-        // Words that aren't handed to clap are answered None, and never with want of memory.
+        // For words that aren't handed to clap the result is `None`, and never an error.
         ensures unparsed { ¬ IsTrue (is_parsed words.now)
             → IsOkAnd result (λ command. command ≡ None) }
     {
@@ -67,8 +67,8 @@ impl Command {
         }
     }
 
-    /// The command that this word names with this argument. It has an arm for each command with an
-    /// argument.
+    /// The command that this word names with this argument, where there is one. The function has an
+    /// arm for each command with an argument.
     #[tactic(auto, unfolding(crate::specs::Command::argued_command))]
     pub(crate) fn from_pair(word: &str, argument: &str) -> Option<Command>
         ensures { result ≡ argued_command word.now argument.now }

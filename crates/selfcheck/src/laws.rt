@@ -6,7 +6,8 @@ ghost use Rattle.selfcheck.specs.Command.{HaveTheirCommand};
 ghost use Rattle.selfcheck.specs.Output.{IsDetermined, RefuseWhatIsNotTaken, SoaksDeliverAll};
 ghost use Rattle.selfcheck.specs.UpgradeLaws.{UpgradesSayTheSame, UpgradesKeepOrders};
 
-/// Words name a command exactly where they are its words.
+/// Command words name a command exactly where they are its words and, if it is a soak, its number
+/// is at most 4,294,967,295.
 pub fn words_have_their_command()
     ensures { HaveTheirCommand }
 {}
@@ -47,7 +48,7 @@ pub fn an_upgrade_says_the_same()
     ensures { UpgradesSayTheSame }
 {}
 
-/// The book that `upgrade` writes has the legal orders of the book that it reads.
+/// The book that `upgrade` writes has exactly the legal orders of the book that it reads.
 pub fn an_upgrade_keeps_the_legal_orders()
     ensures { UpgradesKeepOrders }
 {}

@@ -1,4 +1,5 @@
-//! The top call: which command the words name, and the program's answer as a status.
+//! The top call of the program: which command the words name, what it writes, and the status that
+//! it ends with.
 #![tactic(auto)]
 
 mod arguments;

@@ -12,8 +12,8 @@ use clap::ArgMatches;
 use clap::error::ErrorKind;
 use std::alloc::{AllocError, Global};
 
-/// Whether the words are handed to clap: they are two where the first is that of a command with an
-/// argument, and else one, and none begins with `-`.
+/// Whether the command words are handed to clap: there are two words, of which the first is that of
+/// a command with an argument, or one word, which isn't; and no word begins with `-`.
 #[tactic(auto, unfolding(crate::specs::CommandLine::is_parsed))]
 pub(crate) fn may_be_parsed(words: &[String]) -> bool
     ensures { result ≡ is_parsed words.now }
@@ -112,7 +112,8 @@ fn argued<'a>(alloc: Global, name: &'a str) -> Result<clap::Command<'a>, AllocEr
     clap::Command::new(alloc, name).arg(argument)
 }
 
-/// The command that clap met.
+/// The command for the subcommand and the argument that clap has read, and `None` where they name
+/// no command.
 fn command_in(matches: &ArgMatches) -> Option<Command>
     ensures { result ≡ command_met (option_map met_in (subcommand_rows_of matches.now)) }
 {

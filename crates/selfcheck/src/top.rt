@@ -28,7 +28,8 @@ use std::thread::Threads;
 /// The output for words that name no command.
 const USAGE: &[u8] = b"usage: selfcheck COMMAND\n";
 
-/// The bytes that a command works on: the source's where it reads one, else none.
+/// Reads the bytes that a command works on: those of the source, where the command reads it, and
+/// otherwise none.
 fn read_for<S: Source>(
     command: Command,
     alloc: Global,
@@ -97,57 +98,57 @@ pub fn selfcheck<R: Threads + Sync, S: Source, K: Sink>(
     ensures ends { Ends words.now result (S.left source.old) (S.left source.new) (K.taken sink.old)
         (K.taken sink.new) }
 
-    // Words that name no command are answered `Usage`, `WriteFault` or `NoMemory`, whatever the
-    // input.
+    // For words that name no command the status is `Usage`, `WriteFault` or `NoMemory`, whatever
+    // the input.
     ensures usage { IsNone (command_of words.now) →
         (result ≡ Status.Usage) ⊎ (result ≡ Status.WriteFault) ⊎ (result ≡ Status.NoMemory) }
-    // Words that aren't handed to clap are answered `Usage` or `WriteFault`.
+    // For words that aren't handed to clap the status is `Usage` or `WriteFault`.
     ensures unparsed { ¬ IsTrue (is_parsed words.now) →
         (result ≡ Status.Usage) ⊎ (result ≡ Status.WriteFault) }
-    // The source stays unread where the words name no command that reads one.
+    // The source stays unread where the words don't name a command that reads it.
     ensures unread { ¬ IsSomeAnd (command_of words.now) (λ command. IsTrue (reads_source command))
         → source.new ≡ source.old }
 
-    // Where all outputs of the command for the input have one status, this is the answer, faults
-    // and want of memory aside.
+    // Where all outputs of the command for the input have one status, that status is returned, or
+    // `ReadFault`, `WriteFault` or `NoMemory`.
     ensures exact { (command : Command) (held : List ℕ) (status : Status)
         → command_of words.now ≡ Some command →
         S.left source.old ≡ Some held → HasOneStatus command (input_of command held) status →
         (result ≡ status) ⊎ IsUnfinished result }
 
-    // A command that makes a run over an object inside the world, on an input that it takes, is
-    // answered `Fine`, faults and want of memory aside.
+    // For a command that makes a run over an object inside the world, with an input that it takes,
+    // the status is `Fine`, or `ReadFault`, `WriteFault` or `NoMemory`.
     ensures right { (command : Command) (held : List ℕ) → command_of words.now ≡ Some command →
         S.left source.old ≡ Some held → IsTaken command (input_of command held) →
         RunsInside command (input_of command held) → (result ≡ Status.Fine) ⊎ IsUnfinished result }
-    // A soak is answered `Fine`, failed reads and writes and want of memory aside.
+    // For a soak the status is `Fine`, or `ReadFault`, `WriteFault` or `NoMemory`.
     ensures soak { (number : ℕ) → command_of words.now ≡ Some (Command.Soak number) →
         (result ≡ Status.Fine) ⊎ IsUnfinished result }
 
-    // An input that the command takes is answered `Fine`, `Found` or `NoMemory`, where no count of
-    // faults rose in this call.
+    // For an input that the command takes, where neither the source's nor the sink's count of
+    // faults rose in this call, the status is `Fine`, `Found` or `NoMemory`.
     ensures complete { (command : Command) (held : List ℕ) → command_of words.now ≡ Some command →
         S.left source.old ≡ Some held → IsTaken command (input_of command held) →
         ¬ Rose (S.faults source.old) (S.faults source.new)
         → ¬ Rose (K.faults sink.old) (K.faults sink.new) →
         (result ≡ Status.Fine) ⊎ (result ≡ Status.Found) ⊎ (result ≡ Status.NoMemory) }
 
-    // An answer `ReadFault` comes only where the source's count of faults rose in this call.
+    // The status is `ReadFault` only where the source's count of faults rose in this call.
     ensures read_fault { result ≡ Status.ReadFault
         → Rose (S.faults source.old) (S.faults source.new) }
-    // An answer `WriteFault` comes only where the sink's count of faults rose in this call.
+    // The status is `WriteFault` only where the sink's count of faults rose in this call.
     ensures write_fault { result ≡ Status.WriteFault
         → Rose (K.faults sink.old) (K.faults sink.new) }
-    // A status other than `ReadFault` is answered only where the source's count of faults stayed.
+    // With a status other than `ReadFault` the source's count of faults stayed as it was.
     ensures read_calm { ¬ (result ≡ Status.ReadFault) → S.faults source.new ≡ S.faults source.old }
-    // A status other than `WriteFault` is answered only where the sink's count of faults stayed.
+    // With a status other than `WriteFault` the sink's count of faults stayed as it was.
     ensures write_calm { ¬ (result ≡ Status.WriteFault) → K.faults sink.new ≡ K.faults sink.old }
-    // An answer `ReadFault` or `NoMemory` comes only where nothing was written.
+    // With the status `ReadFault` or `NoMemory` nothing was written, and the sink stayed as it was.
     ensures unwritten { (result ≡ Status.ReadFault) ⊎ (result ≡ Status.NoMemory)
         → sink.new ≡ sink.old }
-    // The source's count of faults is at least what it was before.
+    // The source's count of faults didn't fall.
     ensures source_later { S.faults source.old ≤ S.faults source.new }
-    // The sink's count of faults is at least what it was before.
+    // The sink's count of faults didn't fall.
     ensures sink_later { K.faults sink.old ≤ K.faults sink.new }
 {
     let named = match Command::from_words(alloc, words) {

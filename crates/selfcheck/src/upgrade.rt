@@ -35,7 +35,7 @@ pub(crate) fn upgrade(alloc: Global, bytes: &[u8]) -> Result<Output, NoMemory>
     }
 }
 
-/// The text of version 2 of what an input says in version 1.
+/// The text of version 2 of the script or the book whose text of version 1 the input is.
 fn upgraded(alloc: Global, bytes: &[u8]) -> Result<Vec<u8>, ReadFault>
     ensures short { IfOk result (λ _. length bytes.now ≤ INPUT_LIMIT) }
     ensures text { IfOk result (λ text. IsUpgraded bytes.now text.items) }
@@ -56,7 +56,7 @@ fn begins_as_script(bytes: &[u8]) -> bool
     bytes.starts_with(b"script 1\n")
 }
 
-/// The text of version 2 of the script that the bytes are the text of in version 1.
+/// The text of version 2 of the script whose text of version 1 the bytes are.
 fn upgraded_script(alloc: Global, bytes: &[u8]) -> Result<Vec<u8>, ReadFault>
     ensures text { IfOk result (λ text. IsUpgradedScript bytes.now text.items) }
     ensures refused { IfErr result (IsFaultOf (IsFirstScriptFault First bytes.now)) }
@@ -65,7 +65,7 @@ fn upgraded_script(alloc: Global, bytes: &[u8]) -> Result<Vec<u8>, ReadFault>
     Ok(write_script(alloc, &script)?)
 }
 
-/// The text of version 2 of the book that the bytes are the text of in version 1.
+/// The text of version 2 of the book whose text of version 1 the bytes are.
 fn upgraded_book(alloc: Global, bytes: &[u8]) -> Result<Vec<u8>, ReadFault>
     ensures text { IfOk result (λ text. IsUpgradedBook bytes.now text.items) }
     ensures refused { IfErr result (IsFaultOf (IsFirstBookFault First bytes.now)) }

@@ -8,7 +8,8 @@ use crate::output::Output;
 use book_base::NoMemory;
 use byte_streams::{Sink, Status, write_text};
 
-/// Writes the output of a command, where there is memory for it.
+/// Writes the output of a command to the sink, and returns its status; without memory for the
+/// output nothing is written.
 pub(crate) fn write_told<K: Sink>(output: Result<Output, NoMemory>, sink: &mut K) -> Status
     ensures ends { (command : Command) (bytes : List ℕ)
         → IfOk output (λ told. IsOutputOf command bytes told.status told.text.items)

@@ -10,13 +10,15 @@ use Rattle.seq_objects.specs.Words.{entries, entry_of, is_operation_of, is_known
 use Rattle.seq_objects.specs.Replies.{reply_done, reply_value, reply_no, reply_yes, reply_bad}
 use Rattle.seq_objects.specs.Items.{first_or_zero, not-found}
 
--- The list of a new value alone where the first item, modulo 2 ^ 32, is the value that is expected;
--- else the list as it was. A list without an item counts as 0. The reply says which.
+-- The list and the reply of a compare-and-set from `expected` to `new`. Where the first item of the
+-- list, modulo 2 ^ 32, is `expected`, the list of `new` alone and the reply `yes`; else the list
+-- unchanged and the reply `no`. The first item of an empty list counts as 0.
 abbrev pub compared_and_set : List ℕ → ℕ → ℕ → List ℕ × ℕ
 compared_and_set list expected new =
     if first_or_zero list % 2 ^ 32 == expected then (new ∷ [], reply_yes) else (list, reply_no)
 
--- What an operation word asks of the register, where it knows the word.
+-- The operation that an operation word stands for, where a register with compare-and-set knows the
+-- word.
 abbrev pub cas_register_operation : ℕ → Option CasRegisterOperation
 cas_register_operation word =
     if is_operation_of word words.write then Some (Write (argument_of word))
@@ -25,7 +27,8 @@ cas_register_operation word =
     then Some (CompareAndSet (argument_of word) (extra_of word))
     else None
 
--- A register that can also be set only where it holds an expected value: it is 0 at first.
+-- The list of a register with compare-and-set after an operation, and the reply. An unknown
+-- operation doesn't change the list, and gets the reply `bad`.
 abbrev pub cas_register_after : List ℕ → Option CasRegisterOperation → List ℕ × ℕ
 cas_register_after list (Some (Write value)) = (value ∷ [], reply_done)
 cas_register_after list (Some Read) = (list, reply_value (first_or_zero list))
@@ -41,6 +44,7 @@ length-compared_and_set list expected new =
     (λ same. omega arith)
     (λ other. omega arith)
 
+-- An operation of a register with compare-and-set makes its list longer by at most one item.
 pub length-cas_register_after : (list : List ℕ) (operation : Option CasRegisterOperation)
     → length (cas_register_after list operation).0 ≤ length list + 1
 length-cas_register_after list (Some (Write value)) = omega arith
@@ -61,6 +65,8 @@ cas_register_operation-unknown word unknown =
     ∙ cond-false (is_operation_of word words.read) _ _ not_read.0
     ∙ cond-false (is_operation_of word words.cas) _ _ not_cas.0
 
+-- A word that a register with compare-and-set doesn't know changes no list, and gets the reply
+-- `BAD`.
 pub cas_register_after-unknown : (list : List ℕ) (word : ℕ)
     → is_known_word kinds.CasRegister word ≡ false
     → cas_register_after list (cas_register_operation word) ≡ (list, BAD)

@@ -10,16 +10,19 @@ use Rattle.seq_objects.specs.Words.{entries, entry_of, is_operation_of, is_known
 use Rattle.seq_objects.specs.Replies.{reply_value, reply_bad}
 use Rattle.seq_objects.specs.Items.{first_or_zero, not-found}
 
--- What an operation word asks of a counter, where the counter knows it.
+-- The operation that an operation word stands for, where a counter knows the word.
 abbrev pub counter_operation : ℕ → Option CounterOperation
 counter_operation word = if is_operation_of word words.inc then Some Increment else None
 
--- A counter modulo 2 ^ 32, which is 0 at first: the reply is the count before the increment.
+-- The list of a counter after an operation, and the reply. An increment makes the count greater by
+-- 1, modulo 2 ^ 32, and replies the count before it; an unknown operation doesn't change the list,
+-- and gets the reply `bad`.
 abbrev pub counter_after : List ℕ → Option CounterOperation → List ℕ × ℕ
 counter_after list (Some Increment) =
     ((first_or_zero list + 1) % 2 ^ 32 ∷ [], reply_value (first_or_zero list))
 counter_after list None = (list, reply_bad)
 
+-- An operation of a counter makes its list longer by at most one item.
 pub length-counter_after : (list : List ℕ) (operation : Option CounterOperation)
     → length (counter_after list operation).0 ≤ length list + 1
 length-counter_after list (Some Increment) = omega arith
@@ -32,17 +35,22 @@ counter_operation-unknown word unknown =
     let not_inc = not-found (is_operation_of word) words.inc [] unknown in
     cond-false (is_operation_of word words.inc) _ _ not_inc.0
 
+-- A word that a counter doesn't know changes no list, and gets the reply `BAD`.
 pub counter_after-unknown : (list : List ℕ) (word : ℕ) → is_known_word kinds.Counter word ≡ false
     → counter_after list (counter_operation word) ≡ (list, BAD)
 counter_after-unknown list word unknown =
     ap (counter_after list) (counter_operation-unknown word unknown)
 
+-- The word of an increment makes the count greater by 1, modulo 2 ^ 32, and gets the count before
+-- it as its reply.
 pub counter_after-inc : (list : List ℕ) (word : ℕ) → is_operation_of word words.inc ≡ true
     → counter_after list (counter_operation word)
     ≡ ((first_or_zero list + 1) % 2 ^ 32 ∷ [], reply_value (first_or_zero list))
 counter_after-inc list word inc =
     ap (counter_after list) (cond-true (is_operation_of word words.inc) _ _ inc)
 
+-- A word that isn't the word of an increment changes no list of a counter, and gets the reply
+-- `BAD`.
 pub counter_after-other : (list : List ℕ) (word : ℕ) → is_operation_of word words.inc ≡ false
     → counter_after list (counter_operation word) ≡ (list, BAD)
 counter_after-other list word not_inc =

@@ -10,21 +10,24 @@ use Rattle.seq_objects.specs.Words.{entries, entry_of, is_operation_of, is_known
 use Rattle.seq_objects.specs.Replies.{reply_no, reply_yes, reply_bad}
 use Rattle.seq_objects.specs.Items.{place_of, inserted, length-inserted, length-without, not-found}
 
--- The list with a value that isn't in it inserted, and whether it was.
+-- The list of a set after an addition of `value`, and the reply: where the list lacks the value,
+-- the list with it and `yes`; else the list unchanged and `no`.
 abbrev pub added : List ℕ → ℕ → List ℕ × ℕ
 added list value =
     if is_some (place_of list value) then (list, reply_no) else (inserted list value, reply_yes)
 
--- The list without the item at a place, and whether there is one.
+-- The list without the item at a place, and the reply `yes`; where no place is given, the list
+-- unchanged and the reply `no`.
 abbrev pub taken_out : List ℕ → Option ℕ → List ℕ × ℕ
 taken_out list (Some place) = (remove list place, reply_yes)
 taken_out list None = (list, reply_no)
 
--- The list without a value at its first place, and whether it was there.
+-- The list of a set after a removal of `value`, and the reply: the list without the value at its
+-- first place and `yes`; where the list lacks the value, the list unchanged and `no`.
 abbrev pub removed : List ℕ → ℕ → List ℕ × ℕ
 removed list value = taken_out list (place_of list value)
 
--- What an operation word asks of a set, where the set knows it.
+-- The operation that an operation word stands for, where a set knows the word.
 abbrev pub set_operation : ℕ → Option IntSetOperation
 set_operation word =
     if is_operation_of word words.add then Some (Add (argument_of word))
@@ -32,8 +35,9 @@ set_operation word =
     else if is_operation_of word words.has then Some (Has (argument_of word))
     else None
 
--- A set of numbers: a value is inserted where it isn't in the list, and the first of its places is
--- taken out.
+-- The list of a set after an operation, and the reply. An addition and a removal are made as
+-- `added` and `removed` say; a test replies `yes` where the list has the value, else `no`; an
+-- unknown operation gets the reply `bad`. A test and an unknown operation don't change the list.
 abbrev pub set_after : List ℕ → Option IntSetOperation → List ℕ × ℕ
 set_after list (Some (Add value)) = added list value
 set_after list (Some (Remove value)) = removed list value
@@ -54,6 +58,7 @@ length-removed list value = elim (place_of list value) as
     (λ place. length (taken_out list place).0 ≤ length list + 1)
     [ None ↦ omega arith | Some place ↦ length-without list place ]
 
+-- An operation of a set makes its list longer by at most one item.
 pub length-set_after : (list : List ℕ) (operation : Option IntSetOperation)
     → length (set_after list operation).0 ≤ length list + 1
 length-set_after list (Some (Add value)) = length-added list value
@@ -73,6 +78,7 @@ set_operation-unknown word unknown =
     ∙ cond-false (is_operation_of word words.remove) _ _ not_remove.0
     ∙ cond-false (is_operation_of word words.has) _ _ not_has.0
 
+-- A word that a set doesn't know changes no list, and gets the reply `BAD`.
 pub set_after-unknown : (list : List ℕ) (word : ℕ) → is_known_word kinds.IntSet word ≡ false
     → set_after list (set_operation word) ≡ (list, BAD)
 set_after-unknown list word unknown = ap (set_after list) (set_operation-unknown word unknown)

@@ -8,12 +8,14 @@ abbrev pub first_or_zero : List ℕ → ℕ
 first_or_zero [] = 0
 first_or_zero (x ∷ rest) = x
 
--- The list without its first item, and that item as the reply.
+-- The list without its first item, and the reply that gives this item; for the empty list, the
+-- empty list and the reply `none`.
 abbrev pub first_taken : List ℕ → List ℕ × ℕ
 first_taken [] = ([], reply_none)
 first_taken (x ∷ rest) = (rest, reply_value x)
 
--- The list without its last item, and that item as the reply.
+-- The list without its last item, and the reply that gives this item; for the empty list, the empty
+-- list and the reply `none`.
 abbrev pub last_taken : List ℕ → List ℕ × ℕ
 last_taken [] = ([], reply_none)
 last_taken (x ∷ rest) =
@@ -31,35 +33,43 @@ place_for list value = unwrap_or (position (λ x. nat_lt value x) list) (length 
 abbrev pub inserted : List ℕ → ℕ → List ℕ
 inserted list value = insert list (place_for list value) value
 
+-- The empty list has at most one item.
 pub length-none : length {A = ℕ} [] ≤ 1
 length-none = omega arith
 
+-- The list of 0 alone has at most one item.
 pub length-one : length {A = ℕ} (0 ∷ []) ≤ 1
 length-one = omega arith
 
+-- A list with an item added at its end has at most one item more than before.
 pub length-push : (list : List ℕ) (item : ℕ) → length (list ++ item ∷ []) ≤ length list + 1
 length-push list item = omega (arith, length-append list (item ∷ []))
 
+-- A list whose first item is taken out has at most one item more than before.
 pub length-first_taken : (list : List ℕ) → length (first_taken list).0 ≤ length list + 1
 length-first_taken [] = omega arith
 length-first_taken (x ∷ rest) = omega arith
 
+-- A list whose last item is taken out has at most one item more than before.
 pub length-last_taken : (list : List ℕ) → length (last_taken list).0 ≤ length list + 1
 length-last_taken [] = omega arith
 length-last_taken (x ∷ rest) = omega (arith, length-take (length rest) (x ∷ rest))
 
+-- A list with a value inserted has at most one item more than before.
 pub length-inserted : (list : List ℕ) (value : ℕ) → length (inserted list value) ≤ length list + 1
 length-inserted list value =
     let place : ℕ = place_for list value in
     let joined = length-append (take place list) (value ∷ drop place list) in
     omega (arith, joined, length-take place list, length-drop place list)
 
+-- A list without its item at a place has at most one item more than before.
 pub length-without : (list : List ℕ) (place : ℕ) → length (remove list place) ≤ length list + 1
 length-without list place =
     let joined = length-append (take place list) (drop (suc place) list) in
     omega (arith, joined, length-take place list, length-drop (suc place) list)
 
--- Where no item of a list passes, the first one doesn't, and none after it does.
+-- Where no item of the list `x ∷ xs` passes the test `p`, its first item `x` doesn't, and no later
+-- item does.
 pub not-found : {X : Type 0} (p : X → Bool) (x : X) (xs : List X)
     → is_some (find p (x ∷ xs)) ≡ false
     → (p x ≡ false) × (is_some (find p xs) ≡ false)

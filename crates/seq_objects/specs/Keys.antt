@@ -1,4 +1,5 @@
--- Keys of operations: a set and a map do what an operation asks with the items of its key alone.
+-- The keys of a set's and of a map's operations: an operation sees and changes only the items of
+-- its key.
 use Rattle.std.specs.Prelude.{◌≡◌, ℕ, ◌==◌, ◌↔◌, List, Option, None, Some, unwrap_or}
 use Rattle.std.specs.List.{filter}
 use Rattle.book_base.specs.declared.marked_callers.MarkedCallers.{MarkedCallers}
@@ -12,19 +13,20 @@ use Rattle.seq_objects.specs.declared.map.MapOperation.TheVariants.{Put, Get, De
 use Rattle.seq_objects.specs.IntSetSteps.{set_operation}
 use Rattle.seq_objects.specs.MapSteps.{key_of, map_operation}
 
--- The operation word of a caller's next call after a cut.
+-- The operation word of a caller's next call after a cut, or 0 where the book lacks this call.
 abbrev pub next_word : List Page → List ℕ → ℕ → ℕ
 next_word book cut caller = unwrap_or (operation_of book (next_call cut caller)) 0
 
--- Where the forced call has a key, exactly those marked callers keep their marks whose next calls
--- have this key; where it has none, all marked callers do.
+-- The marks `new` are the marks `old` narrowed to the key of the forced call, the next call of
+-- caller `forced`. Where the forced call has a key, exactly the marked callers whose next calls
+-- have this key keep their marks; where it has none, all marked callers do.
 pub record IsNarrowedToKey (key : ℕ → Option ℕ) (book : List Page) (cut : List ℕ) (forced : ℕ)
     (old new : MarkedCallers) : Type 0 where
   pub keyed : (k : ℕ) → key (next_word book cut forced) ≡ Some k
       → (i : ℕ) → IsMarked new i ↔ (IsMarked old i × (key (next_word book cut i) ≡ Some k))
   pub unkeyed : key (next_word book cut forced) ≡ None → new ≡ old
 
--- The key of what is asked of a set: the value that is added, removed or looked for.
+-- The key of a set's operation: the value that is added, removed or looked for.
 abbrev pub key_in_set : Option IntSetOperation → Option ℕ
 key_in_set (Some (Add value)) = Some value
 key_in_set (Some (Remove value)) = Some value
@@ -35,7 +37,7 @@ key_in_set None = None
 abbrev pub set_key : ℕ → Option ℕ
 set_key word = key_in_set (set_operation word)
 
--- The key of what is asked of a map.
+-- The key of a map's operation: the key that is put, got or deleted.
 abbrev pub key_in_map : Option MapOperation → Option ℕ
 key_in_map (Some (Put key value)) = Some key
 key_in_map (Some (Get key)) = Some key
@@ -46,10 +48,10 @@ key_in_map None = None
 abbrev pub map_key : ℕ → Option ℕ
 map_key word = key_in_map (map_operation word)
 
--- The items of a set that are a key.
+-- The items of a set's list that equal the key `k`.
 abbrev pub set_part : ℕ → List ℕ → List ℕ
 set_part k list = filter (λ item. item == k) list
 
--- The items of a map that have a key.
+-- The items of a map's list that have the key `k`.
 abbrev pub map_part : ℕ → List ℕ → List ℕ
 map_part k list = filter (λ item. key_of item == k) list

@@ -11,11 +11,11 @@ use Rattle.seq_objects.specs.Words.{entries, entry_of, is_operation_of, is_known
 use Rattle.seq_objects.specs.Replies.{reply_none, reply_value, reply_bad}
 use Rattle.seq_objects.specs.Items.{inserted, length-inserted, length-without, not-found}
 
--- The item of a key and its value.
+-- The item of a map for a key and its value: the key times 2 ^ 32, plus the value.
 abbrev pub item_of : ℕ → ℕ → ℕ
 item_of key value = key * 2 ^ 32 + value
 
--- The key of an item: its part above 32 bits. Its value is the rest.
+-- The key of a map's item: its part above the low 32 bits. Its value is the low 32 bits.
 abbrev pub key_of : ℕ → ℕ
 key_of item = item / 2 ^ 32
 
@@ -23,27 +23,29 @@ key_of item = item / 2 ^ 32
 abbrev pub place_of_key : List ℕ → ℕ → Option ℕ
 place_of_key list key = position (λ item. key_of item == key) list
 
--- The list with an item instead of the one at a place, whose value is the reply; where there is no
--- place, with the item before the first greater one, or at the end.
+-- The list of a map with `item` put in, and the reply. Where a place is given, the item replaces
+-- the one at this place, whose value is the reply. Where none is given, the item goes before the
+-- first greater one, or to the end, and the reply is `none`.
 abbrev pub put_at : List ℕ → ℕ → Option ℕ → List ℕ × ℕ
 put_at list item (Some place) = (slice_set list place item, reply_value (slice_index list place))
 put_at list item None = (inserted list item, reply_none)
 
--- The list with a value for a key, and the value that the key had before.
+-- The list of a map after a put of `value` for `key`, and the reply: the value that the key had
+-- before, or `none`.
 abbrev pub put_in : List ℕ → ℕ → ℕ → List ℕ × ℕ
 put_in list key value = put_at list (item_of key value) (place_of_key list key)
 
--- The reply with the value of the item at a place, if there is one.
+-- The reply that gives the value of a map's item at a place, or `none` where no place is given.
 abbrev pub value_at : List ℕ → Option ℕ → ℕ
 value_at list (Some place) = reply_value (slice_index list place)
 value_at list None = reply_none
 
--- The list without the item at a place, if there is one.
+-- The list without the item at a place, or unchanged where no place is given.
 abbrev pub without : List ℕ → Option ℕ → List ℕ
 without list (Some place) = remove list place
 without list None = list
 
--- What an operation word asks of a map, where the map knows it.
+-- The operation that an operation word stands for, where a map knows the word.
 abbrev pub map_operation : ℕ → Option MapOperation
 map_operation word =
     if is_operation_of word words.put then Some (Put (argument_of word) (extra_of word))
@@ -51,7 +53,8 @@ map_operation word =
     else if is_operation_of word words.del then Some (Delete (argument_of word))
     else None
 
--- A map of keys to values: the reply is the value that the key has before the operation.
+-- The list of a map after an operation, and the reply: the value that the operation's key has
+-- before it, or `none`. An unknown operation doesn't change the list, and gets the reply `bad`.
 abbrev pub map_after : List ℕ → Option MapOperation → List ℕ × ℕ
 map_after list (Some (Put key value)) = put_in list key value
 map_after list (Some (Get key)) = (list, value_at list (place_of_key list key))
@@ -69,6 +72,7 @@ length-without_place : (list : List ℕ) (place : Option ℕ)
 length-without_place list (Some place) = length-without list place
 length-without_place list None = omega arith
 
+-- An operation of a map makes its list longer by at most one item.
 pub length-map_after : (list : List ℕ) (operation : Option MapOperation)
     → length (map_after list operation).0 ≤ length list + 1
 length-map_after list (Some (Put key value)) =
@@ -88,6 +92,7 @@ map_operation-unknown word unknown =
     ∙ cond-false (is_operation_of word words.get) _ _ not_get.0
     ∙ cond-false (is_operation_of word words.del) _ _ not_del.0
 
+-- A word that a map doesn't know changes no list, and gets the reply `BAD`.
 pub map_after-unknown : (list : List ℕ) (word : ℕ) → is_known_word kinds.Map word ≡ false
     → map_after list (map_operation word) ≡ (list, BAD)
 map_after-unknown list word unknown = ap (map_after list) (map_operation-unknown word unknown)

@@ -28,7 +28,7 @@ kind_init kinds.Pqueue = []
 kind_init kinds.CasRegister = 0 ∷ []
 kind_init kinds.Map = []
 
--- What an operation word makes of a list, and the reply to it, by the kind.
+-- The list of a kind's object after an operation word, and the reply to the word.
 unfoldable pub kind_next : Kind → List ℕ → ℕ → List ℕ × ℕ
 kind_next kinds.Queue list word = queue_after list (queue_operation word)
 kind_next kinds.Stack list word = stack_after list (stack_operation word)
@@ -39,11 +39,11 @@ kind_next kinds.Pqueue list word = pqueue_after list (pqueue_operation word)
 kind_next kinds.CasRegister list word = cas_register_after list (cas_register_operation word)
 kind_next kinds.Map list word = map_after list (map_operation word)
 
--- The list that an object of a kind begins with has at most one item.
 -- The sequential object of a kind.
 abbrev pub kind_spec : Kind → SeqSpec
 kind_spec kind = record { init = kind_init kind; next = kind_next kind }
 
+-- The list that an object of a kind begins with has at most one item.
 pub length-kind_init : (kind : Kind) → length (kind_init kind) ≤ 1
 length-kind_init kinds.Queue = length-none
 length-kind_init kinds.Stack = length-none

@@ -1,4 +1,4 @@
--- How a priority queue is read: as puts and takes of values.
+-- How a priority queue is read as a container: as puts and takes of values.
 use Rattle.std.specs.Prelude.{map, Option, Some, None}
 use Rattle.history_rules.specs.Container.{Effect, Puts, Takes, Neither, Reading}
 use Rattle.seq_objects.specs.declared.pqueue.PqueueOperation.{PqueueOperation}
@@ -6,13 +6,15 @@ use Rattle.seq_objects.specs.declared.pqueue.PqueueOperation.TheVariants.{Insert
 use Rattle.seq_objects.specs.PqueueSteps.{pqueue_operation}
 use Rattle.seq_objects.specs.Readings.{value_of, shown_value}
 
--- the effect of a priority queue's operation: an insert puts in, a min takes
+-- The effect of a priority queue's operation: an insert puts its value in, a min takes one out, and
+-- an unknown operation does neither.
 abbrev pub pqueue_deed : Option PqueueOperation → Effect
 pqueue_deed (Some (Insert value)) = Puts value
 pqueue_deed (Some Min) = Takes
 pqueue_deed None = Neither
 
--- how a priority queue is read: an insert puts in, and a min takes
+-- How a priority queue is read: an insert puts in, a min takes out, and the values of a list are
+-- the low 32 bits of its words.
 abbrev pub pqueue_reading : Reading
 pqueue_reading = record {
   deed = λ word. pqueue_deed (pqueue_operation word);

@@ -1,5 +1,5 @@
--- How queues and stacks are read: as puts and takes of values. A word of a list counts as the value
--- of its low 32 bits, which is what a reply shows of it.
+-- How queues and stacks are read as containers: as puts and takes of values. The value of a word of
+-- a list is its low 32 bits, which a reply shows.
 use Rattle.std.specs.Prelude.{ℕ, ◌%◌, ◌^◌, map, reverse, Option, Some, None, if◌then◌else◌}
 use Rattle.history_rules.specs.Container.{Effect, Puts, Takes, Neither, Reading}
 use Rattle.seq_objects.specs.declared.queue.QueueOperation.{QueueOperation}
@@ -10,21 +10,23 @@ use Rattle.seq_objects.specs.Replies.{is_value}
 use Rattle.seq_objects.specs.QueueSteps.{queue_operation}
 use Rattle.seq_objects.specs.StackSteps.{stack_operation}
 
--- the value of a word
+-- The value of a word of a list: its low 32 bits.
 abbrev pub value_of : ℕ → ℕ
 value_of word = word % 2 ^ 32
 
--- the value that a reply shows, if it shows one
+-- The value that a reply word gives, or none where it gives no value.
 abbrev pub shown_value : ℕ → Option ℕ
 shown_value reply = if is_value reply then Some (value_of reply) else None
 
--- the effect of a queue's operation: an enqueue puts in, a dequeue takes
+-- The effect of a queue's operation: an enqueue puts its value in, a dequeue takes one out, and an
+-- unknown operation does neither.
 abbrev pub queue_deed : Option QueueOperation → Effect
 queue_deed (Some (Enqueue value)) = Puts value
 queue_deed (Some Dequeue) = Takes
 queue_deed None = Neither
 
--- how a queue is read: an enqueue puts in, and a dequeue takes
+-- How a queue is read: an enqueue puts in, a dequeue takes out, and the values of a list are those
+-- of its words, in order.
 abbrev pub queue_reading : Reading
 queue_reading = record {
   deed = λ word. queue_deed (queue_operation word);
@@ -32,13 +34,15 @@ queue_reading = record {
   values = map value_of;
 }
 
--- the effect of a stack's operation: a push puts in, a pop takes
+-- The effect of a stack's operation: a push puts its value in, a pop takes one out, and an unknown
+-- operation does neither.
 abbrev pub stack_deed : Option StackOperation → Effect
 stack_deed (Some (Push value)) = Puts value
 stack_deed (Some Pop) = Takes
 stack_deed None = Neither
 
--- how a stack is read: a push puts in, a pop takes, and the value that was pushed last comes first
+-- How a stack is read: a push puts in, a pop takes out, and the values of a list are those of its
+-- words, the one that was pushed last first.
 abbrev pub stack_reading : Reading
 stack_reading = record {
   deed = λ word. stack_deed (stack_operation word);

@@ -8,17 +8,20 @@ use Rattle.seq_objects.specs.Items.{first_or_zero}
 use Rattle.seq_objects.specs.RegisterSteps.{register_operation}
 use Rattle.seq_objects.specs.Readings.{value_of, shown_value}
 
--- the value that a register's list holds
+-- The value that a register's list holds: the low 32 bits of its first word, or 0 where the list is
+-- empty.
 abbrev pub held_in : List ℕ → ℕ
 held_in list = value_of (first_or_zero list)
 
--- the effect of a register's operation: a write puts in, a read takes
+-- The effect of a register's operation: a write counts as a put of its value, a read as a take, and
+-- an unknown operation as neither.
 abbrev pub register_deed : Option RegisterOperation → Effect
 register_deed (Some (Write value)) = Puts value
 register_deed (Some Read) = Takes
 register_deed None = Neither
 
--- how a register is read: a write puts in, and a read takes
+-- How a register is read: a write puts in, a read takes, and the values of a list are the low 32
+-- bits of its words.
 abbrev pub register_reading : Reading
 register_reading = record {
   deed = λ word. register_deed (register_operation word);

@@ -10,19 +10,22 @@ use Rattle.seq_objects.specs.Words.{entries, entry_of, is_operation_of, is_known
 use Rattle.seq_objects.specs.Replies.{reply_done, reply_value, reply_bad}
 use Rattle.seq_objects.specs.Items.{first_or_zero, not-found}
 
--- What an operation word asks of a register, where the register knows it.
+-- The operation that an operation word stands for, where a register knows the word.
 abbrev pub register_operation : ℕ → Option RegisterOperation
 register_operation word =
     if is_operation_of word words.write then Some (Write (argument_of word))
     else if is_operation_of word words.read then Some Read
     else None
 
--- A register: one value, which is 0 at first. A list without an item reads as 0.
+-- The list of a register after an operation, and the reply. A write leaves its value alone in the
+-- list, and a read replies the first item, or 0 for an empty list; an unknown operation doesn't
+-- change the list, and gets the reply `bad`.
 abbrev pub register_after : List ℕ → Option RegisterOperation → List ℕ × ℕ
 register_after list (Some (Write value)) = (value ∷ [], reply_done)
 register_after list (Some Read) = (list, reply_value (first_or_zero list))
 register_after list None = (list, reply_bad)
 
+-- An operation of a register makes its list longer by at most one item.
 pub length-register_after : (list : List ℕ) (operation : Option RegisterOperation)
     → length (register_after list operation).0 ≤ length list + 1
 length-register_after list (Some (Write value)) = omega arith
@@ -38,16 +41,21 @@ register_operation-unknown word unknown =
     cond-false (is_operation_of word words.write) _ _ not_write.0
     ∙ cond-false (is_operation_of word words.read) _ _ not_read.0
 
+-- A word that a register doesn't know changes no list, and gets the reply `BAD`.
 pub register_after-unknown : (list : List ℕ) (word : ℕ) → is_known_word kinds.Register word ≡ false
     → register_after list (register_operation word) ≡ (list, BAD)
 register_after-unknown list word unknown =
     ap (register_after list) (register_operation-unknown word unknown)
 
+-- The word of a write makes its argument the only item of a register's list, and gets the reply
+-- `done`.
 pub register_after-write : (list : List ℕ) (word : ℕ) → is_operation_of word words.write ≡ true
     → register_after list (register_operation word) ≡ (argument_of word ∷ [], reply_done)
 register_after-write list word write =
     ap (register_after list) (cond-true (is_operation_of word words.write) _ _ write)
 
+-- The word of a read changes no list of a register, and gets the first item as its reply, or 0 for
+-- an empty list.
 pub register_after-read : (list : List ℕ) (word : ℕ) → is_operation_of word words.write ≡ false
     → is_operation_of word words.read ≡ true
     → register_after list (register_operation word) ≡ (list, reply_value (first_or_zero list))
@@ -56,6 +64,8 @@ register_after-read list word not_write read =
     (cond-false (is_operation_of word words.write) _ _ not_write
     ∙ cond-true (is_operation_of word words.read) _ _ read)
 
+-- A word that is neither a write nor a read changes no list of a register, and gets the reply
+-- `BAD`.
 pub register_after-other : (list : List ℕ) (word : ℕ) → is_operation_of word words.write ≡ false
     → is_operation_of word words.read ≡ false
     → register_after list (register_operation word) ≡ (list, BAD)

@@ -1,7 +1,8 @@
 -- The words of replies, which are the same for all kinds, and the one text of each.
 use Rattle.std.specs.Prelude.{ℕ, ◌+◌, ◌*◌, ◌/◌, ◌%◌, ◌^◌, ◌==◌, ◌||◌, Bool, List, [], ◌∷◌, ◌++◌, find, codes, decimal, Option, Some, None, is_some, if◌then◌else◌}
 
--- A reply word: a tag, and a value below 2 ^ 32.
+-- The reply word that has the tag `tag` above its low 32 bits and the value `value`, which is below
+-- 2 ^ 32, in these bits.
 abbrev pub tagged : ℕ → ℕ → ℕ
 tagged tag value = tag * 2 ^ 32 + value
 
@@ -17,11 +18,13 @@ reply_none = tagged 1 0
 abbrev pub reply_value : ℕ → ℕ
 reply_value item = tagged 2 (item % 2 ^ 32)
 
--- The reply `no`.
+-- The reply `no`: a set or a compare-and-set changed nothing, or a set doesn't have the value that
+-- was asked for.
 abbrev pub reply_no : ℕ
 reply_no = tagged 3 0
 
--- The reply `yes`.
+-- The reply `yes`: an addition, a removal or a compare-and-set succeeded, or a set has the value
+-- that was asked for.
 abbrev pub reply_yes : ℕ
 reply_yes = tagged 3 1
 
@@ -29,12 +32,12 @@ reply_yes = tagged 3 1
 abbrev pub reply_bad : ℕ
 reply_bad = tagged 4 0
 
--- A reply word with a name, and the name.
+-- A reply word whose text is a name, and this name.
 pub record NamedReply : Type 0 where
   pub name : List ℕ
   pub word : ℕ
 
--- The table of replies that are a name.
+-- The table of the replies whose text is a name.
 unfoldable pub named_replies : List NamedReply
 named_replies =
     record { name = codes "done"; word = reply_done }
@@ -44,7 +47,7 @@ named_replies =
     ∷ record { name = codes "bad"; word = reply_bad }
     ∷ []
 
--- The entry of a reply word, where it is a name.
+-- The entry of a reply word in the table of named replies, where the table has it.
 unfoldable pub named_reply : ℕ → Option NamedReply
 named_reply word = find (λ reply. word == reply.word) named_replies
 
@@ -56,13 +59,14 @@ is_value word = word / 2 ^ 32 == 2
 unfoldable pub is_known_reply : ℕ → Bool
 is_known_reply word = is_some (named_reply word) || is_value word
 
--- The word of a text by the entry of the reply word: the name, '=' and the value, or '#' and the
--- whole number where neither is due.
+-- The text of a reply word, given its entry in the table of named replies: the entry's name.
+-- Without an entry: '=' and the value, where the reply word gives one, else '#' and the whole
+-- number.
 abbrev pub reply_word_by_entry : Option NamedReply → ℕ → List ℕ
 reply_word_by_entry (Some reply) word = reply.name
 reply_word_by_entry None word =
     if is_value word then codes "=" ++ decimal (word % 2 ^ 32) else codes "#" ++ decimal word
 
--- The word of a text that stands for a reply word.
+-- The text of a reply word: one word of a text.
 unfoldable pub reply_word : ℕ → List ℕ
 reply_word word = reply_word_by_entry (named_reply word) word

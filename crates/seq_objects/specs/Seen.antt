@@ -9,8 +9,8 @@ use Rattle.seq_objects.specs.Readings.{stack_reading}
 use Rattle.seq_objects.specs.PqueueReading.{pqueue_reading}
 use Rattle.seq_objects.specs.RegisterReading.{register_reading}
 
--- The sight of a stack, a priority queue or a register lists the calls of each value. Nothing is
--- said of what other kinds prepare.
+-- The sight that a stack, a priority queue or a register prepares of a book lists for each value
+-- the calls that put it in or take it out. Nothing is said of the sights of other kinds.
 abbrev pub kind_sees : Kind → List Page → Sight → Type 0
 kind_sees kinds.Queue book sight = Unit {0}
 kind_sees kinds.Stack book sight = ListsValues stack_reading book sight

@@ -10,19 +10,22 @@ use Rattle.seq_objects.specs.Words.{entries, entry_of, is_operation_of, is_known
 use Rattle.seq_objects.specs.Replies.{reply_done, reply_bad}
 use Rattle.seq_objects.specs.Items.{last_taken, length-push, length-last_taken, not-found}
 
--- What an operation word asks of a stack, where the stack knows it.
+-- The operation that an operation word stands for, where a stack knows the word.
 abbrev pub stack_operation : ℕ → Option StackOperation
 stack_operation word =
     if is_operation_of word words.push then Some (Push (argument_of word))
     else if is_operation_of word words.pop then Some Pop
     else None
 
--- A stack: items come in at the end, and are taken out there.
+-- The list of a stack after an operation, and the reply. A push puts its value at the end, and a
+-- pop takes the last item out; an unknown operation doesn't change the list, and gets the reply
+-- `bad`.
 abbrev pub stack_after : List ℕ → Option StackOperation → List ℕ × ℕ
 stack_after list (Some (Push value)) = (list ++ value ∷ [], reply_done)
 stack_after list (Some Pop) = last_taken list
 stack_after list None = (list, reply_bad)
 
+-- An operation of a stack makes its list longer by at most one item.
 pub length-stack_after : (list : List ℕ) (operation : Option StackOperation)
     → length (stack_after list operation).0 ≤ length list + 1
 length-stack_after list (Some (Push value)) = length-push list value
@@ -38,6 +41,7 @@ stack_operation-unknown word unknown =
     cond-false (is_operation_of word words.push) _ _ not_push.0
     ∙ cond-false (is_operation_of word words.pop) _ _ not_pop.0
 
+-- A word that a stack doesn't know changes no list, and gets the reply `BAD`.
 pub stack_after-unknown : (list : List ℕ) (word : ℕ) → is_known_word kinds.Stack word ≡ false
     → stack_after list (stack_operation word) ≡ (list, BAD)
 stack_after-unknown list word unknown = ap (stack_after list) (stack_operation-unknown word unknown)

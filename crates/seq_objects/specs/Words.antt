@@ -40,15 +40,15 @@ pub record OperationEntry : Type 0 where
   pub code : ℕ
   pub arity : Arity
 
--- The entry of an operation that one number follows.
+-- The entry of an operation that has this name and code, and whose name one number follows.
 abbrev pub with_argument : List ℕ → ℕ → OperationEntry
 with_argument name code = record { name = name; code = code; arity = Unary }
 
--- The entry of an operation that two numbers follow.
+-- The entry of an operation that has this name and code, and whose name two numbers follow.
 abbrev pub with_extra : List ℕ → ℕ → OperationEntry
 with_extra name code = record { name = name; code = code; arity = Binary }
 
--- The entry of an operation that is its name alone.
+-- The entry of an operation that has this name and code, and whose name no number follows.
 abbrev pub name_alone : List ℕ → ℕ → OperationEntry
 name_alone name code = record { name = name; code = code; arity = Nullary }
 
@@ -88,7 +88,7 @@ add = with_argument (codes "add") 1
 abbrev pub remove : OperationEntry
 remove = with_argument (codes "remove") 2
 
--- The entry of a set's look for a value.
+-- The entry of a set's test whether it has a value.
 abbrev pub has : OperationEntry
 has = with_argument (codes "has") 3
 
@@ -116,7 +116,7 @@ get = with_argument (codes "get") 2
 abbrev pub del : OperationEntry
 del = with_argument (codes "del") 3
 
--- The table of operations: the entries that a kind knows.
+-- A kind's table of operations: an entry for each operation that the kind knows.
 unfoldable pub entries : Kind → List OperationEntry
 entries Queue = enq ∷ deq ∷ []
 entries Stack = push ∷ pop ∷ []
@@ -127,7 +127,7 @@ entries Pqueue = insert ∷ min ∷ []
 entries CasRegister = write ∷ read ∷ cas ∷ []
 entries Map = put ∷ get ∷ del ∷ []
 
--- The code of an operation word: the part of its low word above 32 bits.
+-- The code of an operation word: the part of its low word above the low 32 bits.
 abbrev pub code_of : ℕ → ℕ
 code_of word = low_of word / 2 ^ 32
 
@@ -143,18 +143,19 @@ extra_of word = high_of word
 abbrev pub word_of : ℕ → ℕ → ℕ → ℕ
 word_of code argument extra = joined (code * 2 ^ 32 + argument) extra
 
--- Whether a word has the arguments of an arity: one that the arity leaves out is 0, and each that
--- it has is below 2 ^ 32.
+-- Whether an operation word has the arguments of an arity: a number that the arity leaves out is 0,
+-- and each number that the arity has is below 2 ^ 32.
 abbrev pub has_arguments : Arity → ℕ → Bool
 has_arguments Nullary word = (argument_of word == 0) && (extra_of word == 0)
 has_arguments Unary word = extra_of word == 0
 has_arguments Binary word = nat_lt (extra_of word) (2 ^ 32)
 
--- Whether a word is an operation of this entry: it has the entry's code, and the entry's arguments.
+-- Whether an operation word is one of the entry `entry`: it has the entry's code, and arguments of
+-- the entry's arity.
 abbrev pub is_operation_of : ℕ → OperationEntry → Bool
 is_operation_of word entry = (code_of word == entry.code) && has_arguments entry.arity word
 
--- The entry of a word, where the kind knows the word.
+-- The entry of an operation word in a kind's table, where the kind knows the word.
 unfoldable pub entry_of : Kind → ℕ → Option OperationEntry
 entry_of kind word = find (is_operation_of word) (entries kind)
 
@@ -162,7 +163,7 @@ entry_of kind word = find (is_operation_of word) (entries kind)
 unfoldable pub is_known_word : Kind → ℕ → Bool
 is_known_word kind word = is_some (entry_of kind word)
 
--- The arguments of a word as words of a text.
+-- The arguments of an operation word as words of a text, in decimal digits.
 abbrev pub argument_words : Arity → ℕ → List (List ℕ)
 argument_words Nullary word = []
 argument_words Unary word = decimal (argument_of word) ∷ []
@@ -175,8 +176,8 @@ whole_digits word =
     if high_of word == 0 then decimal (low_of word)
     else decimal (low_of word) ++ (codes ":" ++ decimal (high_of word))
 
--- The words of a text that stand for an operation word: the name and the arguments, or '#' and the
--- whole word in digits where no entry has the word.
+-- The words of a text that stand for an operation word, given its entry: the entry's name and the
+-- arguments, or, without an entry, '#' and the whole word in digits.
 abbrev pub words_by_entry : Option OperationEntry → ℕ → List (List ℕ)
 words_by_entry (Some entry) word = entry.name ∷ argument_words entry.arity word
 words_by_entry None word = (codes "#" ++ whole_digits word) ∷ []
@@ -189,13 +190,15 @@ operation_words kind word = words_by_entry (entry_of kind word) word
 unfoldable pub operation_text : Kind → ℕ → List ℕ
 operation_text kind word = join_with_byte 32 (operation_words kind word)
 
--- The words after a first one, as far as they are there.
+-- The second and the third word of a text as a list, as far as the text has them; empty where it
+-- has no second word.
 abbrev pub further : Option (List ℕ) → Option (List ℕ) → List (List ℕ)
 further None third = []
 further (Some second) None = second ∷ []
 further (Some second) (Some third) = second ∷ third ∷ []
 
--- Words begin with those of an operation: a first one, and this many further ones.
+-- A list of words of a text begins with the words of the operation word `op` of a kind, of which
+-- the first is followed by `used` further ones.
 pub record Spells (kind : Kind) (words : List (List ℕ)) (op used : ℕ) : Type 0 where
   pub suffix : List (List ℕ)
   pub whole : words ≡ operation_words kind op ++ suffix
@@ -210,7 +213,7 @@ pub record IsWord (word : List ℕ) : Type 0 where
   pub some : 0 < length word
   pub printed : All IsPrinted word
 
--- The new list is the old one with a prefix of the text at its end.
+-- The list `new` is the list `old` with a prefix of `text` added at its end.
 pub record AppendsPrefix (old new text : List ℕ) : Type 0 where
   pub prefix : List ℕ
   pub rest : List ℕ

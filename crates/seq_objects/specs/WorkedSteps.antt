@@ -5,8 +5,8 @@ use Rattle.seq_objects.specs.Words.{operation_text}
 use Rattle.seq_objects.specs.Replies.{reply_word}
 use Rattle.seq_objects.specs.Objects.{kind_next}
 
--- The operation word has the first text, it turns one list into the other, and its reply has the
--- last text.
+-- The operation word `op` of a kind has the text `operation`, turns the list `before` into the list
+-- `after`, and gets a reply whose text is `replied`.
 pub record Makes (kind : Kind) (op : ℕ) (operation before after replied : List ℕ) : Type 0 where
   pub text : operation_text kind op ≡ operation
   pub list : (kind_next kind before op).0 ≡ after

@@ -11,14 +11,14 @@ use crate::kind::Kind;
 use crate::reply::{DONE, NO, YES, value_reply};
 use book_base::{BAD, OpWord, SeqObject, State};
 
-/// How many values there are.
+/// How many values a register can have: those below 2^32.
 const VALUES: u64 = 1 << 32;
 
 /// A register with compare-and-set, which is 0 at first.
 #[derive(Clone, Copy, Debug)]
 pub struct CasRegister;
 
-/// What an operation asks of a register with compare-and-set.
+/// An operation of a register with compare-and-set, with its arguments.
 #[derive(Clone, Copy)]
 enum CasRegisterOperation {
     Write(u32),
@@ -27,7 +27,8 @@ enum CasRegisterOperation {
 }
 
 impl CasRegisterOperation {
-    /// What an operation word asks of the register, where it knows the word.
+    /// The operation that an operation word stands for, where a register with compare-and-set knows
+    /// the word.
     fn from_word(word: OpWord) -> Option<CasRegisterOperation>
         ensures { result ≡ cas_register_operation word }
     {
@@ -44,7 +45,7 @@ impl CasRegisterOperation {
     }
 }
 
-/// Sets the register where it holds the value that is expected.
+/// Sets the register to `new` and replies `YES`, where it holds `expected`; else replies `NO`.
 fn compare_and_set(state: &mut State, expected: u32, new: u32) -> u64
     requires { length state.old.words < state.old.room }
     ensures list { state.new ≡

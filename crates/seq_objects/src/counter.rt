@@ -11,21 +11,21 @@ use crate::kind::Kind;
 use crate::reply::{is_value, value_reply};
 use book_base::{BAD, OpWord, SeqObject, State};
 
-/// How many counts there are.
+/// How many values a count can have: it counts modulo 2^32.
 const COUNTS: u64 = 1 << 32;
 
 /// A counter modulo 2^32, which is 0 at first.
 #[derive(Clone, Copy, Debug)]
 pub struct Counter;
 
-/// What an operation asks of a counter.
+/// An operation of a counter.
 #[derive(Clone, Copy)]
 enum CounterOperation {
     Increment,
 }
 
 impl CounterOperation {
-    /// What an operation word asks of a counter, where it knows the word.
+    /// The operation that an operation word stands for, where a counter knows the word.
     fn from_word(word: OpWord) -> Option<CounterOperation>
         ensures { result ≡ counter_operation word }
     {

@@ -12,7 +12,7 @@ fn begins_as_number(word: &[u8]) -> bool
     matches!(word, [b'0'] | [b'1'..=b'9', ..])
 }
 
-/// The number that a word spells in decimal digits, without a leading zero.
+/// The number below 2^64 that a word spells in decimal digits, without a leading zero.
 pub fn number(word: &[u8]) -> Option<u64>
     // A number that is answered is the one whose decimal digits the word is.
     ensures found { IfSome result (λ n. decimal n ≡ word.now) }
@@ -56,7 +56,7 @@ pub fn put_marked(out: &mut Vec<u8>, mark: u8, n: u64) -> Result<(), NoMemory>
     put_number(out, n)
 }
 
-/// What follows a byte that a word begins with.
+/// The bytes after the first one of a word, where the first one is `mark`.
 pub fn suffix(mark: u8, word: &[u8]) -> Option<&[u8]>
     ensures found { IfSome result (λ rest. word.now ≡ mark ∷ rest.now) }
     ensures none { IfNone result ((rest : List ℕ) → word.now ≢ mark ∷ rest) }

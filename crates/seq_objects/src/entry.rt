@@ -171,7 +171,7 @@ fn word_of(code: u32, argument: u32, extra: u32) -> OpWord
 }
 
 impl Arity {
-    /// Whether a word has the arguments of this arity.
+    /// Whether an operation word has the arguments of this arity.
     fn fits(self, word: OpWord) -> bool
         ensures { result ≡ words.has_arguments self word }
     {
@@ -184,15 +184,16 @@ impl Arity {
 }
 
 impl OperationEntry {
-    /// Whether a word is an operation of this entry.
+    /// Whether an operation word is one of this entry.
     pub fn has(&self, word: OpWord) -> bool
         ensures { result ≡ words.is_operation_of word (shown self.now) }
     {
         code_of(word) == u64::from(self.code) && self.arity.fits(word)
     }
 
-    /// The word of this entry with the arguments that the further words spell, and how many of
-    /// these words are used.
+    /// The operation word of this entry with the arguments that the words `second` and `third` of a
+    /// text spell, and how many of these two words the entry uses. Answers `None` where a word that
+    /// the entry uses is missing or spells no argument.
     pub fn operation(&self, second: Option<&[u8]>, third: Option<&[u8]>) -> Option<(OpWord, u32)>
         ensures found { IfSome result (λ (word, used).
             let words_left = further (option_copied second.entry) (option_copied third.entry) in
@@ -211,7 +212,7 @@ impl OperationEntry {
         }
     }
 
-    /// Appends the text of a word of this entry.
+    /// Appends the text of an operation word of this entry.
     pub fn put(&self, out: &mut Vec<u8>, word: OpWord) -> Result<(), NoMemory>
         ensures ok { OnOk result (out.new.items ≡ out.old.items ++ text_of (shown self.now) word) }
         ensures err { OnErr result
@@ -222,7 +223,7 @@ impl OperationEntry {
     }
 }
 
-/// Appends the arguments of a word, each after a space.
+/// Appends the arguments of an operation word, each after a space.
 fn put_arguments(out: &mut Vec<u8>, arity: Arity, word: OpWord) -> Result<(), NoMemory>
     ensures ok { OnOk result (out.new.items ≡ out.old.items ++ spaced_arguments arity word) }
     ensures err { OnErr result
@@ -238,14 +239,14 @@ fn put_arguments(out: &mut Vec<u8>, arity: Arity, word: OpWord) -> Result<(), No
     }
 }
 
-/// The entry of a word, where the kind knows the word.
+/// The entry of an operation word in a kind's table, where the kind knows the word.
 pub fn entry_of(kind: Kind, word: OpWord) -> Option<OperationEntry>
     ensures { option_map shown result ≡ words.entry_of kind word }
 {
     entries(kind).iter().find(|entry| entry.has(word)).copied()
 }
 
-/// The entry with this name in a kind's table.
+/// The entry with the name `name` in a kind's table of operations.
 pub fn entry_named(kind: Kind, name: &[u8]) -> Option<OperationEntry>
     ensures { option_map shown result ≡ entry_named kind name.now }
 {

@@ -19,7 +19,7 @@ use std::alloc::Global;
 #[derive(Clone, Copy, Debug)]
 pub struct IntSet;
 
-/// What an operation asks of a set.
+/// An operation of a set, with its argument.
 #[derive(Clone, Copy)]
 enum IntSetOperation {
     Add(u32),
@@ -28,7 +28,7 @@ enum IntSetOperation {
 }
 
 impl IntSetOperation {
-    /// What an operation word asks of a set, where it knows the word.
+    /// The operation that an operation word stands for, where a set knows the word.
     fn from_word(word: OpWord) -> Option<IntSetOperation>
         ensures { result ≡ set_operation word }
     {
@@ -44,7 +44,7 @@ impl IntSetOperation {
     }
 }
 
-/// Adds a value, where it isn't in the set.
+/// Adds a value and replies `YES`, where the set lacks it; else replies `NO`.
 fn add(state: &mut State, value: u64) -> u64
     requires { length state.old.words < state.old.room }
     ensures list { state.new ≡ record state.old { words = (added state.old.words value).0 } }
@@ -57,7 +57,7 @@ fn add(state: &mut State, value: u64) -> u64
     YES
 }
 
-/// Takes a value out, where it is in the set.
+/// Takes a value out and replies `YES`, where the set has it; else replies `NO`.
 fn remove(state: &mut State, value: u64) -> u64
     ensures list { state.new ≡ record state.old { words = (removed state.old.words value).0 } }
     ensures reply { result ≡ (removed state.old.words value).1 }
@@ -148,19 +148,20 @@ impl SeqObject for IntSet {
         requires open { HasOneOpen book.now }
         // The cut has a count for each caller of the book.
         requires wide { length cut.now ≡ length book.now }
-        // Of all answered calls outside the cut the forced caller's first one has the least view.
+        // The forced caller's next call after the cut is answered, and has the least view of all
+        // answered calls outside the cut.
         requires forced { IsForced book.now cut.now forced }
         // Exactly those callers are marked whose next calls after the cut may come next.
         requires marks { MarksAllNext book.now cut.now marks }
         // Each caller that the answer marks was marked.
         ensures fewer { IsMarkedWithin result marks }
-        // Where places continue an order from the cut and the list, as many or fewer that begin
-        // with the next call of a caller that the answer marks do too.
+        // Where places continue an order from the cut and the list `words`, as many places or fewer
+        // do that begin with the next call of a caller that the answer marks.
         ensures suffice { MarksSuffice book.now
             (λ list op. set_after list (set_operation op)) cut.now
             words.now result }
-        // Where the forced call has a key, exactly those marked callers keep their marks whose next
-        // calls have this key; else all marked callers do.
+        // Where the forced caller's next call has a key, exactly the marked callers whose next
+        // calls have this key keep their marks; else all marked callers do.
         ensures narrowed { IsNarrowedToKey set_key book.now cut.now forced marks result }
     {
         narrow_to_key(self, book, cut, forced, marks)

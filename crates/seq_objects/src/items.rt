@@ -37,7 +37,7 @@ pub fn first_or_zero(state: &State) -> u64
     if state.is_empty() { 0 } else { state.get(0) }
 }
 
-/// Makes the list this item alone.
+/// Makes `item` the only item of the list.
 pub fn set_only(state: &mut State, item: u64)
     requires { length state.old.words < state.old.room }
     ensures { state.new ≡ record state.old { words = item ∷ [] } }

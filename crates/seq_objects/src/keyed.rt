@@ -9,17 +9,18 @@ use book_base::{Book, Call, Cut, MarkedCallers, OpWord, Sight};
 use std::alloc::Global;
 use std::collections::BTreeMap;
 
-/// An object of keys, which reads the key that an operation is on.
+/// An object of keys: each of its operations sees and changes only what belongs to one key, and the
+/// object reads this key off the operation word.
 pub trait Keyed {
-    /// The key that an operation word is on, where it is on one.
+    /// The key of an operation word, where the word has one.
     ghost key_of: { Self → ℕ → Option ℕ };
 
-    /// The key that an operation word is on, where it is on one.
+    /// The key of an operation word, where the word has one.
     fn key(&self, op: OpWord) -> Option<u32>
         ensures { result ≡ key_of self.now op };
 }
 
-/// An empty sight, for an object that looks at the book alone.
+/// A sight that lists nothing, for an object that narrows by the book alone.
 pub fn empty_sight(alloc: Global) -> Sight {
     Sight {
         labelled: Vec::new(alloc),
@@ -28,11 +29,12 @@ pub fn empty_sight(alloc: Global) -> Sight {
     }
 }
 
-/// Of the marked callers those whose next calls have the forced call's key, or all where it has
-/// none.
+/// The marked callers whose next calls have the key of the forced caller's next call; all marked
+/// callers where that call has no key.
 ///
-/// They suffice: where places continue an order, the first one of a call with this key may be put
-/// before all others, since this call may come next (after Herlihy and Wing 1990, on locality).
+/// The marks that stay suffice: where places continue an order, the first one of a call with this
+/// key may be put before all others, since this call may come next (after Herlihy and Wing 1990, on
+/// locality).
 pub fn narrow_to_key<K: Keyed>(
     object: &K,
     book: &Book,
@@ -82,7 +84,7 @@ fn next_key<K: Keyed>(object: &K, book: &Book, cut: &Cut, caller: u32) -> Option
     object.key(book.op(next_of(cut, caller)))
 }
 
-/// Whether a caller's next call after a cut is on this key.
+/// Whether a caller's next call after a cut has the key `key`.
 fn is_next_on<K: Keyed>(object: &K, book: &Book, cut: &Cut, caller: u32, key: u32) -> bool
     requires caller { caller < length cut.now }
     requires call { IsCall book.now (next_call cut.now caller) }

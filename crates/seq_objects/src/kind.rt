@@ -50,11 +50,11 @@ const KINDS: &[Kind] = &[
 ];
 
 impl Kind {
-    /// The kind with this name in texts.
+    /// The kind whose name in texts is `name`.
     pub fn from_name(name: &[u8]) -> Option<Kind>
-        // A kind that is answered has this name.
+        // A kind that is answered has the name `name`.
         ensures found { IfSome result (λ kind. kind_name kind ≡ name.now) }
-        // Where none is answered, no kind has this name.
+        // Where none is answered, no kind has the name `name`.
         ensures none { IfNone result ((kind : Kind) → kind_name kind ≢ name.now) }
     {
         KINDS
@@ -87,7 +87,7 @@ impl Kind {
         !matches!(self, Kind::CasRegister | Kind::Map)
     }
 
-    /// The word that the kind doesn't know and that these digits spell.
+    /// The operation word that `digits` spell, where the kind doesn't know this word.
     fn unknown_word(self, digits: &[u8]) -> Option<OpWord>
         ensures found { IfSome result (λ word.
             (whole_digits word ≡ digits.now) × (is_known_word self word ≡ false)) }
@@ -98,20 +98,20 @@ impl Kind {
         if self.known(word) { None } else { Some(word) }
     }
 
-    /// The operation word that the first word spells with none, one or both of the further words,
-    /// and how many of these are used.
+    /// The operation word that the words of a text spell, which are `first`, then `second` and
+    /// `third` as far as the operation needs them; and how many of the last two it uses.
     pub fn op_from_words(
         self,
         first: &[u8],
         second: Option<&[u8]>,
         third: Option<&[u8]>,
     ) -> Option<(OpWord, u32)>
-        // The words begin with those of the operation that is answered: the first one, and as many
-        // further ones as is answered.
+        // The words of the text begin with those of the operation word that is answered: `first`,
+        // and after it as many words as the answer says.
         ensures found { IfSome result (λ (op, used).
             let others = further (option_copied second.entry) (option_copied third.entry) in
             Spells self (first.now ∷ others) op used) }
-        // Where nothing is answered, the words begin with those of no operation.
+        // Where `None` is answered, the words of the text begin with those of no operation word.
         ensures none { IfNone result ((op used : ℕ) → IsOperationWord op →
             let others = further (option_copied second.entry) (option_copied third.entry) in
             ¬ (Spells self (first.now ∷ others) op used)) }
@@ -126,7 +126,8 @@ impl Kind {
     pub fn put_op(self, out: &mut Vec<u8>, op: OpWord) -> Result<(), NoMemory>
         // Without want of memory the list has the text of the operation word after what it held.
         ensures ok { OnOk result (out.new.items ≡ out.old.items ++ operation_text self op) }
-        // After want of memory the list has a prefix of that text after what it held.
+        // After want of memory the list has a prefix of the operation word's text after what it
+        // held.
         ensures err { OnErr result
             (AppendsPrefix out.old.items out.new.items (operation_text self op)) }
     {
@@ -182,7 +183,8 @@ impl SeqObject for Kind {
         }
     }
 
-    /// What the object knows of a book before a search. Only queues and stacks know anything.
+    /// The pruning rules that the object knows of a book before a search. Only queues and stacks
+    /// know any.
     #[tactic(auto, unfolding(crate::specs::Objects::kind_next))]
     fn find_pruning_rules(&self, alloc: Global, book: &Book) -> Result<PruningRules, NoMemory> {
         match self {
@@ -197,8 +199,8 @@ impl SeqObject for Kind {
         }
     }
 
-    /// Whether an operation is read-only with this reply. It is so too with a reply that it never
-    /// gives, since it changes no list with that reply.
+    /// Whether an operation is read-only with the reply `reply`: it changes no list at which it has
+    /// this reply. So it is read-only with each reply that it never gives.
     #[tactic(auto, unfolding(crate::specs::Objects::kind_next))]
     fn leaves(&self, op: OpWord, reply: u64) -> bool
         ensures { IsTrue result ↔ Leaves (kind_next self.now) op reply }
@@ -215,8 +217,8 @@ impl SeqObject for Kind {
         }
     }
 
-    /// What is said of a whole book without a search of orders: of a queue's by pairs of puts and
-    /// takes, of a stack's by levels.
+    /// Decides a whole book without a search of orders: a queue's book by pairs of puts and takes,
+    /// and a stack's by levels. No decision is made for other kinds.
     fn decide(&self, alloc: Global, book: &Book) -> Result<Decision, NoMemory> {
         match self {
             Kind::Queue => decide_queue(alloc, &Queue, book),

@@ -20,7 +20,8 @@ pub fn one_text_per_operation()
     // Two operation words with the same text of a kind are equal.
     ensures text { (kind : Kind) (a b : ℕ) → IsOperationWord a → IsOperationWord b
         → operation_text kind a ≡ operation_text kind b → a ≡ b }
-    // Where words begin with those of two operation words of a kind, the two are equal.
+    // Where the words of a text begin with those of two operation words of a kind, the two are
+    // equal, and so are the numbers of words that they use.
     ensures reading { (kind : Kind) (words : List (List ℕ)) (a b a_used b_used : ℕ)
         → IsOperationWord a → IsOperationWord b
         → Spells kind words a a_used → Spells kind words b b_used
@@ -49,9 +50,10 @@ pub fn maps_keep_what_is_put()
     ensures put_leaves_others { PutLeavesOthers }
     // A delete doesn't change what a get gives of any other key.
     ensures delete_leaves_others { DeleteLeavesOthers }
-    // A get after a delete of its key gives none, where no two items of the list have one key.
+    // A get after a delete of its key gives none, where no two items of the map's list had the same
+    // key before the delete.
     ensures deleted { DeletedIsNone }
-    // After each operation no two items have one key, where no two items of the list before have
-    // one.
+    // Where no two items of a map's list have the same key, no two items have the same key after an
+    // operation.
     ensures once { KeysStayOnce }
 {}

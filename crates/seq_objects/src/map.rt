@@ -23,7 +23,7 @@ const VALUES: u64 = 1 << 32;
 #[derive(Clone, Copy, Debug)]
 pub struct Map;
 
-/// What an operation asks of a map.
+/// An operation of a map, with its arguments.
 #[derive(Clone, Copy)]
 enum MapOperation {
     Put(u32, u32),
@@ -32,7 +32,7 @@ enum MapOperation {
 }
 
 impl MapOperation {
-    /// What an operation word asks of a map, where it knows the word.
+    /// The operation that an operation word stands for, where a map knows the word.
     fn from_word(word: OpWord) -> Option<MapOperation>
         ensures { result ≡ map_operation word }
     {
@@ -49,7 +49,7 @@ impl MapOperation {
     }
 }
 
-/// The item of a key and its value.
+/// The item of a map for a key and its value: the key times 2^32, plus the value.
 fn item_of(key: u32, value: u32) -> u64
     ensures { result ≡ steps.item_of key value }
 {
@@ -81,7 +81,7 @@ fn put(state: &mut State, key: u32, value: u32) -> u64
     value_reply(old)
 }
 
-/// The reply with the value of a key, or that it has none.
+/// The reply that gives the value of a key, or says that the key has none.
 fn get(state: &State, key: u32) -> u64
     ensures { result ≡ value_at state.now.words (place_of_key state.now.words key) }
 {
@@ -91,7 +91,7 @@ fn get(state: &State, key: u32) -> u64
     }
 }
 
-/// Takes the first item with a key out, where there is one: the reply gives its value.
+/// Takes out the first item with a key: the reply gives its value, or says that there is none.
 fn delete(state: &mut State, key: u32) -> u64
     ensures list { state.new ≡
         record state.old { words = without state.old.words (place_of_key state.old.words key) } }
@@ -150,8 +150,8 @@ impl SeqObject for Map {
         ensures { IsTrue result ↔ Leaves (λ list op. map_after list (map_operation op)) op reply }
     {
         match MapOperation::from_word(op) {
-            // A put that replies the value that it puts in found this value there, and no put gives
-            // a reply that is neither `NONE` nor a value.
+            // A put whose reply is the value that it puts in found this value there and changes
+            // nothing. A reply that is neither `NONE` nor a value is the reply of no put.
             Some(MapOperation::Put(_, value)) => {
                 reply == value_reply(u64::from(value)) || reply != NONE && !is_value(reply)
             }
@@ -180,19 +180,20 @@ impl SeqObject for Map {
         requires open { HasOneOpen book.now }
         // The cut has a count for each caller of the book.
         requires wide { length cut.now ≡ length book.now }
-        // Of all answered calls outside the cut the forced caller's first one has the least view.
+        // The forced caller's next call after the cut is answered, and has the least view of all
+        // answered calls outside the cut.
         requires forced { IsForced book.now cut.now forced }
         // Exactly those callers are marked whose next calls after the cut may come next.
         requires marks { MarksAllNext book.now cut.now marks }
         // Each caller that the answer marks was marked.
         ensures fewer { IsMarkedWithin result marks }
-        // Where places continue an order from the cut and the list, as many or fewer that begin
-        // with the next call of a caller that the answer marks do too.
+        // Where places continue an order from the cut and the list `words`, as many places or fewer
+        // do that begin with the next call of a caller that the answer marks.
         ensures suffice { MarksSuffice book.now
             (λ list op. map_after list (map_operation op)) cut.now
             words.now result }
-        // Where the forced call has a key, exactly those marked callers keep their marks whose next
-        // calls have this key; else all marked callers do.
+        // Where the forced caller's next call has a key, exactly the marked callers whose next
+        // calls have this key keep their marks; else all marked callers do.
         ensures narrowed { IsNarrowedToKey map_key book.now cut.now forced marks result }
     {
         narrow_to_key(self, book, cut, forced, marks)

@@ -20,7 +20,7 @@ use value_pruning::{narrow_least_first, sight_of_values};
 #[derive(Clone, Copy, Debug)]
 pub struct Pqueue;
 
-/// What an operation asks of a priority queue.
+/// An operation of a priority queue, with its argument.
 #[derive(Clone, Copy)]
 enum PqueueOperation {
     Insert(u32),
@@ -28,7 +28,7 @@ enum PqueueOperation {
 }
 
 impl PqueueOperation {
-    /// What an operation word asks of a priority queue, where it knows the word.
+    /// The operation that an operation word stands for, where a priority queue knows the word.
     fn from_word(word: OpWord) -> Option<PqueueOperation>
         ensures { result ≡ pqueue_operation word }
     {

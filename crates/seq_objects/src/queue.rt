@@ -18,7 +18,7 @@ use std::alloc::Global;
 #[derive(Clone, Copy, Debug)]
 pub struct Queue;
 
-/// What an operation asks of a queue.
+/// An operation of a queue, with its argument.
 #[derive(Clone, Copy)]
 enum QueueOperation {
     Enqueue(u32),
@@ -26,7 +26,7 @@ enum QueueOperation {
 }
 
 impl QueueOperation {
-    /// What an operation word asks of a queue, where it knows the word.
+    /// The operation that an operation word stands for, where a queue knows the word.
     fn from_word(word: OpWord) -> Option<QueueOperation>
         ensures { result ≡ queue_operation word }
     {

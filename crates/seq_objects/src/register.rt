@@ -16,14 +16,14 @@ use container_pruning::{Reader, Role};
 use std::alloc::Global;
 use value_pruning::{narrow_holds_last, sight_of_values};
 
-/// How many values there are.
+/// How many values a register can have: those below 2^32.
 const VALUES: u64 = 1 << 32;
 
 /// A register, which is 0 at first.
 #[derive(Clone, Copy, Debug)]
 pub struct Register;
 
-/// What an operation asks of a register.
+/// An operation of a register, with its argument.
 #[derive(Clone, Copy)]
 enum RegisterOperation {
     Write(u32),
@@ -31,7 +31,7 @@ enum RegisterOperation {
 }
 
 impl RegisterOperation {
-    /// What an operation word asks of a register, where it knows the word.
+    /// The operation that an operation word stands for, where a register knows the word.
     fn from_word(word: OpWord) -> Option<RegisterOperation>
         ensures { result ≡ register_operation word }
     {
@@ -45,7 +45,8 @@ impl RegisterOperation {
     }
 }
 
-/// The value that a register's list holds.
+/// The value that a register's list holds: the low 32 bits of its first word, or 0 where the list
+/// is empty.
 fn held_in(words: &[u64]) -> u64
     ensures { result ≡ held_in words.now }
 {

@@ -25,7 +25,7 @@ pub const NO: u64 = 3 << 32;
 /// The reply word for yes.
 pub const YES: u64 = (3 << 32) + 1;
 
-/// A reply word that is a name, and the name.
+/// A reply word whose text is a name, and this name.
 #[derive(Clone, Copy)]
 struct NamedReply {
     name: &'static str,
@@ -55,7 +55,7 @@ const NAMED_REPLIES: [NamedReply; 5] = [
     },
 ];
 
-/// The table of replies that are a name.
+/// The table of the replies whose text is a name.
 #[tactic(auto, unfolding(crate::specs::Replies::named_replies))]
 fn all_named() -> &'static [NamedReply]
     ensures { map shown result.now ≡ named_replies }
@@ -63,7 +63,7 @@ fn all_named() -> &'static [NamedReply]
     &NAMED_REPLIES
 }
 
-/// The entry of a reply word, where it is a name.
+/// The entry of a reply word in the table of named replies, where the table has it.
 fn named(reply: u64) -> Option<NamedReply>
     ensures { option_map shown result ≡ named_reply reply }
 {
@@ -73,7 +73,7 @@ fn named(reply: u64) -> Option<NamedReply>
         .copied()
 }
 
-/// The entry with this name.
+/// The entry with the name `name` in the table of named replies.
 fn reply_named(name: &[u8]) -> Option<NamedReply>
     ensures { option_map shown result ≡ reply_named name.now }
 {
@@ -116,7 +116,7 @@ fn is_known(reply: u64) -> bool
     named(reply).is_some() || is_value(reply)
 }
 
-/// The reply word without a text of its own that these digits spell.
+/// The reply word that `digits` spell, where it neither has a name nor gives a value.
 fn unknown_reply(digits: &[u8]) -> Option<u64>
     ensures found { IfSome result (λ reply.
         (decimal reply ≡ digits.now) × (is_known_reply reply ≡ false)) }
@@ -127,7 +127,7 @@ fn unknown_reply(digits: &[u8]) -> Option<u64>
     if is_known(reply) { None } else { Some(reply) }
 }
 
-/// The reply word whose text is this word.
+/// The reply word whose text is `word`.
 pub fn reply_from_word(word: &[u8]) -> Option<u64>
     // A reply that is answered is the one whose text the word is.
     ensures found { IfSome result (λ reply. reply_word reply ≡ word.now) }

@@ -23,7 +23,7 @@ use value_pruning::sight_of_values;
 #[derive(Clone, Copy, Debug)]
 pub struct Stack;
 
-/// What an operation asks of a stack.
+/// An operation of a stack, with its argument.
 #[derive(Clone, Copy)]
 enum StackOperation {
     Push(u32),
@@ -31,7 +31,7 @@ enum StackOperation {
 }
 
 impl StackOperation {
-    /// What an operation word asks of a stack, where it knows the word.
+    /// The operation that an operation word stands for, where a stack knows the word.
     fn from_word(word: OpWord) -> Option<StackOperation>
         ensures { result ≡ stack_operation word }
     {

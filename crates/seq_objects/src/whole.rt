@@ -6,7 +6,8 @@ ghost use Rattle.seq_objects.specs.Words.{whole_digits, AppendsPrefix};
 use crate::digits::{number, put_marked};
 use book_base::{NoMemory, OpWord, high, join, low};
 
-/// The part of a word before the first byte of this value, and the part after it.
+/// The part of a word before its first byte `mark`, and the part after this byte, where the word
+/// has such a byte.
 fn split_at_mark(mark: u8, word: &[u8]) -> Option<(&[u8], &[u8])>
     ensures found { IfSome result (λ (before, suffix).
         (word.now ≡ before.now ++ mark ∷ suffix.now) × Lacks mark before.now) }

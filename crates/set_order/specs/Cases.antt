@@ -1,4 +1,4 @@
--- Words of the worked cases.
+-- Operation words of the worked cases.
 use Rattle.std.specs.Prelude.{ℕ, ◌+◌, ◌^◌}
 
 -- the operation that joins a number

@@ -1,5 +1,5 @@
 -- The search for a legal set order: the pairs of a cut and a list that it reaches, and what it
--- knows there.
+-- knows at each of them.
 use Rattle.std.specs.Prelude.{◌≡◌, ◌≢◌, ℕ, zero, suc, ◌+◌, ◌*◌, ◌-◌, ◌/◌, ◌%◌, ◌^◌, ◌<◌, ◌≤◌, ◌==◌, ◌⊎◌, List, [], ◌∷◌, length, map, replicate, Option, Some, unwrap_or, slice_index, slice_set, if◌then◌else◌}
 use Rattle.std.specs.List.{AllByRecursion}
 use Rattle.book_base.specs.declared.call.Record.{Record}
@@ -20,19 +20,20 @@ use Rattle.set_order.specs.SetOrder.{callers_of, operations_of, replies_of, Rise
 abbrev pub no_calls : List Page → List ℕ
 no_calls book = replicate (length book) 0
 
--- the cut that holds the calls of a set too
+-- the cut that holds the calls of `cut` and those of a set
 abbrev pub raised_by : List ℕ → List Place → List ℕ
 raised_by cut [] = cut
 raised_by cut (place ∷ set) = raised_by (slice_set cut place.caller (place.number + 1)) set
 
--- A call may stand in the next set after the calls of a cut: it may come next, and its reply is the
--- recorded one where it is answered.
+-- A place may stand in the next set after the calls of a cut: its call may come next, and has the
+-- place's reply as its recorded reply where it is answered.
 pub record MayStandIn (book : List Page) (cut : List ℕ) (place : Place) : Type 0 where
   pub may_come : MayComeNext book cut (call_at place)
   pub recorded : (r : Record) → record_of book (call_at place) ≡ Some r → r.reply ≡ place.reply
 
--- A set may come next after the calls of a cut and at a list of the object, and serving it takes
--- the object to another list.
+-- A set may come next after the calls of a cut and at a list of the object: it has a call, its
+-- calls are in the order of their callers, each of them may stand in the next set, and the object
+-- serves them at once with the replies of their places, which leads to the list `after`.
 pub record MayStandTogether (served : List ℕ → List ℕ → Option (List ℕ × List ℕ)) (book : List Page)
     (cut list : List ℕ) (set : List Place) (after : List ℕ) : Type 0 where
   pub some : 1 ≤ length set
@@ -40,8 +41,8 @@ pub record MayStandTogether (served : List ℕ → List ℕ → Option (List ℕ
   pub each : AllByRecursion (MayStandIn book cut) set
   pub served_so : served list (operations_of book set) ≡ Some (after, replies_of set)
 
--- The sets continue an order from a cut and a list of the object on: each may come next after those
--- before it, and in the end the cut holds all answered calls.
+-- Sets continue an order from a cut and a list of the object: each may come next after those before
+-- it, and in the end the cut holds all answered calls.
 abbrev pub SetsContinue : (List ℕ → List ℕ → Option (List ℕ × List ℕ)) → List Page → List ℕ → List ℕ
     → List (List Place) → Type 0
 SetsContinue served book cut list [] = HoldsAnswered book cut
@@ -49,44 +50,47 @@ SetsContinue served book cut list (set ∷ sets) =
     (after : List ℕ) × MayStandTogether served book cut list set after
     × SetsContinue served book (raised_by cut set) after sets
 
--- A cut and a list are a dead end: no sets continue an order from there.
+-- A cut and a list are a dead end: no sets continue an order from them.
 abbrev pub IsDeadEnd : (List ℕ → List ℕ → Option (List ℕ × List ℕ)) → List Page → List ℕ
     → List ℕ → Type 0
 IsDeadEnd served book cut list = (sets : List (List Place))
     → SetsContinue served book cut list sets → ⊥
 
--- the part of these callers that a number picks, by its binary digits
+-- the callers of a list that `number` picks by its binary digits: the first caller where the lowest
+-- digit is 1, the second one by the next digit, and so on
 abbrev pub picked : ℕ → List ℕ → List ℕ
 picked number [] = []
 picked number (i ∷ callers) =
     if number % 2 == 1 then i ∷ picked (number / 2) callers else picked (number / 2) callers
 
--- the caller is one of these
+-- the caller `i` is in a list of callers
 abbrev pub IsOneCaller : List ℕ → ℕ → Type 0
 IsOneCaller [] i = ⊥
 IsOneCaller (j ∷ callers) i = (i ≡ j) ⊎ IsOneCaller callers i
 
--- The callers, in order, are all those whose next calls may come next.
+-- The list `callers` has, in order, exactly the callers whose next calls after a cut may come next.
 pub record AreCandidates (book : List Page) (cut callers : List ℕ) : Type 0 where
   pub rise : RiseFrom 0 callers
   pub may_come : AllByRecursion (λ i. MayComeNext book cut (next_call cut i)) callers
   pub all : (i : ℕ) → MayComeNext book cut (next_call cut i) → IsOneCaller callers i
 
--- No set of the next calls of exactly these callers may come next.
+-- At a cut and a list, no set of the next calls of exactly the callers `callers` may come next.
 abbrev pub CannotStand : (List ℕ → List ℕ → Option (List ℕ × List ℕ)) → List Page → List ℕ → List ℕ
     → List ℕ → Type 0
 CannotStand served book cut list callers = (set : List Place) (after : List ℕ)
     → callers_of set ≡ callers → MayStandTogether served book cut list set after → ⊥
 
--- Each set of the next calls of exactly these callers that may come next leads to a dead end.
+-- At a cut and a list, each set of the next calls of exactly the callers `callers` that may come
+-- next leads to a dead end.
 abbrev pub LeadsNowhere : (List ℕ → List ℕ → Option (List ℕ × List ℕ)) → List Page → List ℕ → List ℕ
     → List ℕ → Type 0
 LeadsNowhere served book cut list callers = (set : List Place) (after : List ℕ)
     → callers_of set ≡ callers → MayStandTogether served book cut list set after
     → IsDeadEnd served book (raised_by cut set) after
 
--- What is known at a cut and a list: the cut lacks an answered call, these callers are the
--- candidates, and each part of them that a number above `left` picks leads nowhere.
+-- What is known at a cut and a list where sets are still to be tried: the cut lacks an answered
+-- call, the callers `callers` are exactly those whose next calls may come next, and each part of
+-- them that a number above `left` picks leads nowhere.
 pub record IsOpen (served : List ℕ → List ℕ → Option (List ℕ × List ℕ)) (book : List Page)
     (cut list callers : List ℕ) (left : ℕ) : Type 0 where
   pub unended : HoldsAnswered book cut → ⊥
@@ -95,8 +99,9 @@ pub record IsOpen (served : List ℕ → List ℕ → Option (List ℕ × List �
   pub tried : (number : ℕ) → left < number → number < 2 ^ length callers
       → LeadsNowhere served book cut list (picked number callers)
 
--- A frame belongs to a cut and a list: its set may come next there, and takes the object to another
--- list.
+-- A frame is one of a cut and a list: it keeps their counts and words; its set may come next at
+-- them, and leads to the list `after`; and the parts of its callers that numbers above that of its
+-- set pick lead nowhere.
 pub record IsFrame (served : List ℕ → List ℕ → Option (List ℕ × List ℕ)) (book : List Page)
     (cut list : List ℕ) (frame : SetFrame) (after : List ℕ) : Type 0 where
   pub counts : frame.counts.items ≡ cut
@@ -105,7 +110,7 @@ pub record IsFrame (served : List ℕ → List ℕ → Option (List ℕ × List 
   pub chosen : callers_of frame.set ≡ picked (frame.left + 1) frame.callers.items
   pub stands : MayStandTogether served book cut list frame.set after
 
--- The frames lead from one cut and list to another, each by its set.
+-- The frames of a walk lead from one cut and list to another cut and list, each by its set.
 abbrev pub Leads : (List ℕ → List ℕ → Option (List ℕ × List ℕ)) → List Page → List ℕ → List ℕ
     → List SetFrame → List ℕ → List ℕ → Type 0
 Leads served book cut list [] to_cut to_list = (cut ≡ to_cut) × (list ≡ to_list)
@@ -113,13 +118,15 @@ Leads served book cut list (frame ∷ frames) to_cut to_list =
     (after : List ℕ) × IsFrame served book cut list frame after
     × Leads served book (raised_by cut frame.set) after frames to_cut to_list
 
--- all remembered pairs are dead ends
+-- each pair of a cut and a list that the memo of a walk remembers is a dead end
 abbrev pub AllDead : (List ℕ → List ℕ → Option (List ℕ × List ℕ)) → List Page → SetWalk → Type 0
 AllDead served book walk = (cut list : List ℕ) → Remembers walk.memo cut list
     → IsDeadEnd served book cut list
 
--- A walk is right: its frames lead from the cut without calls and the object's first list to where
--- it is now, and what it remembers are dead ends.
+-- A walk is sound: its frames lead from the cut without calls and the object's first list to the
+-- walk's cut and list; at these, `IsOpen` holds with the walk's callers and its number `left`; its
+-- memo remembers only dead ends, and is for as many callers as the book has; and its state has the
+-- capacity `CAPACITY`.
 pub record IsWalk (init : List ℕ) (served : List ℕ → List ℕ → Option (List ℕ × List ℕ))
     (book : List Page) (walk : SetWalk) : Type 0 where
   pub leads : Leads served book
@@ -130,27 +137,28 @@ pub record IsWalk (init : List ℕ) (served : List ℕ → List ℕ → Option (
   pub callers : walk.memo.callers ≡ length book
   pub room : walk.here.room ≡ CAPACITY
 
--- the sets of frames, in order
+-- the sets of some frames, in order
 abbrev pub order_of : List SetFrame → List (List Place)
 order_of frames = map (λ frame. frame.set) frames
 
--- a bound on how many sequences of at most this many sets there are
+-- a bound on how many sequences of at most `depth` sets there are
 unfoldable pub ways : ℕ → ℕ
 ways zero = 1
 ways (suc depth) = (2 ^ MAX_CALLERS + 2) * ways depth
 
--- how much may be left to try, where at most this many sets follow the first cut: each number of a
--- frame weighs more than all that may come below it
+-- a number for how much may be left to try, where at most `depth` sets follow the first cut: each
+-- number that a frame has still to try weighs more than all that may be tried after it
 unfoldable pub weigh : ℕ → List SetFrame → ℕ → ℕ
 weigh depth [] left = (left + 1) * ways depth
 weigh depth (frame ∷ frames) left = (frame.left + 1) * ways depth + weigh (depth - 1) frames left
 
--- the weight of a walk
+-- the number for how much may be left to try in a walk
 abbrev pub weight : SetWalk → ℕ
 weight walk = weigh CAPACITY walk.frames.items walk.left
 
--- The outcome of a step of the search is right: a legal set order is found, there is none, or the
--- walk goes on with less weight than before.
+-- The outcome of a step of the search is right: with `Found` the sets of the frames are a legal set
+-- order; with `NoneLeft` the book has none; and with `GoesOn` the walk is sound and weighs less
+-- than `before`.
 abbrev pub IsRightOutcome : List ℕ → (List ℕ → List ℕ → Option (List ℕ × List ℕ)) → List Page → ℕ
     → SetWalk → StepOutcome → Type 0
 IsRightOutcome init served book before walk Found =
@@ -159,13 +167,14 @@ IsRightOutcome init served book before walk NoneLeft = HasLegalSetOrder init ser
 IsRightOutcome init served book before walk GoesOn = IsWalk init served book walk
     × (weight walk < before)
 
--- the operation words of callers' next calls after the calls of a cut
+-- the operation words of some callers' next calls after the calls of a cut, with 0 for a call that
+-- the book lacks
 abbrev pub next_operations : List Page → List ℕ → List ℕ → List ℕ
 next_operations book cut callers =
     map (λ i. unwrap_or (operation_of book (next_call cut i)) 0) callers
 
--- The places are those of callers' next calls after the calls of a cut, with these replies, which
--- are the recorded ones where the calls are answered.
+-- The places of a set are those of the next calls of `callers` after a cut, with the replies
+-- `replies`, which are the recorded ones where the calls are answered.
 pub record ArePlaced (book : List Page) (cut callers replies : List ℕ)
     (set : List Place) : Type 0 where
   pub callers_are : callers_of set ≡ callers
@@ -174,7 +183,8 @@ pub record ArePlaced (book : List Page) (cut callers replies : List ℕ)
   pub recorded : AllByRecursion
       (λ place. (r : Record) → record_of book (call_at place) ≡ Some r → r.reply ≡ place.reply) set
 
--- One of these callers' next calls has another reply than the recorded one.
+-- The next call of one of `callers` after a cut is answered, and its recorded reply isn't the one
+-- in `replies`.
 pub record HasWrongReply (book : List Page) (cut callers replies : List ℕ) : Type 0 where
   pub at : ℕ
   pub inside : at < length callers

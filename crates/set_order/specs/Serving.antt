@@ -1,13 +1,15 @@
--- Objects that serve a set of calls at once.
+-- What objects that serve a set of operations at once can reply.
 use Rattle.std.specs.Prelude.{◌≡◌, ℕ, List, [], ◌∷◌, Option, Some, None, slice_get}
 
--- Where an operation is served from this list, alone or beside others, its reply is never this one.
+-- Where an operation is served at the list `list`, alone or beside others, its reply is never
+-- `reply`.
 abbrev pub NeverReplies : (List ℕ → List ℕ → Option (List ℕ × List ℕ)) → List ℕ → ℕ → ℕ → Type 0
 NeverReplies served list op reply = (ops after replies : List ℕ) (p : ℕ)
     → served list ops ≡ Some (after, replies)
     → slice_get ops p ≡ Some op → slice_get replies p ≡ Some reply → ⊥
 
--- Serving sets of operations one after another takes the object from one list to another.
+-- Serving some sets of operations one after another takes the object from the list `list` to the
+-- list `later`.
 abbrev pub ServesTo : (List ℕ → List ℕ → Option (List ℕ × List ℕ)) → List ℕ → List (List ℕ)
     → List ℕ → Type 0
 ServesTo served list [] later = list ≡ later
@@ -15,7 +17,8 @@ ServesTo served list (ops ∷ sets) later =
     (after replies : List ℕ) × (served list ops ≡ Some (after, replies))
     × ServesTo served after sets later
 
--- From this list on, whatever is served before it, an operation never gets this reply.
+-- From the list `list` on, an operation never gets the reply `reply`, whatever sets of operations
+-- are served before it.
 abbrev pub NeverRepliesFrom : (List ℕ → List ℕ → Option (List ℕ × List ℕ)) → List ℕ → ℕ → ℕ → Type 0
 NeverRepliesFrom served list op reply = (sets : List (List ℕ)) (later : List ℕ)
     → ServesTo served list sets later → NeverReplies served later op reply

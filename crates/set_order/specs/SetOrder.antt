@@ -18,16 +18,17 @@ operations_of book set = map (λ place. (step_at book place).0) set
 abbrev pub replies_of : List Place → List ℕ
 replies_of set = map (λ place. place.reply) set
 
--- the numbers of these callers rise, and none is below this one
+-- the numbers of some callers rise, and none is below `low`
 abbrev pub RiseFrom : ℕ → List ℕ → Type 0
 RiseFrom low [] = Unit {0}
 RiseFrom low (i ∷ callers) = (low ≤ i) × RiseFrom (i + 1) callers
 
--- the call stands in the set with this index, at this place of the set
+-- a call stands in the set with the index `k` of an order, at the place `p` of this set
 abbrev pub StandsIn : List (List Place) → ℕ → ℕ → Call → Type 0
 StandsIn order k p call = (set : List Place) × (slice_get order k ≡ Some set) × StandsAt set p call
 
--- Served set by set, from this list on, the object gives exactly these replies and refuses no set.
+-- Where the object serves the sets one after another, from the list `list` on, it refuses none of
+-- them and gives exactly the replies of their places.
 abbrev pub IsServedFrom : (List ℕ → List ℕ → Option (List ℕ × List ℕ)) → List Page → List ℕ
     → List (List Place) → Type 0
 IsServedFrom served book list [] = Unit {0}
@@ -36,8 +37,8 @@ IsServedFrom served book list (set ∷ sets) =
     × IsServedFrom served book after sets
 
 -- A legal set order of a book, for the object with the first list `init`, which serves a list of
--- operations at once (Neiger 1994). An unanswered call may stand in it with the reply that the
--- object gives, or be left out.
+-- operations at once (Neiger 1994). An unanswered call may stand in the order with the reply that
+-- the object gives, or be left out.
 pub record IsLegalSetOrder (init : List ℕ) (served : List ℕ → List ℕ → Option (List ℕ × List ℕ))
     (book : List Page) (order : List (List Place)) : Type 0 where
   -- no set is empty
@@ -45,24 +46,26 @@ pub record IsLegalSetOrder (init : List ℕ) (served : List ℕ → List ℕ →
   -- a set has its calls by caller
   pub by_caller : (k : ℕ) (set : List Place) → slice_get order k ≡ Some set
       → RiseFrom 0 (callers_of set)
-  -- each call in it is a call of the book
+  -- each call of the order is a call of the book
   pub calls : (k p : ℕ) (call : Call) → StandsIn order k p call → IsCall book call
-  -- no call stands twice
+  -- no call stands in the order twice
   pub once : (j p k q : ℕ) (call : Call) → StandsIn order j p call → StandsIn order k q call
       → (j ≡ k) × (p ≡ q)
-  -- where a call stands, all earlier calls of its caller stand in earlier sets
+  -- where a call stands in the order, all earlier calls of its caller stand in earlier sets
   pub earlier : (k p : ℕ) (call : Call) → StandsIn order k p call → (number : ℕ)
       → number < call.number
       → (j : ℕ) × (j < k) × (q : ℕ)
       × StandsIn order j q (record { caller = call.caller; number = number })
-  -- each answered call stands in it with its recorded reply
+  -- each answered call stands in the order with its recorded reply
   pub answered : (call : Call) (r : Record) → record_of book call ≡ Some r
       → (k : ℕ) × (set : List Place) × (slice_get order k ≡ Some set) × (p : ℕ)
       × (slice_get set p
       ≡ Some (record { caller = call.caller; number = call.number; reply = r.reply }))
-  -- served set by set from the first list, the object gives exactly these replies
+  -- where the object serves the sets one after another from its first list, it gives exactly the
+  -- replies of the order's places
   pub served_so : IsServedFrom served book init order
-  -- where a call precedes another and both stand in it, its set is earlier than the other's
+  -- where a call precedes another one and both stand in the order, the set of the first call is
+  -- earlier than that of the second
   pub precedence : (j p k q : ℕ) (a b : Call) → StandsIn order j p a → StandsIn order k q b
       → Precedes book a b → j < k
 

@@ -5,10 +5,9 @@ ghost use Rattle.seq_objects.specs.Replies.{reply_bad, reply_value};
 ghost use Rattle.set_order.specs.Joins.{served_joins, HasMask};
 ghost use Rattle.set_order.specs.Cases.{join};
 
-/// Joins that are served at once all reply with all numbers: 3, then 0 and 31, and 1 again. The
-/// list becomes the mask, which begins with the low half of the list's first word, or without
-/// numbers where the list is empty. An operation that joins nothing changes neither the list nor
-/// the mask.
+/// Joins that are served at once all reply with all joined numbers. The list becomes the mask of
+/// these numbers, which begins with the low half of the list's first word, or without numbers where
+/// the list is empty. An operation that joins nothing changes neither the list nor the mask.
 pub fn joins_are_served_at_once()
     // A join of 3 at the empty list gives the mask 8, and replies with it.
     ensures empty_list { served_joins [] (join 3 ∷ []) ≡ Some (8 ∷ [], reply_value 8 ∷ []) }
@@ -21,8 +20,8 @@ pub fn joins_are_served_at_once()
     // one word.
     ensures low_half { served_joins (4294967302 ∷ 9 ∷ []) (join 0 ∷ [])
         ≡ Some (7 ∷ [], reply_value 7 ∷ []) }
-    // Operations that join nothing beside a join of 0 reply `bad`, and the join replies with the
-    // mask 7.
+    // At the mask 6, operations that join nothing beside a join of 0 reply `bad`, and the join
+    // replies with the mask 7.
     ensures beside { served_joins (6 ∷ []) (4294967328 ∷ join 0 ∷ 4294967295 ∷ [])
         ≡ Some (7 ∷ [], reply_bad ∷ reply_value 7 ∷ reply_bad ∷ []) }
     // An operation that joins nothing doesn't change a list of two words, and replies `bad`.
@@ -33,7 +32,7 @@ pub fn joins_are_served_at_once()
 {}
 
 /// A reply has the numbers of a mask where it gives all of them, and maybe more. A reply word that
-/// gives no mask has none.
+/// gives no mask has the numbers of no mask.
 pub fn replies_have_masks()
     // The reply with the value 6 has the numbers of the mask 6.
     ensures same { HasMask (reply_value 6) 6 }

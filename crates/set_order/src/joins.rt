@@ -6,20 +6,21 @@ use crate::set_object::SetObject;
 use book_base::{BAD, OpWord, State};
 use seq_objects::value_reply;
 
-// The operation word that joins the number 0, which those of the other numbers follow.
+// The operation word that joins the number 0. The words that join the numbers 1 to 31 follow it.
 const FIRST_JOIN: OpWord = 1 << 32;
 
 // How many numbers may be joined.
 const JOINS: OpWord = 32;
 
-// How many masks there are.
+// How many masks there are: a mask has 32 bits, one for each number.
 const MASKS: u64 = 1 << 32;
 
 // The tag of a reply word that gives a mask.
 const VALUE_TAG: u64 = 2;
 
 /// A set of numbers below 32, to which each operation joins one. Operations that are served at once
-/// see one another's numbers: each replies with all numbers that are joined then (Neiger 1994).
+/// see one another's numbers: each replies with all numbers that are joined after them (Neiger
+/// 1994).
 #[derive(Clone, Copy, Debug)]
 pub struct Joins;
 
@@ -64,8 +65,9 @@ impl SetObject for Joins {
         true
     }
 
-    /// Numbers stay joined, so that an operation may still get only a reply with all numbers that
-    /// are joined now, and its own.
+    /// Whether an operation may still get this reply. Numbers stay joined, so a join may get only a
+    /// reply with all numbers that the list says are joined, and its own; any other operation may
+    /// get only `BAD`.
     fn may_reply(&self, state: &State, op: OpWord, reply: u64) -> bool {
         if Joins::knows(op) {
             has_mask(reply, with_join(mask(state), op))
@@ -81,7 +83,8 @@ impl SetObject for Joins {
     ghost replies_to_each = { λ _. served_joins-replies };
 }
 
-// The mask of the numbers that a list says are joined.
+// The mask of the numbers that a list says are joined: its first word modulo 2^32, or 0 for the
+// empty list.
 fn mask(state: &State) -> u64
     ensures { result ≡ mask_of state.now.words }
 {
@@ -92,7 +95,7 @@ fn mask(state: &State) -> u64
     }
 }
 
-// The mask with the number that an operation joins, where it joins one.
+// The mask `mask` with the number that an operation joins, where it joins one.
 fn with_join(mask: u64, op: OpWord) -> u64
     ensures { result ≡ with_join mask op }
 {
@@ -103,28 +106,29 @@ fn with_join(mask: u64, op: OpWord) -> u64
     }
 }
 
-// The mask with the numbers that operations join.
+// The mask `mask` with the numbers that some operations join.
 fn with_joins(mask: u64, ops: &[OpWord]) -> u64
     ensures { result ≡ with_joins mask ops.now }
 {
     ops.iter().fold(mask, |mask, op| with_join(mask, *op))
 }
 
-// Whether a reply word gives a mask that has all numbers of this one.
+// Whether a reply word gives a mask that has all numbers of the mask `mask`.
 fn has_mask(reply: u64, mask: u64) -> bool
     ensures { IsTrue result ↔ HasMask reply mask }
 {
     reply / MASKS == VALUE_TAG && reply % MASKS & mask == mask
 }
 
-// Whether one of the operations joins a number.
+// Whether one of some operations joins a number.
 fn joins_some(ops: &[OpWord]) -> bool
     ensures { result ≡ joins_some ops.now }
 {
     ops.iter().filter(|op| Joins::knows(**op)).count() > 0
 }
 
-// The reply to an operation, where the numbers of this mask are joined then.
+// The reply to an operation when exactly the numbers of `mask` are joined: a join replies with the
+// mask, any other operation gets `BAD`.
 fn join_reply(mask: u64, op: OpWord) -> u64
     ensures { result ≡ join_reply mask op }
 {

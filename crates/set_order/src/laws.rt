@@ -1,4 +1,4 @@
-//! Laws of legal set orders. Each is the contract of a function with nothing in it.
+//! Laws of legal set orders. Each is the contract of a function with an empty body.
 
 ghost use Rattle.std.specs.Prelude.{◌↔◌, List};
 ghost use Rattle.book_base.specs.SeqSpec.{SeqSpec};

@@ -159,7 +159,7 @@ impl<O: SetObject> SetSearch<'_, O> {
         self.places(&walk.counts, &part, replies)
     }
 
-    // The operations of callers' next calls.
+    // The operations of some callers' next calls after the cut with the counts `counts`.
     fn operations(&self, counts: &[u16], callers: &[u32]) -> Result<Vec<OpWord>, NoMemory>
         requires inside { AllByRecursion (λ i. i < length counts.now) callers.now }
         requires calls { AllByRecursion (λ i. IsCall self.now.book.now (next_call counts.now i))
@@ -180,7 +180,8 @@ impl<O: SetObject> SetSearch<'_, O> {
         Ok(operations)
     }
 
-    // The set of callers' next calls with these replies, unless one differs from a recorded reply.
+    // The set of some callers' next calls with the replies `replies`, unless one of these differs
+    // from the recorded reply of its call.
     fn places(
         &self,
         counts: &[u16],
@@ -289,7 +290,7 @@ impl<O: SetObject> SetSearch<'_, O> {
         }
     }
 
-    // Leaves a dead end: goes back by one frame.
+    // Goes back by one frame from a dead end. `NoneLeft` comes where the walk has no frame.
     fn retreat(&self, walk: &mut SetWalk) -> StepOutcome
         requires small { IsSmall self.now.book.now }
         requires walk { IsWalk (O.init self.now.object.now)
@@ -315,7 +316,7 @@ impl<O: SetObject> SetSearch<'_, O> {
         StepOutcome::GoesOn
     }
 
-    // Whether the cut with these counts holds all answered calls.
+    // Whether the cut with the counts `counts` holds all answered calls.
     fn holds_answered(&self, counts: &[u16]) -> bool
         requires { length counts.now ≡ length self.now.book.now }
         ensures { IsTrue result ↔ HoldsAnswered self.now.book.now counts.now }
@@ -328,7 +329,7 @@ impl<O: SetObject> SetSearch<'_, O> {
         true
     }
 
-    // The callers whose next calls may come next.
+    // The callers whose next calls may come next after the cut with the counts `counts`.
     fn candidates(&self, counts: &[u16]) -> Result<Vec<u32>, NoMemory>
         requires { length counts.now ≡ length self.now.book.now }
         ensures candidates { IfOk result
@@ -389,7 +390,7 @@ impl<O: SetObject> SetSearch<'_, O> {
     }
 }
 
-// Whether a reply is the recorded one, where the call is answered.
+// Whether a call is unanswered, or `reply` is its recorded reply.
 fn is_recorded(book: &Book, call: Call, reply: u64) -> bool
     requires { IsCall book.now call }
     ensures { IsTrue result ↔ ((r : Record) → record_of book.now call ≡ Some r → r.reply ≡ reply) }

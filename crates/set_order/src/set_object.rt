@@ -9,8 +9,8 @@ pub trait SetObject {
     /// The list that the object begins with.
     ghost init: { Self → List ℕ };
 
-    /// The list after these operations are served at once, and the reply to each; none where they
-    /// may not be served together.
+    /// The list after some operations are served at once at a list, and the reply to each; none
+    /// where they may not be served together.
     ghost served: { Self → List ℕ → List ℕ → Option (List ℕ × List ℕ) };
 
     /// Makes the list the one that the object begins with. The capacity doesn't change.
@@ -19,9 +19,10 @@ pub trait SetObject {
         requires { 1 ≤ state.old.room }
         ensures { state.new ≡ record state.old { words = init self.now } };
 
-    /// Serves operations at once: the list becomes the next one, and `replies` the reply to each of
-    /// them in turn. Where they may not be served together the answer is `false`, and the state
-    /// doesn't change. Neither capacity changes, and no memory is taken.
+    /// Serves some operations at once: the state's list becomes the one after them, and `replies`
+    /// gets the reply to each of them in turn. Where the operations may not be served together, the
+    /// answer is `false`, and the state doesn't change. Neither capacity changes, and no memory is
+    /// taken.
     fn serve(&self, state: &mut State, ops: &[OpWord], replies: &mut State) -> bool
         // There is at least one operation.
         requires some { 1 ≤ length ops.now }
@@ -52,15 +53,16 @@ pub trait SetObject {
         true
     }
 
-    /// The list begins with at most one word.
+    /// The list that the object begins with has at most one word.
     ghost begins_small: { (object : Self) → length (init object) ≤ 1 };
 
-    /// Operations make the list longer by at most as many words as there are operations.
+    /// Operations that are served at once make the list longer by at most as many words as there
+    /// are operations.
     ghost grows_by_each: { (object : Self) (list ops after replies : List ℕ)
         → served object list ops ≡ Some (after, replies)
         → length after ≤ length list + length ops };
 
-    /// Each operation gets a reply.
+    /// Operations that are served at once get one reply each.
     ghost replies_to_each: { (object : Self) (list ops after replies : List ℕ)
         → served object list ops ≡ Some (after, replies) → length replies ≡ length ops };
 }

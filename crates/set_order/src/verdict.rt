@@ -10,7 +10,7 @@ use std::alloc::Global;
 /// Whether a book has a legal set order.
 #[derive(Debug, Drop)]
 pub enum SetVerdict {
-    /// A legal set order.
+    /// The book has this legal set order.
     Legal(Vec<PlaceSet>),
     /// The book has no legal set order.
     Illegal,

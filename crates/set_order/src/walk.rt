@@ -8,12 +8,13 @@ use book_base::{MAX_CALLERS, MAX_CALLS, NoMemory, Place, State};
 use frontier_check::Memo;
 use std::alloc::Global;
 
-/// The capacity of a list with as many words as a book may have calls, one more, and those of one
-/// set.
+/// The capacity of a search's states, in words: the most calls that a book may have, one more, and
+/// one for each caller.
 pub const CAPACITY: u64 = MAX_CALLERS as u64 * MAX_CALLS + 1 + MAX_CALLERS as u64;
 
-/// A frame: a cut and a list on the way to the present ones of a search, with the set that was
-/// taken next there, the candidates, and the number up to which their parts are still to be tried.
+/// A frame of a walk: a cut and a list on the way to the walk's own, with the set that was put next
+/// at them, the callers whose next calls were the candidates for this set, and `left`: the parts of
+/// these callers that numbers up to `left` pick are still to be tried.
 #[derive(Drop)]
 pub struct SetFrame {
     pub counts: Vec<u16>,
@@ -23,9 +24,10 @@ pub struct SetFrame {
     pub left: u32,
 }
 
-/// How far a search has come: the frames that lead to its present cut and list, these, the
-/// candidates for the next set, the number up to which their parts are still to be tried, and the
-/// dead ends that were found.
+/// How far a search has come: the frames that lead to its cut and list; the counts of this cut, and
+/// the state with this list; the callers whose next calls are the candidates for the next set;
+/// `left`, the number up to which the parts of these callers are still to be tried; and a memo of
+/// the dead ends that were found.
 #[derive(Drop)]
 pub struct SetWalk {
     pub frames: Vec<SetFrame>,
@@ -47,7 +49,7 @@ pub enum StepOutcome {
     GoesOn,
 }
 
-/// The sets of frames, in order.
+/// The sets of some frames, in order.
 pub fn sets(alloc: Global, frames: &[SetFrame]) -> Result<Vec<PlaceSet>, NoMemory>
     ensures { IfOk result (λ order. order.items ≡ order_of frames.now) }
 {
@@ -71,7 +73,8 @@ pub fn raised(alloc: Global, counts: &[u16], set: &[Place]) -> Result<Vec<u16>, 
     Ok(raised)
 }
 
-/// The part of callers that a number picks, by its binary digits.
+/// The callers of a list that `number` picks by its binary digits: the first caller where the
+/// lowest digit is 1, the second one by the next digit, and so on.
 pub fn part_of(alloc: Global, callers: &[u32], number: u32) -> Result<Vec<u32>, NoMemory>
     ensures { IfOk result (λ part. part.items ≡ picked number callers.now) }
 {
@@ -86,7 +89,7 @@ pub fn part_of(alloc: Global, callers: &[u32], number: u32) -> Result<Vec<u32>, 
     Ok(part)
 }
 
-/// The greatest number that picks a part of these callers: the one that picks all.
+/// The greatest number that picks a part of `callers`: the one that picks all of them.
 pub fn greatest(callers: &[u32]) -> u32
     requires { length callers.now ≤ MAX_CALLERS }
     ensures whole { result + 1 ≡ 2 ^ length callers.now }

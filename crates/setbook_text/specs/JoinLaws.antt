@@ -1,4 +1,5 @@
--- The operations of joins have words as texts want them.
+-- The words of the operations of joins in texts: at most three, none with a space or a line feed,
+-- and no operation's words begin those of another.
 use Rattle.std.proofs.Common.{◌≡◌, ℕ, ◌-◌, ◌<◌, ◌≤◌, ◌^◌, ◌∙◌, true, false, List, [], ◌∷◌, ◌++◌, length, get_or, decimal, None, sym, ap, subst, inl, inr, arith}
 use Rattle.std.specs.Prelude.{IsTrue, nat_lt, codes, ◌==◌}
 use Rattle.std.proofs.lemmas.Bool.{cond-true, cond-false, cases_Bool, and_parts, both_ways, eqb-true}
@@ -30,29 +31,34 @@ counter_unknown op nothing = elim (cases_Bool (is_operation_of op inc)) [
   | inr unknown ↦ cond-false (is_operation_of op inc) _ _ unknown
 ]
 
+-- the words of an operation that joins a number are 'join' and the number
 pub words-join : (op : ℕ) → is_join op ≡ true
     → join_words op ≡ codes "join" ∷ decimal (op - 2 ^ 32) ∷ []
 unfolding join_words
 words-join op joins = cond-true (is_join op) _ _ joins
 
+-- the one word of an operation that joins nothing is '#' and the whole operation word in digits
 pub words-other : (op : ℕ) → is_join op ≡ false → join_words op ≡ other_word op ∷ []
 unfolding join_words
 words-other op nothing = cond-false (is_join op) _ _ nothing
 
+-- a counter has one word for an operation that joins nothing: '#' and the whole operation word in
+-- digits
 pub counter_words : (op : ℕ) → is_join op ≡ false → operation_words Counter op ≡ other_word op ∷ []
 counter_words op nothing = operation_words-unknown Counter op (counter_unknown op nothing)
 
--- the words of an operation that joins nothing are those of a counter
+-- an operation that joins nothing has the words that a counter has for it
 pub as_counter : (op : ℕ) → is_join op ≡ false → join_words op ≡ operation_words Counter op
 as_counter op nothing = words-other op nothing ∙ sym (counter_words op nothing)
 
--- the words of an operation that joins nothing don't begin with 'join'
+-- the one word of an operation that joins nothing isn't 'join'
 pub not_other : (op : ℕ) (x y : List (List ℕ)) → codes "join" ∷ x ≡ other_word op ∷ y → ⊥
 not_other op x y e =
     let first : codes "join" ≡ other_word op =
     (same_first (codes "join") (other_word op) x y e).0 in
     absurd (omega (arith, ap (λ (word : List ℕ). get_or word 0 0) first))
 
+-- where the words of two operations begin the same list of words, they are one operation
 pub one_join : (a b : ℕ) (x y : List (List ℕ)) → IsTrue (nat_lt a (2 ^ 128))
     → IsTrue (nat_lt b (2 ^ 128)) → join_words a ++ x ≡ join_words b ++ y → a ≡ b
 one_join a b x y h k e = elim (cases_Bool (is_join a)) [
@@ -89,6 +95,7 @@ one_join a b x y h k e = elim (cases_Bool (is_join a)) [
   ]
 ]
 
+-- an operation has at least one word, and no word of it has a space or a line feed
 pub solid_join : (op : ℕ) → IsTrue (nat_lt op (2 ^ 128)) → AreSolid (join_words op)
 solid_join op h = elim (cases_Bool (is_join op)) [
   | inl joins ↦
@@ -105,6 +112,7 @@ solid_join op h = elim (cases_Bool (is_join op)) [
       subst AreSolid (sym (as_counter op nothing)) (solid_kind_words Second Counter op h)
 ]
 
+-- an operation has at most three words
 pub few_join : (op : ℕ) → length (join_words op) ≤ 3
 few_join op = elim (cases_Bool (is_join op)) [
   | inl joins ↦

@@ -15,11 +15,11 @@ use Rattle.book_text.specs.Grammar.{end_words}
 use Rattle.book_text.specs.BookRules.{whole_text}
 use Rattle.setbook_text.specs.JoinWords.{join_operations}
 
--- the line of a set book's title
+-- the words of a set book's title line: 'setbook' and the version 2
 abbrev pub title_words : List (List ℕ)
 title_words = codes "setbook" ∷ codes "2" ∷ []
 
--- the line of a set book's object
+-- the words of a set book's object line: 'object joins'
 abbrev pub object_words : List (List ℕ)
 object_words = codes "object" ∷ codes "joins" ∷ []
 
@@ -32,11 +32,13 @@ pub data SetBookDue : Type 0 where
   InCalls : List Page → List Call → SetBookDue
   AtEnd : List Page → SetBookDue
 
--- how far the lines of calls are read, as a state of reading the set book
+-- the state of reading a set book's text in which the lines of calls are read as far as `progress`
+-- says
 abbrev pub in_calls : BookSoFar → SetBookDue
 in_calls progress = InCalls progress.book progress.due
 
--- the right lines of a set book's text
+-- a line of these words is right in a state of reading a set book's text, and leads to another
+-- state
 abbrev pub SetBookPasses : SetBookDue → List (List ℕ) → SetBookDue → Type 0
 SetBookPasses TitleDue words after = (words ≡ title_words) × (after ≡ ObjectDue)
 SetBookPasses ObjectDue words after = (words ≡ object_words) × (after ≡ CallersDue)
@@ -49,7 +51,7 @@ SetBookPasses (InCalls book (call ∷ calls)) words after = (next : BookSoFar)
     × CallPasses Second join_operations book (call ∷ calls) words next × (after ≡ in_calls next)
 SetBookPasses (AtEnd book) words after = ⊥
 
--- the tests that the lines of a set book's text may fail
+-- a line of these words fails a test in a state of reading a set book's text
 abbrev pub SetBookFails : SetBookDue → List (List ℕ) → What → Type 0
 -- the line isn't the title of a set book
 SetBookFails TitleDue words name = (name ≡ what.Head) × (words ≢ title_words)
@@ -63,7 +65,7 @@ SetBookFails (CountsDue n) words name = (name ≡ what.Calls)
     × ((calls : List ℕ) → AreCalls Second n calls → words ≢ calls_words calls)
 -- the line isn't 'end'
 SetBookFails (InCalls book []) words name = (name ≡ what.End) × (words ≢ end_words)
--- the line is no line for the call that is due
+-- the line fails a test for the call that is due
 SetBookFails (InCalls book (call ∷ calls)) words name =
     CallFails Second join_operations book (call ∷ calls) words name
 SetBookFails (AtEnd book) words name = ⊥
@@ -81,7 +83,8 @@ setbook_wanted (AtEnd book) = TheEnd
 abbrev pub setbook_rules : Rules SetBookDue
 setbook_rules = record { Passes = SetBookPasses; Fails = SetBookFails; wanted = setbook_wanted }
 
--- The right lines of the head alone, which are four; other rules read on after it.
+-- A line of these words is right in a state of reading the four lines of a set book's head, and
+-- leads to another state; no line is right after the head.
 abbrev pub SetHeadPasses : SetBookDue → List (List ℕ) → SetBookDue → Type 0
 SetHeadPasses TitleDue words after = SetBookPasses TitleDue words after
 SetHeadPasses ObjectDue words after = SetBookPasses ObjectDue words after
@@ -90,6 +93,7 @@ SetHeadPasses (CountsDue n) words after = SetBookPasses (CountsDue n) words afte
 SetHeadPasses (InCalls book calls) words after = ⊥
 SetHeadPasses (AtEnd book) words after = ⊥
 
+-- A line of these words fails a test in a state of reading a set book's head.
 abbrev pub SetHeadFails : SetBookDue → List (List ℕ) → What → Type 0
 SetHeadFails TitleDue words name = SetBookFails TitleDue words name
 SetHeadFails ObjectDue words name = SetBookFails ObjectDue words name
@@ -98,6 +102,7 @@ SetHeadFails (CountsDue n) words name = SetBookFails (CountsDue n) words name
 SetHeadFails (InCalls book calls) words name = ⊥
 SetHeadFails (AtEnd book) words name = ⊥
 
+-- What is due next in each state of reading a set book's head: a line, and after the head nothing.
 abbrev pub set_head_wanted : SetBookDue → Wanted
 set_head_wanted TitleDue = ALine
 set_head_wanted ObjectDue = ALine
@@ -106,11 +111,12 @@ set_head_wanted (CountsDue n) = ALine
 set_head_wanted (InCalls book calls) = Nothing
 set_head_wanted (AtEnd book) = Nothing
 
+-- The rules of a set book's head.
 abbrev pub set_head_rules : Rules SetBookDue
 set_head_rules = record { Passes = SetHeadPasses; Fails = SetHeadFails; wanted = set_head_wanted }
 
--- The text begins with the head of a set book with these numbers of calls, and leaves the rest
--- unread.
+-- The text begins with the head of a set book with these numbers of calls, and `left` is the rest
+-- of it.
 abbrev pub IsSetHead : List ℕ → Unread → Unread → Type 0
 IsSetHead calls text left = GoesTo set_head_rules TitleDue text (in_calls (no_call_read calls)) left
 

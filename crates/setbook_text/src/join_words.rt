@@ -60,8 +60,9 @@ fn joined(word: Option<&[u8]>) -> Option<u32>
     }
 }
 
-/// The operation that joins nothing and has this one word. A counter knows only one operation word,
-/// which joins 0: so a counter reads each operation that joins nothing as a text of joins has it.
+/// The operation that joins nothing and that this one word spells, as for a counter. A counter
+/// knows only one operation word, which joins 0; for each operation that joins nothing it has the
+/// word `#` with the whole operation word in digits.
 fn other(word: &[u8]) -> Option<OpWord>
     ensures found { IfSome result (λ op.
         (op < 2 ^ 128) × (is_join op ≡ false) × (word.now ≡ other_word op)) }

@@ -59,7 +59,7 @@ fn read_head(lines: &mut Lines) -> Result<(u32, Cut), TextFault>
     ensures says { IfOk result (λ (n, calls). AreCallers Second n × AreCalls Second n calls) }
     ensures refused { IfErr result (IsSetHeadFault lines.old) }
     ensures unchanged { IfErr result (λ _. lines.new ≡ lines.old) }
-    // A head is read as that head, and what follows it is left.
+    // Where the lines begin with a head, its numbers are answered, and the lines after it are left.
     ensures only { (calls : List ℕ) (left : Unread) → IsSetHead calls lines.old left
         → MatchResult result (λ read. (read.1 ≡ calls) × (lines.new ≡ left)) (λ _. ⊥) }
     // Where the head has a first fault, the answer is that fault.

@@ -1,21 +1,22 @@
--- What a caller knows of the log, and what it has of its next call.
+-- Hands: what a caller knows of the log, and what it has stored of its next call.
 use Rattle.std.specs.Prelude.{◌≡◌, ℕ, ◌+◌, ◌<◌, ◌≤◌, List, [], length, slice_index, Option, Some, None}
 use Rattle.shared_log.specs.declared.entry.Entry.{Entry}
 use Rattle.shared_log.specs.Entries.{calls_by, BeginsWith}
 use Rattle.shared_log.specs.Words.{number_of, operation_index}
 
--- The log as far as a caller knows it, the words of its next operation that it has stored, and the
--- indices of the words of the table at which it made an exchange, in order.
+-- The hand of a caller: the log as far as the caller knows it, the words of its next operation that
+-- it has stored, and the indices of the words of the table at which it made an exchange, in order.
 pub record Hand : Type 0 where
   pub log : List Entry
   pub staged : List ℕ
   pub tried : List ℕ
 
--- What a seat knows: the hands that are with it, by caller.
+-- What a seat knows: for each caller its hand, where that is with the seat.
 abbrev pub View : Type 0
 View = List (Option Hand)
 
--- The hand with these parts.
+-- The hand with this log, these stored words of the next operation, and exchanges at the words with
+-- these indices.
 abbrev pub hand : List Entry → List ℕ → List ℕ → Hand
 hand log staged tried = record { log = log; staged = staged; tried = tried }
 
@@ -23,18 +24,18 @@ hand log staged tried = record { log = log; staged = staged; tried = tried }
 abbrev pub empty : Hand
 empty = hand [] [] []
 
--- The hand, or where there is none, the empty one.
+-- The hand itself, and the empty hand where there is none.
 abbrev pub the : Option Hand → Hand
 the None = empty
 the (Some h) = h
 
--- The number of the next call of a caller with this hand.
+-- The number, among the calls of all callers, of the next call of caller `i` with the hand `h`.
 abbrev pub next_number : ℕ → ℕ → Hand → ℕ
 next_number cap i h = number_of cap i (length (calls_by i h.log))
 
--- A hand of caller i agrees with these words and this log: the log begins with what the caller
--- knows of it, and has no other entries of the caller; and the words have what the caller has
--- staged.
+-- The hand `h` of caller `i` agrees with these words of the table and this log: the log begins with
+-- what the caller knows of it, and has no other entries of the caller. The table has the words that
+-- the caller has staged: at most two, and none where the caller has no call left.
 pub record HandFits (n cap : ℕ) (words : List ℕ) (log : List Entry) (i : ℕ)
     (h : Hand) : Type 0 where
   pub caller : i < n

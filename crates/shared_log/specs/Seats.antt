@@ -1,4 +1,4 @@
--- Whose a seat is, what it has of the log, and which log it is of.
+-- The seats of a log: their callers, what they know of the log, and to which log they belong.
 use Rattle.std.specs.Prelude.{◌≡◌, ℕ, ◌*◌, ◌<◌, ◌≤◌, List, map, length, All, vec_capacity}
 use Rattle.std.specs.List.{range_with_len}
 use Rattle.shared_log.specs.declared.entry.Entry.{Entry}
@@ -10,7 +10,7 @@ use Rattle.shared_log.specs.Words.{HasTried}
 use Rattle.shared_log.specs.Holders.{has}
 use Rattle.shared_log.specs.Hands.{Hand, the}
 
--- The hand that is with the seat of one caller.
+-- The hand that the seat of one caller has of this caller.
 abbrev pub hand_with : OneSeat → Hand
 hand_with s = the (has s.seat.me.0 s.who)
 
@@ -30,11 +30,11 @@ log_of s = s.log.items
 abbrev pub made_by : LogSeat → ℕ
 made_by s = length (calls_by (caller_of s) (log_of s))
 
--- The hand that is with a seat.
+-- The hand that a seat of a log has of its caller.
 abbrev pub hand_of : LogSeat → Hand
 hand_of s = hand_with s.seat
 
--- The words at which a seat's caller has made an exchange, in order.
+-- The indices of the words at which a seat's caller has made an exchange, in order.
 abbrev pub tried_by : LogSeat → List ℕ
 tried_by s = (hand_of s).tried
 
@@ -46,13 +46,14 @@ callers_of l = l.callers
 abbrev pub cap_of : SharedLog → ℕ
 cap_of l = l.cap
 
--- The seat of one caller is one of this log's table.
+-- The seat belongs to the table of this log, and its caller is one of the log's callers.
 pub record IsPlaced (l : SharedLog) (s : OneSeat) : Type 0 where
   pub table : s.seat.table_id ≡ l.table.shared.table_id
   pub caller : s.who < l.callers
 
--- The seat is one of this log: its caller is one of the log's, it has capacity for the entries of
--- all calls, and the log that it knows is within the log's callers and cap.
+-- The seat belongs to this log: its caller is one of the log's callers and may make as many calls
+-- as the log's cap says. It has capacity for the entries of all calls, and the entries that it
+-- knows are within the log's callers and cap.
 pub record IsSeatOf (l : SharedLog) (s : LogSeat) : Type 0 where
   pub placed : IsPlaced l s.seat
   pub cap : s.cap ≡ l.cap
@@ -69,14 +70,15 @@ pub record AreSeatsOf (l : SharedLog) (seats : List LogSeat) : Type 0 where
 abbrev pub HasCalled : ℕ → LogSeat → LogSeat → Type 0
 HasCalled op before after = IsAfterCall (caller_of before) op (log_of before) (log_of after)
 
--- The exchanges of the seat's caller after a call: those before it, and at most one at the ticket
--- of each place that the caller didn't know before the call and knows after it, in order.
+-- The exchanges that a seat's caller has made after a call are those before the call, and then, in
+-- order, at most one at the ticket of each place of the log that the caller didn't know before the
+-- call and knows after it.
 abbrev pub HasExchanged : SharedLog → LogSeat → LogSeat → Type 0
 HasExchanged l before after = HasTried (callers_of l) (cap_of l) (length (log_of before))
     (length (log_of after)) (tried_by before) (tried_by after)
 
--- The one log of some seats: it begins with what each knows, and its entries of each caller are
--- those that this caller knows.
+-- The one log of some seats: it begins with the log that each seat knows, and its entries of a
+-- seat's caller are just those that this seat knows.
 pub record IsOneLog (log : List Entry) (seats : List LogSeat) : Type 0 where
   pub prefixes : All (λ s. BeginsWith log (log_of s)) seats
   pub calls : All (λ s. calls_by (caller_of s) log ≡ calls_by (caller_of s) (log_of s)) seats

@@ -1,6 +1,6 @@
 use book_base::OpWord;
 
-/// One call in a log: whose it is, and its operation.
+/// One call in a log: its caller, and its operation.
 #[derive(Clone, Copy, Debug, PartialEq, Eq)]
 pub struct Entry {
     pub caller: u32,

@@ -1,4 +1,4 @@
-//! Where the words of the table lie.
+//! Where the words of a log lie in its table.
 ghost use Rattle.std.specs.Prelude.{◌≡◌, ◌+◌, ◌*◌, ◌<◌, ◌≤◌};
 ghost use Rattle.book_base.specs.declared.TheConstants.{MAX_CALLERS, MAX_CALLS};
 ghost use Rattle.shared_log.specs.Words as words;
@@ -13,7 +13,7 @@ pub fn place_count(n: u32, cap: u64) -> usize
     n as usize * cap as usize
 }
 
-/// The number of call k of a caller, over the calls of all callers.
+/// The number of call `k` of a caller among the calls of all callers.
 pub fn number(cap: u64, caller: u32, k: u64) -> u64
     requires few { caller < MAX_CALLERS }
     requires short { cap ≤ MAX_CALLS }

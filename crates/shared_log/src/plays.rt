@@ -1,4 +1,5 @@
-//! The rule of the table, and how its steps change the hands. These types are for the proofs alone.
+//! The rule of a log's table, and how each kind of step changes the hand of its caller. These types
+//! are for the proofs alone.
 ghost use Rattle.std.specs.Prelude.{ℕ, [], None, slice_set};
 ghost use Rattle.shared_log.specs.Holders.{has, only, whole, joined};
 ghost use Rattle.shared_log.specs.Hands.{the, empty};
@@ -7,7 +8,7 @@ ghost use Rattle.shared_log.specs.Rule.{Ruled, Turns, Stages, Looks, Places, Rea
 use atomic_table::{Join, Play, Split, TableRule};
 use std::marker::{Brand, Model, PhantomData};
 
-/// What a seat knows: the hands of the callers that are with it. No value of it is made.
+/// What a seat knows: the hands of the callers that are with it. No value of this type is made.
 pub struct Holding;
 
 impl Model for Holding {
@@ -19,14 +20,14 @@ impl Model for Holding {
     ghost view = { λ _. [] };
 }
 
-/// What the table is given once: its callers, and its cap of calls of each.
+/// What the table is told once: how many callers it has, and how many calls each of them may make.
 #[derive(Drop)]
 pub struct Key {
     pub callers: u32,
     pub cap: u64,
 }
 
-/// The rule of the table: there is one log.
+/// The rule of the table: its words and the hands of its callers have one log.
 pub struct OneLog;
 
 impl TableRule<(), Holding, Key> for OneLog {
@@ -35,8 +36,8 @@ impl TableRule<(), Holding, Key> for OneLog {
     ghost first = { λ key. whole key.callers empty };
 }
 
-/// Which caller makes a step, in a log of how many callers with how many calls each. A call at
-/// `Brand` picks it.
+/// The number of callers of a log, the cap on the calls of each, and which caller makes a step. A
+/// function that passes `Brand` for this type chooses these numbers in its proof.
 pub trait Part {
     ghost callers: { ℕ };
 
@@ -53,7 +54,7 @@ impl Part for Brand {
     ghost who = { 0 };
 }
 
-/// The step that stores a word of the next operation.
+/// The step that stores a word of the caller's next operation.
 pub struct Stage<J> {
     part: PhantomData<J>,
 }
@@ -62,7 +63,7 @@ impl<J: Part> Play<(), Holding> for Stage<J> {
     ghost then = { λ st me _ after. Turns J.who me after (Stages st.first) };
 }
 
-/// The step that loads the ticket at the first place that isn't known.
+/// The step that loads the ticket at the first place of the log that the caller doesn't know.
 pub struct Look<J> {
     part: PhantomData<J>,
 }
@@ -71,7 +72,8 @@ impl<J: Part> Play<(), Holding> for Look<J> {
     ghost then = { λ st me found after. Turns J.who me after (Looks J.callers J.cap J.who found) };
 }
 
-/// The step that compares and exchanges the ticket at the first place that isn't known.
+/// The step that compares and exchanges the ticket at the first place of the log that the caller
+/// doesn't know.
 pub struct Place<J> {
     part: PhantomData<J>,
 }
@@ -80,7 +82,7 @@ impl<J: Part> Play<(), Holding> for Place<J> {
     ghost then = { λ st me found after. Turns J.who me after (Places J.callers J.cap J.who st.word found) };
 }
 
-/// The step that loads a word of an operation.
+/// The step that loads a word of the operation of a call.
 pub struct Read<J> {
     part: PhantomData<J>,
 }
@@ -100,8 +102,7 @@ impl<J: Part> Split<Holding> for Leaves<J> {
     ghost right = { λ v. only J.who (the (has v J.who)) };
 }
 
-/// The step by which the callers of another seat are given to this one, and that seat's view is
-/// spent.
+/// The step by which a seat takes over the callers of another seat, whose view is empty afterwards.
 pub struct Returns;
 
 impl Join<Holding> for Returns {

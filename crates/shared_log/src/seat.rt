@@ -14,9 +14,9 @@ pub struct OneSeat {
     ghost alone: { seat.me ≡ (only who (the (has seat.me.0 who)), []) },
 }
 
-/// The seat of one caller of a log: the log as far as this caller knows it.
+/// The seat of one caller of a log, with the log as far as this caller knows it.
 ///
-/// Its own calls are all in it, so the log ends with the last of them, or is empty.
+/// All calls of the caller are in this log, so it ends with the last of them, or is empty.
 pub struct LogSeat {
     pub(crate) cap: u64,
     pub(crate) made: u64,

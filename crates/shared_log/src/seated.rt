@@ -3,13 +3,13 @@ ghost use Rattle.shared_log.specs.declared.seat.LogSeat.{LogSeat as OwnSeat};
 
 use crate::seat::LogSeat;
 
-/// What has the seat of one caller of a log: the seat itself, or what a layer above keeps beside
-/// it.
+/// A value that has the seat of one caller of a log: the seat itself, or a seat with what a layer
+/// above keeps beside it.
 pub trait Seated {
     /// The seat of the value.
     ghost seat: { Self → OwnSeat };
 
-    /// Gives the seat back, and drops all else.
+    /// Takes the seat out of the value, and drops the rest of it.
     fn into_seat(self) -> LogSeat
         ensures { result ≡ seat self };
 }

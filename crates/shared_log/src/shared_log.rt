@@ -18,9 +18,9 @@ use std::marker::Brand;
 
 /// A log of the calls of some callers, on atomic words that they share.
 ///
-/// A call stores both words of its operation, and puts its ticket into the first free place of
-/// the log. So the log is one order of all calls, whatever the threads do. Nothing locks, waits
-/// or takes memory but the call that opens it.
+/// A call stores both words of its operation, and puts its ticket into the first free place of the
+/// log. So the log is one order of all calls, whatever the threads do. No call locks or waits, and
+/// only `open` takes memory.
 pub struct SharedLog {
     pub(crate) table: Table<(), Holding, Key, OneLog, Global>,
     pub(crate) callers: u32,
@@ -31,7 +31,7 @@ pub struct SharedLog {
     ghost few: { (1 ≤ callers) × (callers ≤ MAX_CALLERS) × (1 ≤ cap) × (cap ≤ MAX_CALLS) },
 }
 
-// An empty log with capacity for all calls, for each of some callers.
+// For each of `n` callers an empty log with capacity for `places` entries.
 fn empty_logs(alloc: Global, n: u32, places: usize) -> Result<Vec<Vec<Entry>>, AllocError>
     ensures count { IfOk result (λ logs. vec_len logs ≡ n) }
     ensures empty { IfOk result
@@ -68,8 +68,8 @@ impl SharedLog {
         self.cap
     }
 
-    // Puts the ticket of the call into the first free place. The entries before it that the caller
-    // didn't know are added to its log, and then its own.
+    // Puts the ticket of the call into the first free place of the log. The entries before this
+    // place that the caller didn't know are added to `log`, and then the entry of the call.
     fn place(&self, seat: &mut OneSeat, log: &mut Vec<Entry>, ticket: u64, op: OpWord)
         requires seat { IsPlaced self.now seat.old }
         requires known { (hand_with seat.old).log ≡ log.old.items }
@@ -98,26 +98,27 @@ impl SharedLog {
                 Some(entry) => log.push(entry).unwrap(),
             }
         }
-        // The log has as many places as there are calls, and this call has none yet.
+        // The log has as many places as the callers have calls, and this call's ticket isn't in it
+        // yet, so some place is free.
         unreachable!()
     }
 
-    /// Appends a call of the seat's caller that asks for an operation.
+    /// Appends a call of the seat's caller with this operation to the log.
     ///
-    /// It makes at most one exchange at each log word, none at those of places that the caller
-    /// knew before, and loads the entries before its own that the caller doesn't know.
+    /// The caller makes at most one exchange at the ticket of each place, and none at places that
+    /// it knew before the call. It loads the entries before its own that it doesn't know.
     pub fn append(&self, seat: &mut LogSeat, op: OpWord)
-        // The seat is one of this log.
+        // The seat belongs to this log.
         requires seat { IsSeatOf self.now seat.old }
         // The seat's caller has made fewer calls than it may make.
         requires call { made_by seat.old < cap_of self.now }
-        // The seat is still one of this log, of the same caller.
+        // The seat still belongs to this log and has the same caller.
         ensures seat { IsSeatOf self.now seat.new × (caller_of seat.new ≡ caller_of seat.old) }
-        // The seat's log begins with the one before and ends with this call, and has no other new
-        // entry of this caller.
+        // The log that the seat knows begins with the log that it knew before, ends with this call,
+        // and has no other new entry of this caller.
         ensures log { HasCalled op seat.old seat.new }
-        // The call's exchanges at words of the log are at most one at each word, and none at the
-        // words of places that the caller knew before.
+        // The call makes at most one exchange at the ticket of each place of the log, in order, and
+        // none at places that the caller knew before.
         ensures tries { HasExchanged self.now seat.old seat.new }
     {
         let number = number(self.cap, seat.seat.who, seat.made);
@@ -172,7 +173,8 @@ impl SharedLog {
         seats
     }
 
-    /// An empty log for `n` callers with `cap` calls each, and a seat for each caller, in order.
+    /// Opens an empty log for `n` callers with `cap` calls each, with a seat for each caller, in
+    /// order.
     pub fn open(alloc: Global, n: u32, cap: u64) -> Result<(SharedLog, Vec<LogSeat>), NoMemory>
         // The log is for at least one caller.
         requires some_callers { 1 ≤ n }
@@ -186,7 +188,7 @@ impl SharedLog {
         ensures log { IfOk result (λ r. (callers_of r.0 ≡ n) × (cap_of r.0 ≡ cap)) }
         // The seats are those of all callers of the log, in order.
         ensures seats { IfOk result (λ r. AreSeatsOf r.0 r.1.items) }
-        // The log of each seat is empty.
+        // The log that each seat knows is empty.
         ensures empty { IfOk result (λ r. All (λ s. log_of s ≡ []) r.1.items) }
     {
         let places = place_count(n, cap);
@@ -204,8 +206,8 @@ impl SharedLog {
         Ok((log, seats))
     }
 
-    // Spends a caller's seat, and gives what it knew to the keeper. The answer is the longer of the
-    // seat's log and the longest one so far.
+    // Takes a caller's seat back: what it knew goes to the seat `keeper`. Returns the longer of the
+    // seat's log and `longest`.
     fn take_in(
         &self,
         keeper: &mut Seat<(), Holding>,
@@ -231,16 +233,16 @@ impl SharedLog {
         longer(longest, log)
     }
 
-    /// The one log, of which each seat's log is a prefix. The seats of all callers come back, in
-    /// order, each with whatever has it.
+    /// Closes the log, and returns the one log of all calls, of which each seat's log is a prefix.
+    /// The seats of all callers come back in order, each in the value that has it.
     pub fn close<P: Seated>(self, mut seats: Vec<P>) -> Vec<Entry>
         // The seats are those of all callers of this log, in order.
         requires seats { AreSeatsOf self (map P.seat seats.items) }
         // Each entry is of one of the log's callers, and no caller has more entries than it may
         // make calls.
         ensures within { IsWithinCap (callers_of self) (cap_of self) result.items }
-        // The log that is answered begins with the log of each seat, and has just those entries of
-        // each caller that the caller's seat knows.
+        // The returned log begins with the log of each seat, and has just those entries of each
+        // caller that the caller's seat knows.
         ensures log { IsOneLog result.items (map P.seat seats.items) }
     {
         let Some(last) = seats.pop() else {

@@ -18,7 +18,7 @@ use std::marker::Brand;
 impl SharedLog {
     ghost use Rattle.shared_log.specs.Seats.{hand_with, IsPlaced};
 
-    // Stores one more word of the next operation.
+    // Stores one more word of the caller's next operation.
     fn stage_as<J: Part>(&self, seat: &mut OneSeat, index: usize, word: u64)
         requires seat { IsPlaced self.now seat.old }
         requires part { (J.callers ≡ self.now.callers) × (J.cap ≡ self.now.cap)
@@ -36,7 +36,7 @@ impl SharedLog {
             .store::<Stage<J>>(&mut seat.seat, index, word)
     }
 
-    // Loads the ticket at the first place that the caller doesn't know.
+    // Loads the ticket at the first place of the log that the caller doesn't know.
     fn look_as<J: Part>(&self, seat: &mut OneSeat, index: usize) -> u64
         requires seat { IsPlaced self.now seat.old }
         requires part { (J.callers ≡ self.now.callers) × (J.cap ≡ self.now.cap)
@@ -51,8 +51,9 @@ impl SharedLog {
         self.table.shared.load::<Look<J>>(&mut seat.seat, index)
     }
 
-    // Puts the ticket of the next call at the first place that the caller doesn't know, where this
-    // place is free, and answers the ticket that was found there: 0 for a free place.
+    // Puts the ticket of the caller's next call at the first place of the log that the caller
+    // doesn't know, where this place is free. Returns the ticket that was found there: 0 for a free
+    // place.
     fn place_as<J: Part>(&self, seat: &mut OneSeat, index: usize, ticket: u64, op: OpWord) -> u64
         requires seat { IsPlaced self.now seat.old }
         requires part { (J.callers ≡ self.now.callers) × (J.cap ≡ self.now.cap)
@@ -73,7 +74,7 @@ impl SharedLog {
             .compare_exchange::<Place<J>>(&mut seat.seat, index, 0, ticket)
     }
 
-    // Loads a word of an operation.
+    // Loads a word of the operation of a call.
     fn read_as<J: Part>(&self, seat: &mut OneSeat, index: usize) -> u64
         requires seat { IsPlaced self.now seat.old }
         requires part { (J.callers ≡ self.now.callers) × (J.cap ≡ self.now.cap)
@@ -85,7 +86,7 @@ impl SharedLog {
         self.table.shared.load::<Read<J>>(&mut seat.seat, index)
     }
 
-    // Stores both words of the next operation.
+    // Stores both words of the caller's next operation.
     pub(crate) fn stage(&self, seat: &mut OneSeat, number: u64, op: OpWord)
         requires seat { IsPlaced self.now seat.old }
         requires number { number ≡ hands.next_number self.now.cap seat.old.who
@@ -101,8 +102,9 @@ impl SharedLog {
         self.stage_as::<Brand>(seat, index + 1, high(op));
     }
 
-    // Loads the ticket at the first place that the caller doesn't know, and where the place is
-    // free, exchanges it for the caller's own. The answer 0 says that the own ticket is placed.
+    // Loads the ticket at the first place of the log that the caller doesn't know, and where the
+    // place is free, exchanges it for the caller's own ticket. Returns 0 where the own ticket is
+    // placed, and otherwise the ticket that was found.
     #[tactic(auto, using(crate::proofs::Trying::looked, crate::proofs::Trying::exchanged))]
     fn ticket_at(&self, seat: &mut OneSeat, place: usize, ticket: u64, op: OpWord) -> u64
         requires seat { IsPlaced self.now seat.old }
@@ -140,8 +142,9 @@ impl SharedLog {
         join(low, high)
     }
 
-    // The entry at the first place that the caller doesn't know: none where its own ticket is
-    // placed there now, or the entry of another caller's call.
+    // Puts the caller's own ticket at the first place of the log that the caller doesn't know,
+    // where this place is free, and returns `None`. Otherwise returns the entry at this place, that
+    // of another caller's call.
     pub(crate) fn next_entry(
         &self,
         seat: &mut OneSeat,

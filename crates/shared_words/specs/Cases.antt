@@ -19,7 +19,7 @@ on_two_words =
 abbrev pub all_may : ℕ → Deed → Type 0
 all_may caller deed = Unit {0}
 
--- Callers may make additions alone.
+-- Callers may make additions, and no other deed.
 abbrev pub additions_may : ℕ → Deed → Type 0
 additions_may caller deed = (place amount found : ℕ) × (deed ≡ Added place amount found)
 

@@ -1,4 +1,4 @@
--- What callers do to shared words, and what calls made of such deeds are.
+-- What callers do to shared words, and how calls are made of these deeds.
 use Rattle.std.specs.Prelude.{◌≡◌, ℕ, ◌+◌, ◌%◌, ◌^◌, List, [], ◌∷◌}
 
 -- A deed on the word at a place: an addition of an amount to the word found, a store, a load of the
@@ -23,15 +23,17 @@ leaves (Stored place word) before = word
 leaves (Loaded place found) before = before
 leaves (Swapped place word found) before = word
 
--- A deed found this word at its place. A store finds nothing.
+-- The deed found the word `before` at its place. A store finds nothing, so any word may be `before`
+-- it.
 abbrev pub HasFound : Deed → ℕ → Type 0
 HasFound (Added place amount found) before = found ≡ before
 HasFound (Stored place word) before = Unit {0}
 HasFound (Loaded place found) before = found ≡ before
 HasFound (Swapped place word found) before = found ≡ before
 
--- These pairs of operations and replies are calls in the sense of the relation call, one after the
--- other: the first begins after the deeds `before`, and the last ends with the deeds `after`.
+-- These pairs of operations and replies are calls one after the other, each as the relation `call`
+-- says of its operation, its reply, and the caller's deeds before and after it. The first begins
+-- after the deeds `before`, and the last ends with the deeds `after`.
 abbrev pub AreCalls : (ℕ → ℕ → List Deed → List Deed → Type 0) → List (ℕ × ℕ) → List Deed
     → List Deed → Type 0
 AreCalls call [] before after = before ≡ after

@@ -26,7 +26,8 @@ word_from place word (a ∷ history) =
 abbrev pub word_at : ℕ → List Access → ℕ
 word_at place history = word_from place 0 history
 
--- An access after some others may be made by its caller, and it found the word that those leave.
+-- The access `a` comes after the accesses `before`: its caller may make it, and it found the word
+-- that `before` leaves at its place.
 pub record IsRight (may : ℕ → Deed → Type 0) (before : List Access) (a : Access) : Type 0 where
   pub allowed : may a.caller a.deed
   pub found : HasFound a.deed (word_at (place_of a.deed) before)
@@ -37,24 +38,25 @@ IsLawfulHistory may history = (before rest : List Access) (a : Access)
     → history ≡ before ++ a ∷ rest
     → IsRight may before a
 
--- A history after an access of a caller: it begins with the one before, ends with the access, and
--- has no other new access of this caller.
+-- The history `after` is the history `before` after an access of caller `who` with this deed: it
+-- begins with `before`, ends with this access, and has no other new access of this caller.
 pub record IsAfterAccess (who : ℕ) (deed : Deed) (before after : List Access) : Type 0 where
   pub between : List Access
   pub history : after ≡ (before ++ between) ++ access who deed ∷ []
   pub own : deeds_by who after ≡ deeds_by who before ++ deed ∷ []
 
--- What a seat knows: by caller, the history up to the last access of this caller.
+-- What a seat knows: for each caller that is with it, the history up to the last access of this
+-- caller.
 abbrev pub View : Type 0
 View = List (Option (List Access))
 
--- The history of a caller that is with a seat, or the empty one.
+-- The history that a seat has of a caller, and the empty history where it has none.
 abbrev pub known : Option (List Access) → List Access
 known None = []
 known (Some history) = history
 
--- After an addition a word is the sum modulo 2^64, after a store and a swap the new one, and after
--- a load the one before.
+-- After an addition a word is the sum modulo 2^64, after a store or a swap it is the word that was
+-- put in, and a load doesn't change it.
 pub record AccessesAct : Type 0 where
   pub adds : (history : List Access) (who place amount found : ℕ)
       → word_at place (history ++ access who (Added place amount found) ∷ [])

@@ -1,4 +1,4 @@
--- Whose a seat and a pass are, and what they know.
+-- Seats and passes of shared words: their callers, and what they know.
 use Rattle.std.specs.Prelude.{◌≡◌, ℕ, ◌<◌, ◌≤◌, List, [], length, All, vec_capacity}
 use mathlib.Core.List.{IsPrefix}
 use Rattle.shared_log.specs.Holders.{has}
@@ -53,14 +53,14 @@ history_in p = history_of p.seat
 abbrev pub transcript_of : WordsPass → Transcript
 transcript_of p = record { caller = caller_of_pass p; pairs = pairs_in p }
 
--- The pass has made no call, and may make this many.
+-- The pass has made no call, and may make `calls` calls.
 pub record IsFreshPass (calls : ℕ) (p : WordsPass) : Type 0 where
   pub made : made_with p ≡ 0
   pub cap : cap_of_pass p ≡ calls
   pub pairs : pairs_in p ≡ []
 
--- One history of all accesses of n callers, of which each pass knows a part: it is lawful, begins
--- with what the pass knows, and has of the pass's caller just the deeds that the pass knows.
+-- One lawful history of all accesses of n callers. It begins with the history that each pass knows,
+-- and has of each pass's caller just the deeds that this pass knows.
 pub record IsOneHistory (may : ℕ → Deed → Type 0) (n : ℕ) (history : List Access)
     (passes : List WordsPass) : Type 0 where
   pub callers : All (λ a. a.caller < n) history
@@ -69,11 +69,11 @@ pub record IsOneHistory (may : ℕ → Deed → Type 0) (n : ℕ) (history : Lis
   pub deeds : All (λ p. deeds_by (caller_of_pass p) history ≡ deeds_of p.seat) passes
 
 module _ {U : Type 0} where
-  -- How many callers some words have.
+  -- How many callers share these words.
   abbrev pub callers_of : SharedWords U → ℕ
   callers_of w = w.callers
 
-  -- How many calls each caller of some words may make.
+  -- How many calls each caller of these words may make.
   abbrev pub cap_of : SharedWords U → ℕ
   cap_of w = w.cap
 
@@ -81,14 +81,14 @@ module _ {U : Type 0} where
   abbrev pub count_of : SharedWords U → ℕ
   count_of w = w.table.shared.table_id.words
 
-  -- The seat is one of these words, and its history is lawful.
+  -- The seat belongs to these words, and the history that it knows is lawful.
   pub record IsSeatOf (may : ℕ → Deed → Type 0) (w : SharedWords U) (s : WordSeat) : Type 0 where
     pub table : s.seat.table_id ≡ w.table.shared.table_id
     pub caller : caller_of_seat s < callers_of w
     pub lawful : IsLawfulHistory may (history_of s)
 
-  -- The pass is one of these words, with capacity for all calls of its caller. Its pairs are calls
-  -- in the sense of the relation call, made by its caller's deeds.
+  -- The pass belongs to these words and has capacity for all calls of its caller. Its pairs are
+  -- calls as the relation `call` says, made of just the deeds of its caller.
   pub record IsPassOf (may : ℕ → Deed → Type 0) (call : ℕ → ℕ → ℕ → List Deed → List Deed → Type 0)
       (w : SharedWords U) (p : WordsPass) : Type 0 where
     pub seat : IsSeatOf may w p.seat
@@ -96,7 +96,7 @@ module _ {U : Type 0} where
     pub room : cap_of w ≤ capacity_of_pass p
     pub calls : AreCalls (call (caller_of_pass p)) (pairs_in p) [] (deeds_of p.seat)
 
-  -- The pass is a new one of these words: it knows of no access.
+  -- The pass belongs to these words and is new: it has no call and knows of no access.
   pub record IsNewPass (w : SharedWords U) (p : WordsPass) : Type 0 where
     pub table : p.seat.seat.table_id ≡ w.table.shared.table_id
     pub caller : caller_of_pass p < callers_of w

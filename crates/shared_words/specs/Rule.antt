@@ -6,14 +6,14 @@ use Rattle.shared_log.specs.Holders.{has, AreHeld}
 use Rattle.shared_words.specs.Deeds.{Deed}
 use Rattle.shared_words.specs.Histories.{Access, View, deeds_by, word_at, IsLawfulHistory, IsAfterAccess}
 
--- Caller i, one of n, knows a prefix of the history, which has all its deeds.
+-- Caller `i`, one of n, knows `h`, a prefix of the history that has all deeds of this caller.
 pub record Knows (n : ℕ) (history : List Access) (i : ℕ) (h : List Access) : Type 0 where
   pub caller : i < n
   pub prefix : IsPrefix h history
   pub own : deeds_by i history ≡ deeds_by i h
 
--- There is one history, which is lawful and of the callers alone: the words are those that it
--- leaves, and each caller knows a prefix of it.
+-- There is one lawful history of accesses by the n callers alone. The words of the table are those
+-- that it leaves, and each caller knows a prefix of it, which one seat alone has.
 pub record HaveOneHistory (may : ℕ → Deed → Type 0) (n count : ℕ) (words : List ℕ)
     (views : List View) : Type 0 where
   pub history : List Access
@@ -23,7 +23,7 @@ pub record HaveOneHistory (may : ℕ → Deed → Type 0) (n count : ℕ) (words
   pub lawful : IsLawfulHistory may history
   pub hands : AreHeld (Knows n history) views
 
--- The rule: the words and the views of the table have one history.
+-- The rule of the table: its words and its views have one history, as `HaveOneHistory` says.
 abbrev pub Ruled : (ℕ → Deed → Type 0) → ℕ → ℕ → State (Unit {0}) View → Type 0
 Ruled may n count t = HaveOneHistory may n count t.words t.views
 

@@ -11,8 +11,8 @@ pub record Transcript : Type 0 where
 
 -- These transcripts are those of all n callers, in order, and their calls are of this one history
 -- of all accesses. The history is lawful, and no other caller has an access in it. The pairs of
--- each caller are calls as the relation `call` has it, made of just the deeds that the caller has
--- in the history.
+-- each caller are calls as the relation `call` says, made of just the deeds that the caller has in
+-- the history.
 pub record AreOfOneHistory (may : ℕ → Deed → Type 0)
     (call : ℕ → ℕ → ℕ → List Deed → List Deed → Type 0) (n : ℕ) (history : List Access)
     (transcripts : List Transcript) : Type 0 where

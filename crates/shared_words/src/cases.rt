@@ -7,7 +7,7 @@ ghost use Rattle.shared_words.specs.Histories.{access, deeds_by, word_at, IsLawf
 ghost use Rattle.shared_words.specs.Transcripts.{AreOfOneHistory};
 ghost use Rattle.shared_words.specs.Cases.{on_two_words, all_may, additions_may, adds_1, adds, three_additions, transcript, told_by_0, told_by_1};
 
-/// The words that a history leaves, and the deeds that each caller has in it.
+/// Which words a worked history leaves, and which deeds each caller has in it.
 pub fn histories_leave_words()
     // Word 0 is left as the 9 that it was swapped for.
     ensures swapped { word_at 0 on_two_words ≡ 9 }
@@ -50,25 +50,26 @@ pub fn histories_are_lawful()
 /// each caller has there, and nobody else has a deed there.
 #[tactic(auto, using(crate::proofs::Worked::both_told, crate::proofs::Worked::caller_lacking, crate::proofs::Worked::callers_out_of_order, crate::proofs::Worked::stranger, crate::proofs::Worked::call_untold, crate::proofs::Worked::replies_exchanged, crate::proofs::Worked::both_found_0))]
 pub fn transcripts_are_of_one_history()
-    // The transcripts of two callers are of one history in which each has the deeds of its calls.
+    // The transcripts of two callers are of one history in which each caller has just the deeds of
+    // its calls.
     ensures right { AreOfOneHistory all_may adds_1 2 three_additions
         (told_by_0 ∷ told_by_1 ∷ []) }
-    // The transcript of the first of two callers alone isn't that of both.
+    // The list of transcripts can't lack that of the second of two callers.
     ensures a_caller_lacks { ¬ AreOfOneHistory all_may adds_1 2 (adds 0 0 ∷ [])
         (transcript 0 ((0, 0) ∷ []) ∷ []) }
-    // The transcripts of the callers can't change places.
+    // The transcripts can't stand in another order than the callers.
     ensures out_of_order { ¬ AreOfOneHistory all_may adds_1 2 three_additions
         (told_by_1 ∷ told_by_0 ∷ []) }
-    // Nobody but the two callers can have an access.
+    // The history can't have an access of a third caller.
     ensures stranger { ¬ AreOfOneHistory all_may adds_1 2 (three_additions ++ adds 2 3 ∷ [])
         (told_by_0 ∷ told_by_1 ∷ []) }
     // The transcript of a caller can't leave out its last call.
     ensures untold { ¬ AreOfOneHistory all_may adds_1 2 three_additions
         (transcript 0 ((0, 0) ∷ []) ∷ told_by_1 ∷ []) }
-    // The transcript of a caller can't have the replies of its two calls the other way round.
+    // The transcript of a caller can't have the replies of its two calls exchanged.
     ensures exchanged { ¬ AreOfOneHistory all_may adds_1 2 three_additions
         (transcript 0 ((0, 2) ∷ (0, 0) ∷ []) ∷ told_by_1 ∷ []) }
-    // Both callers can't have found 0.
+    // The additions of two callers can't both have found 0.
     ensures unlawful { ¬ AreOfOneHistory all_may adds_1 2 (adds 0 0 ∷ adds 1 0 ∷ [])
         (transcript 0 ((0, 0) ∷ []) ∷ transcript 1 ((0, 0) ∷ []) ∷ []) }
 {}

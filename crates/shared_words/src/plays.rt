@@ -1,5 +1,5 @@
-//! The rule of the table, and what a seat learns by its steps. These types are for the proofs
-//! alone.
+//! The rule of the table of shared words, and what a seat learns by its steps. These types are for
+//! the proofs alone.
 ghost use Rattle.std.specs.Prelude.{ℕ, [], None, slice_set};
 ghost use Rattle.shared_log.specs.Holders.{has, only, whole, joined};
 ghost use Rattle.shared_words.specs.Deeds as deeds;
@@ -10,8 +10,8 @@ use crate::usage::Usage;
 use atomic_table::{Join, Play, Split, TableRule};
 use std::marker::{Brand, Model, PhantomData};
 
-/// What a seat knows: the history up to the last access of each caller that is with it. No value
-/// of it is made.
+/// What a seat knows: the history up to the last access of each caller that is with it. No value of
+/// this type is made.
 pub struct Knowing;
 
 impl Model for Knowing {
@@ -23,14 +23,14 @@ impl Model for Knowing {
     ghost view = { λ _. [] };
 }
 
-/// What the table is given once: its callers, and how many words it has.
+/// What the table is told once: how many callers and how many words it has.
 #[derive(Drop)]
 pub struct Key {
     pub callers: u32,
     pub count: usize,
 }
 
-/// The rule of the table: there is one history.
+/// The rule of the table: its words and what its seats know have one history.
 pub struct OneHistory<U> {
     usage: PhantomData<U>,
 }
@@ -41,7 +41,7 @@ impl<U: Usage> TableRule<(), Knowing, Key> for OneHistory<U> {
     ghost first = { λ key. whole key.callers [] };
 }
 
-/// The step of an addition.
+/// The step that adds to a word.
 pub struct Adds<U> {
     usage: PhantomData<U>,
 }
@@ -51,7 +51,7 @@ impl<U: Usage> Play<(), Knowing> for Adds<U> {
         Accesses U.may me after (deeds.Added st.word st.first found) };
 }
 
-/// The step of a store.
+/// The step that stores into a word.
 pub struct Stores<U> {
     usage: PhantomData<U>,
 }
@@ -60,7 +60,7 @@ impl<U: Usage> Play<(), Knowing> for Stores<U> {
     ghost then = { λ st me _ after. Accesses U.may me after (deeds.Stored st.word st.first) };
 }
 
-/// The step of a load.
+/// The step that loads a word.
 pub struct Loads<U> {
     usage: PhantomData<U>,
 }
@@ -69,7 +69,7 @@ impl<U: Usage> Play<(), Knowing> for Loads<U> {
     ghost then = { λ st me found after. Accesses U.may me after (deeds.Loaded st.word found) };
 }
 
-/// The step of a swap.
+/// The step that swaps a word for another one.
 pub struct Swaps<U> {
     usage: PhantomData<U>,
 }
@@ -79,7 +79,8 @@ impl<U: Usage> Play<(), Knowing> for Swaps<U> {
         Accesses U.may me after (deeds.Swapped st.word st.first found) };
 }
 
-/// Which caller gets a seat of its own. A call at `Brand` picks it.
+/// Which caller gets a seat of its own. A function that passes `Brand` for this type chooses the
+/// caller in its proof.
 pub trait Part {
     ghost who: { ℕ };
 }
@@ -99,8 +100,7 @@ impl<J: Part> Split<Knowing> for Leaves<J> {
     ghost right = { λ v. only J.who (known (has v J.who)) };
 }
 
-/// The step by which the callers of another seat are given to this one, and that seat's view is
-/// spent.
+/// The step by which a seat takes over the callers of another seat, whose view is empty afterwards.
 pub struct Returns;
 
 impl Join<Knowing> for Returns {

@@ -1,4 +1,5 @@
-//! Atomic words that callers share: with each access its seat learns the history before it.
+//! Atomic words that callers share: with each access a caller's seat learns the history up to this
+//! access.
 ghost use Rattle.std.specs.Prelude.{◌≡◌, ℕ, ◌<◌, ◌≤◌, [], ◌∷◌, ◌++◌, List, None, Some, IfOk, All, map, length, vec_len, vec_capacity, slice_set};
 ghost use Rattle.std.specs.List.{range_with_len};
 ghost use Rattle.book_base.specs.declared.TheConstants.{MAX_CALLERS, MAX_CALLS};
@@ -15,7 +16,7 @@ use book_base::{MAX_CALLERS, MAX_CALLS, NoMemory, OpWord};
 use std::alloc::{AllocError, Global};
 use std::marker::Brand;
 
-/// The words of some callers. Each word is 0 at first.
+/// Atomic words that some callers share. Each word is 0 at first.
 ///
 /// There is one history of all accesses, in the order in which they were made, whatever the threads
 /// do: each access found the word that those before it leave.
@@ -30,7 +31,7 @@ pub struct SharedWords<U: Usage> {
     ghost few: { (callers ≤ MAX_CALLERS) × (cap ≤ MAX_CALLS) },
 }
 
-// An empty list of pairs with capacity for all calls, for each of some callers.
+// For each of `n` callers an empty list of pairs with capacity for `cap` calls.
 fn empty_pairs(alloc: Global, n: u32, cap: u64) -> Result<Vec<Vec<(OpWord, u64)>>, AllocError>
     requires { cap ≤ MAX_CALLS }
     ensures count { IfOk result (λ all. vec_len all ≡ n) }
@@ -51,7 +52,7 @@ impl<U: Usage> SharedWords<U> {
     pub fn callers(&self) -> u32
         // The answer is the number of callers of these words.
         ensures count { result ≡ callers_of self.now }
-        // The callers are at most as many as a table has.
+        // There are at most `MAX_CALLERS` callers.
         ensures few { result ≤ MAX_CALLERS }
     {
         self.callers
@@ -61,29 +62,31 @@ impl<U: Usage> SharedWords<U> {
     pub fn cap(&self) -> u64
         // The answer is the cap of these words.
         ensures count { result ≡ cap_of self.now }
-        // The cap is at most that of a table.
+        // The cap is at most `MAX_CALLS`.
         ensures few { result ≤ MAX_CALLS }
     {
         self.cap
     }
 
-    /// Adds to a word, modulo 2^64, and answers the word that it found.
+    /// Adds to the word at this place, modulo 2^64, and returns the word that it found.
     pub fn add(&self, seat: &mut WordSeat, place: usize, amount: u64) -> u64
-        // The seat is one of these words.
+        // The seat belongs to these words.
         requires seat { IsSeatOf U.may self.now seat.old }
-        // The words have this place.
+        // There is a word at this place.
         requires place { place < count_of self.now }
         // The caller may make this addition, whatever word it finds.
         requires may { (found : ℕ)
             → U.may (caller_of_seat seat.old) (deeds.Added place amount found) }
-        // The seat is still one of these words.
+        // The seat still belongs to these words.
         ensures seat { IsSeatOf U.may self.now seat.new }
         // The seat keeps its caller.
         ensures caller { caller_of_seat seat.new ≡ caller_of_seat seat.old }
-        // The caller's deeds are those before and this addition to the word found.
+        // The caller's deeds are those before the call, and then this addition, which found the
+        // returned word.
         ensures step { deeds_of seat.new
             ≡ deeds_of seat.old ++ deeds.Added place amount result ∷ [] }
-        // The history that the seat knows begins with the one before, and ends with this access.
+        // The history that the seat knows begins with the one that it knew before, ends with this
+        // access, and has no other new access of the caller.
         ensures history { IsAfterAccess (caller_of_seat seat.old) (deeds.Added place amount result)
             (history_of seat.old) (history_of seat.new) }
     {
@@ -94,19 +97,20 @@ impl<U: Usage> SharedWords<U> {
 
     /// Stores a word into the word at this place.
     pub fn store(&self, seat: &mut WordSeat, place: usize, word: u64)
-        // The seat is one of these words.
+        // The seat belongs to these words.
         requires seat { IsSeatOf U.may self.now seat.old }
-        // The words have this place.
+        // There is a word at this place.
         requires place { place < count_of self.now }
         // The caller may make this store.
         requires may { U.may (caller_of_seat seat.old) (deeds.Stored place word) }
-        // The seat is still one of these words.
+        // The seat still belongs to these words.
         ensures seat { IsSeatOf U.may self.now seat.new }
         // The seat keeps its caller.
         ensures caller { caller_of_seat seat.new ≡ caller_of_seat seat.old }
-        // The caller's deeds are those before and this store.
+        // The caller's deeds are those before the call, and then this store.
         ensures step { deeds_of seat.new ≡ deeds_of seat.old ++ deeds.Stored place word ∷ [] }
-        // The history that the seat knows begins with the one before, and ends with this access.
+        // The history that the seat knows begins with the one that it knew before, ends with this
+        // access, and has no other new access of the caller.
         ensures history { IsAfterAccess (caller_of_seat seat.old) (deeds.Stored place word)
             (history_of seat.old) (history_of seat.new) }
     {
@@ -115,44 +119,48 @@ impl<U: Usage> SharedWords<U> {
             .store::<Stores<U>>(&mut seat.seat, place, word)
     }
 
-    /// Loads a word, and answers it.
+    /// Loads the word at this place, and returns it.
     pub fn load(&self, seat: &mut WordSeat, place: usize) -> u64
-        // The seat is one of these words.
+        // The seat belongs to these words.
         requires seat { IsSeatOf U.may self.now seat.old }
-        // The words have this place.
+        // There is a word at this place.
         requires place { place < count_of self.now }
         // The caller may make this load, whatever word it finds.
         requires may { (found : ℕ) → U.may (caller_of_seat seat.old) (deeds.Loaded place found) }
-        // The seat is still one of these words.
+        // The seat still belongs to these words.
         ensures seat { IsSeatOf U.may self.now seat.new }
         // The seat keeps its caller.
         ensures caller { caller_of_seat seat.new ≡ caller_of_seat seat.old }
-        // The caller's deeds are those before and this load of the word found.
+        // The caller's deeds are those before the call, and then this load, which found the
+        // returned word.
         ensures step { deeds_of seat.new ≡ deeds_of seat.old ++ deeds.Loaded place result ∷ [] }
-        // The history that the seat knows begins with the one before, and ends with this access.
+        // The history that the seat knows begins with the one that it knew before, ends with this
+        // access, and has no other new access of the caller.
         ensures history { IsAfterAccess (caller_of_seat seat.old) (deeds.Loaded place result)
             (history_of seat.old) (history_of seat.new) }
     {
         self.table.shared.load::<Loads<U>>(&mut seat.seat, place)
     }
 
-    /// Swaps a word for another one, and answers the word that it found.
+    /// Swaps the word at this place for another one, and returns the word that it found.
     pub fn swap(&self, seat: &mut WordSeat, place: usize, word: u64) -> u64
-        // The seat is one of these words.
+        // The seat belongs to these words.
         requires seat { IsSeatOf U.may self.now seat.old }
-        // The words have this place.
+        // There is a word at this place.
         requires place { place < count_of self.now }
         // The caller may make this swap, whatever word it finds.
         requires may { (found : ℕ)
             → U.may (caller_of_seat seat.old) (deeds.Swapped place word found) }
-        // The seat is still one of these words.
+        // The seat still belongs to these words.
         ensures seat { IsSeatOf U.may self.now seat.new }
         // The seat keeps its caller.
         ensures caller { caller_of_seat seat.new ≡ caller_of_seat seat.old }
-        // The caller's deeds are those before and this swap of the word found.
+        // The caller's deeds are those before the call, and then this swap, which found the
+        // returned word.
         ensures step { deeds_of seat.new
             ≡ deeds_of seat.old ++ deeds.Swapped place word result ∷ [] }
-        // The history that the seat knows begins with the one before, and ends with this access.
+        // The history that the seat knows begins with the one that it knew before, ends with this
+        // access, and has no other new access of the caller.
         ensures history { IsAfterAccess (caller_of_seat seat.old) (deeds.Swapped place word result)
             (history_of seat.old) (history_of seat.new) }
     {
@@ -175,7 +183,7 @@ impl<U: Usage> SharedWords<U> {
         WordSeat { who, seat }
     }
 
-    // Gives each caller a pass.
+    // Makes a pass for each caller, with a seat of its own.
     fn deal(
         &self,
         mut seat: Seat<(), Knowing>,
@@ -205,7 +213,8 @@ impl<U: Usage> SharedWords<U> {
         passes
     }
 
-    /// This many words for `n` callers with `cap` calls each, and a pass for each caller, in order.
+    /// Opens `count` words for `n` callers with `cap` calls each, with a pass for each caller, in
+    /// order.
     pub fn open(
         alloc: Global,
         n: u32,
@@ -218,12 +227,12 @@ impl<U: Usage> SharedWords<U> {
         requires few_calls { cap ≤ MAX_CALLS }
         // There is at least one word.
         requires some_words { 0 < count }
-        // The words have this many callers, this cap and this count.
+        // The words are for `n` callers with `cap` calls each, and there are `count` words.
         ensures words { IfOk result (λ r.
             (callers_of r.0 ≡ n) × (cap_of r.0 ≡ cap) × (count_of r.0 ≡ count)) }
         // The passes are those of the callers, in order.
         ensures callers { IfOk result (λ r. map caller_of_pass r.1.items ≡ range_with_len 0 n) }
-        // Each pass is a new one of these words.
+        // Each pass belongs to these words and is new: it has no call and knows of no access.
         ensures new { IfOk result (λ r. All (IsNewPass r.0) r.1.items) }
     {
         let rooms = empty_pairs(alloc, n, cap)?;
@@ -240,7 +249,7 @@ impl<U: Usage> SharedWords<U> {
         Ok((words, passes))
     }
 
-    // Spends a caller's seat, and gives what it knew to the keeper.
+    // Takes back the seat of a pass: what it knew goes to the seat `keeper`.
     fn take_in(&self, keeper: &mut Seat<(), Knowing>, pass: WordsPass)
         requires keeper { keeper.old.table_id ≡ self.now.table.shared.table_id }
         requires seat { IsSeatOf U.may self.now (seat_in pass) }
@@ -264,7 +273,7 @@ impl<U: Usage> SharedWords<U> {
     pub fn close(self, mut passes: Vec<WordsPass>)
         // The passes are those of all callers, in order.
         requires callers { map caller_of_pass passes.items ≡ range_with_len 0 (callers_of self) }
-        // The seat of each pass is one of these words.
+        // The seat of each pass belongs to these words.
         requires seats { All (λ p. IsSeatOf U.may self (seat_in p)) passes.items }
         // There is one lawful history of all accesses, and each pass knows a prefix of it that has
         // all deeds of its caller.

@@ -5,8 +5,8 @@ ghost use Rattle.shared_words.specs.Histories.{known};
 use crate::plays::Knowing;
 use atomic_table::Seat;
 
-/// The seat of one caller of some words, with the history of this caller alone: the one up to its
-/// last access.
+/// The seat of one caller of shared words. It knows the history up to the last access of this
+/// caller, and has no other caller's history.
 #[derive(Drop)]
 pub struct WordSeat {
     pub(crate) who: u32,

@@ -17,21 +17,21 @@ impl WordsPass {
 
     /// The caller's calls so far, each as its operation and its reply.
     pub fn pairs(&self) -> &[(OpWord, u64)]
-        // The answer is the calls of the pass, in order.
+        // The answer has all calls of the pass, in order.
         ensures { result.now ≡ pairs_in self.now }
     {
         &self.pairs
     }
 
-    /// Notes a call with its reply. It takes no memory.
+    /// Adds a call with its reply to the pass's calls. Takes no memory.
     pub fn note(&mut self, op: OpWord, reply: u64)
         // The pass has memory for one call more.
         requires { made_with self.old < capacity_of_pass self.old }
-        // The pass's calls are those before and this one.
+        // The pass's calls are those before, and then this one.
         ensures pairs { pairs_in self.new ≡ pairs_in self.old ++ (op, reply) ∷ [] }
-        // The pass's seat is as it was.
+        // The pass keeps its seat.
         ensures seat { seat_in self.new ≡ seat_in self.old }
-        // The pass's cap is as it was, and it has at least the memory that it had.
+        // The pass keeps its cap, and has memory for at least as many calls as before.
         ensures same { (cap_of_pass self.new ≡ cap_of_pass self.old)
             × (capacity_of_pass self.old ≤ capacity_of_pass self.new) }
     {

@@ -22,7 +22,7 @@ IsSeenWith book a b = (answered : Call) (r : Record) → record_of book answered
 abbrev pub IsListedBefore : Call → Call → Type 0
 IsListedBefore a b = (a.caller < b.caller) ⊎ ((a.caller ≡ b.caller) × (a.number < b.number))
 
--- One event of a sketch comes before another.
+-- Whether one event of a book comes before another in the sketch, as the views determine it.
 abbrev pub ComesBefore : List Page → Event → Event → Type 0
 -- Call a is invoked before call b where each view that holds b holds a; calls that the same views
 -- hold are invoked by caller and then by number.
@@ -34,20 +34,21 @@ ComesBefore book (Invoke a) (Return b) = (r : Record) → record_of book b ≡ S
 -- one.
 ComesBefore book (Return a) (Invoke b) = (r : Record) → record_of book a ≡ Some r
     → slice_index r.view b.caller ≤ b.number
--- A return comes before another where its view is within the other's, and calls with one view
--- return by caller.
+-- A return comes before another where its call's view is within the other call's view; calls with
+-- equal views return by caller.
 ComesBefore book (Return a) (Return b) = (r s : Record) → record_of book a ≡ Some r
     → record_of book b ≡ Some s
     → IsWithin r.view s.view × (IsWithin s.view r.view → a.caller < b.caller)
 
--- the event stands in the list
+-- an event stands in a list
 abbrev pub StandsIn : List Event → Event → Type 0
 StandsIn events event = (k : ℕ) × (slice_get events k ≡ Some event)
 
--- A list of events is the sketch of a book.
+-- A list of events is the sketch of a book: it has exactly the book's events, and each comes before
+-- all that stand after it.
 pub record IsSketch (book : List Page) (events : List Event) : Type 0 where
-  -- it has the events of the book, and no others
+  -- the list has the events of the book, and no others
   pub whole : (event : Event) → StandsIn events event ↔ IsEventOf book event
-  -- each event in it comes before all that stand after it
+  -- each event of the list comes before all that stand after it
   pub ordered : (j k : ℕ) (e f : Event) → slice_get events j ≡ Some e → slice_get events k ≡ Some f
       → j < k → ComesBefore book e f

@@ -19,7 +19,7 @@ pub struct Drawn {
 }
 
 impl Drawn {
-    /// No events, for this many callers.
+    /// The state before any event is drawn, for this many callers.
     pub fn nothing(callers: u32) -> Drawn
         requires some { 1 ≤ callers }
         requires few { callers ≤ MAX_CALLERS }
@@ -50,9 +50,9 @@ impl Drawn {
 
     /// The event that comes next, unless all are drawn.
     ///
-    /// While some call that the least view of the calls still to return holds isn't invoked, the
-    /// first such call is invoked; then the first call with this view returns. After the last
-    /// return all other calls are invoked.
+    /// Of the answered calls that haven't returned, the one that returns first decides. While its
+    /// view holds a call that isn't invoked, the first such call is invoked; then the deciding call
+    /// returns. After the last return all other calls are invoked.
     pub fn next(&self, book: &Book) -> Option<Event>
         requires valid { IsValid book.now }
         requires part { IsPartOf book.now self.now }
@@ -115,7 +115,7 @@ impl Drawn {
     }
 }
 
-// Of two answered calls, in the order of their callers, the one that returns first.
+// Of an answered call `a` and an answered call `b` of a later caller, the one that returns first.
 fn earlier(book: &Book, a: Call, b: Call) -> Call
     requires valid { IsValid book.now }
     requires first { IsAnswered book.now a }

@@ -2,7 +2,7 @@
 
 ghost use Rattle.sketch.specs.Laws.{BooksHaveOneSketch, ValidBooksHaveASketch, EventsStandOnce, CallsReturnAfterTheyAreInvoked, ViewsHoldWhatWasInvoked, ReturnsComeBeforeUnseenCalls};
 
-/// A book has one sketch.
+/// A book has at most one sketch.
 #[tactic(auto, using(crate::proofs::Orderly::books_have_one_sketch))]
 pub fn books_have_one_sketch()
     ensures { BooksHaveOneSketch }

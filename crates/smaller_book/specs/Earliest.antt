@@ -1,5 +1,5 @@
--- The rule of earlier cuts: a book is shown to have no legal order by the book at an earlier cut
--- that has none, since an error is final.
+-- The rule of earlier cuts: where the book at an earlier cut has no legal order, the whole book has
+-- none either. So the book at the earlier cut shows that the whole book has no legal order.
 use Rattle.std.specs.Prelude.{◌≡◌, ℕ, ◌-◌, ◌<◌, ◌≤◌, ◌⊎◌, List, length, map, slice_index, slice_set}
 use Rattle.std.specs.List.{range_with_len}
 use Rattle.book_base.specs.declared.call.Call.{Call}
@@ -40,7 +40,7 @@ pub record IsIllegalCut (spec : SeqSpec) (book : List Page) (cut : List ℕ) : T
   pub within : IsWithin cut (answered book)
   pub illegal : ¬ HasLegalOrder spec (book_at cut book)
 
--- The cut whose count for this caller is less by one, or 0 where it was 0.
+-- The cut with the count of one caller lowered by 1; a count of 0 stays 0.
 abbrev pub one_less : List ℕ → ℕ → List ℕ
 one_less cut i = slice_set cut i (slice_index cut i - 1)
 
@@ -50,16 +50,16 @@ abbrev pub IsLeastAt : SeqSpec → List Page → List ℕ → ℕ → Type 0
 IsLeastAt spec book cut i = (slice_index cut i ≡ 0)
     ⊎ HasLegalOrder spec (book_at (one_less cut i) book)
 
--- A book is legal below a count of a caller, within a cut: it has a legal order at each cut that
--- lies within this one, has fewer records of the caller than this count, and at which each view of
--- the book holds at most one unanswered call of each caller.
+-- A book is legal below a count of a caller, within a cut: take any cut within the given one that
+-- counts fewer records of the caller than `count`. Where each view of the book at it holds at most
+-- one unanswered call of each caller, the book at it has a legal order.
 abbrev pub IsLegalBelow : SeqSpec → List Page → List ℕ → ℕ → ℕ → Type 0
 IsLegalBelow spec book cut i count = (other : List ℕ) → IsWithin other cut
     → slice_index other i < count → HasOneOpen (book_at other book)
     → HasLegalOrder spec (book_at other book)
 
--- A cut at which the book has no legal order, while it has one at each lesser cut at which each
--- view of the book there holds at most one unanswered call of each caller.
+-- A cut at which a book has no legal order. At each lesser cut the book has one, provided that each
+-- view of the book at that lesser cut holds at most one unanswered call of each caller.
 pub record IsLeastOpenCut (spec : SeqSpec) (book : List Page) (cut : List ℕ) : Type 0 where
   pub here : IsIllegalCut spec book cut
   pub least : (i : ℕ) → IsLegalBelow spec book cut i (slice_index cut i)

@@ -22,8 +22,8 @@ abbrev pub value_shown : Option ℕ → Option ℕ
 value_shown None = None
 value_shown (Some reply) = shown_value reply
 
--- The value that an operation word of this entry puts in; for any other word the value that its
--- reply shows, where it has a reply that shows one.
+-- The value that an operation puts in, where `put` is its entry in the table of operations; for any
+-- other operation the value that its reply shows, where it has a reply that shows one.
 abbrev pub value_moved : OperationEntry → ℕ → Option ℕ → Option ℕ
 value_moved put word reply =
     if is_operation_of word put then Some (argument_of word) else value_shown reply
@@ -65,7 +65,7 @@ key_of_item kinds.Register item = None
 key_of_item kinds.Counter item = None
 key_of_item kinds.CasRegister item = None
 
--- Whether there is a key and it is one of these keys.
+-- Whether a key is one of `keys`; false where there is no key.
 abbrev pub is_among : (ℕ → Bool) → Option ℕ → Bool
 is_among keys None = false
 is_among keys (Some key) = keys key

@@ -1,5 +1,5 @@
--- Minimal books, which have a legal order once they are made smaller; and books that are made
--- smaller and have no legal order.
+-- Minimal books, which have a legal order once a rule makes them smaller; and smaller books that
+-- still have no legal order.
 use Rattle.std.specs.Prelude.{◌≡◌, ℕ, ◌+◌, ◌-◌, ◌<◌, ◌≤◌, ◌++◌, cond, nat_eq, List, length, map, slice_index, Some}
 use Rattle.std.specs.List.{range_with_len}
 use Rattle.book_base.specs.declared.call.Call.{Call}
@@ -22,12 +22,12 @@ abbrev pub numbers_except : ℕ → ℕ → List ℕ
 numbers_except count number =
     range_with_len 0 number ++ range_with_len (number + 1) (count - (number + 1))
 
--- The numbers of a caller's calls in a book, without that of this call where it is the caller's.
+-- The numbers of a caller's calls in a book, with `call` left out where it is the caller's.
 abbrev pub row_but : List Page → Call → ℕ → List ℕ
 row_but book call i = cond (nat_eq i call.caller) (numbers_except (calls_of book i) call.number)
     (range_with_len 0 (calls_of book i))
 
--- For each caller of a book the numbers of its calls, without that of this call.
+-- For each caller of a book the numbers of its calls, with `call` left out.
 abbrev pub all_but : List Page → Call → List (List ℕ)
 all_but book call = map (row_but book call) (range_with_len 0 (length book))
 
@@ -54,10 +54,10 @@ pub record IsMinimal (kind : Kind) (book : List Page) : Type 0 where
   -- the book has a legal order at each earlier cut at which it is tried, and each of its calls is
   -- in some view
   pub earliest : IsEarliest (kind_spec kind) book
-  -- without any single read-only call the book has a legal order
+  -- for each of its read-only calls, the book without this one call has a legal order
   pub read_only : (call : Call) → IsReadOnly (kind_next kind) book call → IsNeeded kind book call
-  -- where each view holds at most one unanswered call of each caller, the book has a legal order
-  -- without all calls of any one key that a call of it is about
+  -- for each key that one of its calls is about, the book without all calls of this key has a legal
+  -- order, where each view holds at most one unanswered call of each caller
   pub keys : HasOneOpen book → (call : Call) (key : ℕ) → IsCall book call
       → key_of_call kind book call ≡ Some key → IsKeyNeeded kind book key
 
@@ -74,14 +74,14 @@ pub record IsSmaller (kind : Kind) (book : List Page) (names : List (List ℕ))
 abbrev pub picked : List ℕ → List ℕ → List ℕ
 picked numbers places = map (λ place. slice_index numbers place) places
 
--- For each caller the numbers that its calls in a part of a part have in the book: those that the
--- first part's list has at the places that the second part's list has.
+-- For each caller the numbers in the book of its calls in a part of a part: the entries of the
+-- caller's list in `first`, at the places that its list in `second` names.
 abbrev pub composed : List (List ℕ) → List (List ℕ) → List (List ℕ)
 composed first second =
     map (λ i. picked (numbers_of first i) (numbers_of second i)) (range_with_len 0 (length second))
 
--- A shrunk book: a part of a book that is evidence of it and has no legal order, but has one at
--- each earlier cut at which it is tried, and each of whose calls is in some view.
+-- A shrunk book: a part of a book that is evidence of it and has no legal order. The part has a
+-- legal order at each earlier cut at which it is tried, and each of its calls is in some view.
 pub record IsShrunk (kind : Kind) (book : List Page) (names : List (List ℕ))
     (part : List Page) : Type 0 where
   pub is_part : IsPart book names part

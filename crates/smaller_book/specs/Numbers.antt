@@ -3,11 +3,11 @@ use Rattle.std.specs.Prelude.{◌≡◌, ℕ, ◌<◌, List, Vec, length, map, s
 use Rattle.book_base.specs.Book.{Page, calls_of}
 use Rattle.smaller_book.specs.Part.{numbers_of, AreRising}
 
--- The lists of numbers that some vectors hold, one after another.
+-- The items of each vector of a list of vectors, as a list of lists of numbers.
 abbrev pub numbers_in : {A : Type 0} → List (Vec ℕ A) → List (List ℕ)
 numbers_in rows = map (λ row. row.items) rows
 
--- These are rising numbers of calls of the book, one list for each caller.
+-- The lists of `names`, one for each caller, hold rising numbers of calls of the book.
 pub record AreNumbersOf (book : List Page) (names : List (List ℕ)) : Type 0 where
   pub wide : length names ≡ length book
   pub rising : (i : ℕ) → AreRising (numbers_of names i)

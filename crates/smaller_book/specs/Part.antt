@@ -53,7 +53,7 @@ pub record IsPart (book : List Page) (names : List (List ℕ)) (part : List Page
   pub calls : (i : ℕ) → calls_of part i ≡ length (numbers_of names i)
   -- each caller's list of numbers rises, and so its calls keep their order
   pub rising : (i : ℕ) → AreRising (numbers_of names i)
-  -- each call of the part has the operation of the call of the book that it was
+  -- each call of the part has the same operation as its original in the book
   pub operations : (call : Call) → IsCall part call
       → operation_of part call ≡ operation_of book (original names call)
   -- each caller has at most as many records in the part as calls

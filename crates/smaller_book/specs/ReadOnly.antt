@@ -16,8 +16,8 @@ abbrev pub LacksReadOnlyAlone : (List ℕ → ℕ → List ℕ × ℕ) → List 
 LacksReadOnlyAlone next book names = (call : Call) → IsCall book call → ¬ IsNamed names call
     → IsReadOnly next book call
 
--- These are rising numbers below a bound, and each call of the caller whose number is below the
--- bound and isn't among them is read-only.
+-- The `numbers` rise and are less than `below`; each call of caller `i` whose number is less than
+-- `below` and isn't among them is read-only.
 pub record LacksReadOnlyOf (next : List ℕ → ℕ → List ℕ × ℕ) (book : List Page) (i below : ℕ)
     (numbers : List ℕ) : Type 0 where
   pub rising : AreRising numbers
@@ -27,7 +27,7 @@ pub record LacksReadOnlyOf (next : List ℕ → ℕ → List ℕ × ℕ) (book :
       ⊎ IsReadOnly next book (record { caller = i; number = number })
 
 -- Where a part lacks only read-only calls of the book, a legal order of the book gives one of the
--- part, from whichever list.
+-- part, whichever list the object begins with.
 abbrev pub HasOneWithoutReadOnly : Type 0
 HasOneWithoutReadOnly =
     (next : List ℕ → ℕ → List ℕ × ℕ) (book : List Page) (names : List (List ℕ)) (part : List Page)

@@ -1,5 +1,5 @@
--- Worked books: small ones, written out, with calls that the rules take out and calls that they
--- don't.
+-- Small books, written out, with calls that the rules for smaller books leave out and calls that
+-- they keep.
 use Rattle.std.specs.Prelude.{List, [], ◌∷◌}
 use Rattle.book_base.specs.Book.{Page}
 use Rattle.book_laws.specs.Cases.{answer, caller_page}

@@ -39,10 +39,12 @@ pub fn numbers_that_stay()
     ensures middle { numbers_except 4 1 ≡ 0 ∷ 2 ∷ 3 ∷ [] }
     // Of two calls without the last one the number 0 stays.
     ensures last { numbers_except 2 1 ≡ 0 ∷ [] }
-    // Without the second call of caller 0 its calls 0 and 2 stay, and the one of caller 1.
+    // Where caller 0 has three calls and caller 1 has one: without call 1 of caller 0 its calls 0
+    // and 2 stay, and the call of caller 1.
     ensures one_caller { all_but overtaken (record { caller = 0; number = 1 })
         ≡ (0 ∷ 2 ∷ []) ∷ (0 ∷ []) ∷ [] }
-    // Without its only call caller 1 has none, and caller 0 keeps all three.
+    // Where caller 0 has three calls and caller 1 has one: without the call of caller 1 all three
+    // calls of caller 0 stay.
     ensures only_call { all_but overtaken (record { caller = 1; number = 0 })
         ≡ (0 ∷ 1 ∷ 2 ∷ []) ∷ [] ∷ [] }
     // The part that has calls 0 and 2 of the part with calls 0, 2 and 3 has calls 0 and 3 of the
@@ -51,8 +53,8 @@ pub fn numbers_that_stay()
 {}
 
 /// An answered call that changes no list is read-only, and an unanswered call isn't. A take isn't
-/// read-only, whether it replies 6 or 0: a reply of 0 says "none" or "the item 0", and a list may
-/// begin with either item.
+/// read-only, whether it replies 6 or 0: the reply 0 says that nothing was found or that the item 0
+/// was taken, and a list may begin with the item 6 or 0.
 pub fn calls_that_leave()
     // An answered call of an object that keeps nothing is read-only.
     ensures replies { IsReadOnly tenfold_next mistaken (record { caller = 1; number = 0 }) }
@@ -101,27 +103,26 @@ pub fn keys_of_operations()
 /// the take that shows it, and of a set the answered calls and the unanswered one. An unanswered
 /// take stays.
 pub fn calls_without_a_key()
-    // Without the key 5 the put of 6 stays, and of caller 1 the take that found nothing and the
-    // unanswered one.
+    // Without the key 5 the put of 6, the take that found nothing and the unanswered take stay.
     ensures value { all_without kinds.Queue (keys_from_to 5 5) put_twice
         ≡ (1 ∷ []) ∷ (1 ∷ 2 ∷ []) ∷ [] }
-    // Without the keys 5 and 6 no put stays, and of caller 1 the take that found nothing and the
-    // unanswered one.
+    // Without the keys 5 and 6 only the take that found nothing and the unanswered take stay.
     ensures values { all_without kinds.Queue (keys_from_to 5 6) put_twice ≡ [] ∷ (1 ∷ 2 ∷ []) ∷ [] }
     // Without keys that no call is about all calls stay.
     ensures no_call { all_without kinds.Queue (keys_from_to 7 9) put_twice
         ≡ (0 ∷ 1 ∷ 2 ∷ []) ∷ (0 ∷ 1 ∷ 2 ∷ []) ∷ [] }
-    // Of the book on a set the two calls on key 3 stay without the key 4.
+    // In a book of a set with two calls on key 3 and two on key 4, without the key 4 those on key 3
+    // stay.
     ensures of_a_set { all_without kinds.IntSet (keys_from_to 4 4) of_two_keys
         ≡ (0 ∷ []) ∷ (0 ∷ []) ∷ [] }
-    // Of the book on a set the two calls on key 4 stay without the key 3, the unanswered one among
-    // them.
+    // In a book of a set with two calls on key 3 and two on key 4, without the key 3 those on key 4
+    // stay, of which one is unanswered.
     ensures other_of_a_set { all_without kinds.IntSet (keys_from_to 3 3) of_two_keys
         ≡ (1 ∷ []) ∷ (1 ∷ []) ∷ [] }
 {}
 
-/// The items of a list without a key: values by their low 32 bits, and items of a map by their
-/// keys.
+/// Which items of a list stay when those of some keys are left out: the key of a queue's item is
+/// its low 32 bits, and a map's item has its key above these.
 pub fn items_without_a_key()
     // Of the items of a queue without the key 5 those stay whose low 32 bits aren't 5.
     ensures values { items_without kinds.Queue (keys_from_to 5 5)
@@ -146,9 +147,11 @@ pub fn open_calls()
 /// unanswered put, and at a cut without both puts it holds two. As the book has few calls, it is
 /// tried at both cuts.
 pub fn cuts_with_one_open()
-    // At the cut without the last put the book has one open.
+    // At the cut without the last put the take's view holds one unanswered put, and the book has
+    // one open.
     ensures one { HasOneOpen (book_at (1 ∷ 1 ∷ []) two_puts) }
-    // At the cut without both puts the book hasn't one open.
+    // At the cut without both puts the take's view holds two unanswered puts, and the book hasn't
+    // one open.
     ensures two { ¬ HasOneOpen (book_at (0 ∷ 1 ∷ []) two_puts) }
     // A book of few calls is tried at the cut without both puts too.
     ensures few { IsTried two_puts (0 ∷ 1 ∷ []) }

@@ -1,4 +1,4 @@
-//! The numbers of a book's calls, and of those of a part of a part.
+//! The numbers of a book's calls, and the numbers in a book of the calls of a part of a part of it.
 ghost use Rattle.std.specs.Prelude.{◌≡◌, ℕ, ◌<◌, length, slice_index, IfOk};
 ghost use Rattle.smaller_book.specs.Part.{numbers_of};
 ghost use Rattle.smaller_book.specs.Numbers.{numbers_in};
@@ -10,7 +10,8 @@ use book_base::{Book, NoMemory};
 use seq_objects::Kind;
 use std::alloc::Global;
 
-/// A smaller book of a smaller book, with the numbers that its calls have in the first book.
+/// The book of `next`, which was made from that of `smaller`, with the numbers that its calls have
+/// in `book`.
 pub fn smaller_still(
     alloc: Global,
     kind: Kind,
@@ -44,8 +45,8 @@ pub fn numbers_of_all(alloc: Global, book: &Book) -> Result<Vec<Vec<u64>>, NoMem
     Ok(rows)
 }
 
-/// For each caller the numbers that the calls of a part of a part have in the book: of the caller's
-/// first numbers those at the places that its second numbers say.
+/// For each caller the numbers in the book of its calls in a part of a part: the entries of the
+/// caller's list in `first`, at the places that its list in `second` names.
 pub fn numbers_through(
     alloc: Global,
     first: &[Vec<u64>],

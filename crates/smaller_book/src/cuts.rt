@@ -21,24 +21,24 @@ use std::alloc::Global;
 /// The book at a cut at which it has no legal order; the result has a legal order at each earlier
 /// cut at which it is tried. Its calls are those that its views hold.
 ///
-/// An error is final (Castañeda and Rodríguez 2023), so that cuts are found by halving. First comes
-/// the least number of calls such that the book has no legal order at the cut of the records whose
-/// views hold at most this many calls. From this cut records are taken, first while the book breaks
-/// a rule, which is cheap to test, and then while it has no legal order. A search for an order has
-/// more to try with each record that is gone, until few calls are left: where many are left, only
-/// such records are taken without which the book still has one open.
+/// Where a book has no legal order at a cut, it has none at any later cut (Castañeda and Rodríguez
+/// 2023), so that cuts are found by halving. The first cut holds the records whose views hold at
+/// most n calls, for the least n with which the book has no legal order. From this cut records are
+/// removed, first while the book breaks a rule, which is cheap to test, and then while it has no
+/// legal order. With each record that is gone a search for an order has more to try, until few
+/// calls are left. So where more than `FEW_CALLS` calls are left, and each view holds at most one
+/// unanswered call of each caller, only cuts are tried at which each view still holds at most one.
 pub fn earliest(alloc: Global, kind: Kind, book: &Book) -> Result<Book, NoMemory>
     // The book has no legal order.
     requires { ¬ HasLegalOrder (kind_spec kind) book.now }
-    // The answer is the part of the book that has of each caller its first calls, as many as the
-    // part has calls of this caller.
+    // The answer is a part of the book: of each caller it has the first calls, up to some number.
     ensures part { IfOk result (λ part. IsPart book.now (all_numbers part) part) }
     // Where the book has a legal order, the part has one, whichever list the object begins with.
     ensures evidence { IfOk result (CarriesOver (kind_next kind) book.now) }
     // The part has no legal order.
     ensures illegal { IfOk result (λ part. ¬ HasLegalOrder (kind_spec kind) part) }
-    // The part has a legal order at each cut that lacks a record of it and at which it is tried,
-    // and each of its calls is in some view.
+    // The part has a legal order at each cut that lacks a record of the part and at which the part
+    // is tried; and each call of the part is in some view.
     ensures earliest { IfOk result (IsEarliest (kind_spec kind)) }
 {
     let _callers = book.callers();
@@ -49,9 +49,9 @@ pub fn earliest(alloc: Global, kind: Kind, book: &Book) -> Result<Book, NoMemory
     Ok(part)
 }
 
-// A least cut, found by taking records from this one: any records, where at the cut the book has
-// few calls or a view that holds several unanswered calls of one caller; else first only such
-// records that the book keeps one open.
+// A least cut, found by removing records from `cut`. Where the book at the cut has few calls, or a
+// view that holds several unanswered calls of one caller, any record may go; else first only
+// records without which each view still holds at most one unanswered call of each caller.
 fn least_cut(alloc: Global, kind: Kind, book: &Book, cut: Cut) -> Result<Cut, NoMemory>
     requires { IsIllegalCut (kind_spec kind) book.now cut }
     ensures { IfOk result (IsLeastCut (kind_spec kind) book.now) }
@@ -68,9 +68,9 @@ fn least_cut(alloc: Global, kind: Kind, book: &Book, cut: Cut) -> Result<Cut, No
     }
 }
 
-/// The book at the cut of its records whose views hold few calls, the fewest with which it has no
-/// legal order there: it lacks the calls that only later views hold. No book is answered where it
-/// has no fewer calls at this cut.
+/// The book at a cut at which it has no legal order: the cut of the records whose views hold at
+/// most n calls, for the least n with which there is no legal order. No book is answered where the
+/// book at this cut has no fewer calls.
 pub fn without_later(alloc: Global, kind: Kind, book: &Book) -> Result<Option<Smaller>, NoMemory>
     requires { ¬ HasLegalOrder (kind_spec kind) book.now }
     ensures { IfOk result (λ found. IfSome found (λ smaller.
@@ -82,8 +82,8 @@ pub fn without_later(alloc: Global, kind: Kind, book: &Book) -> Result<Option<Sm
 }
 
 /// The book at a cut at which it has no legal order, while it has one at each lesser cut at which
-/// it has one open. No book is answered where it has no fewer calls at that cut, or has at most
-/// `FEW_CALLS` calls from the start.
+/// each view holds at most one unanswered call of each caller. No book is answered where the book
+/// at this cut has no fewer calls, or where the whole book has at most `FEW_CALLS` calls.
 pub fn without_open(alloc: Global, kind: Kind, book: &Book) -> Result<Option<Smaller>, NoMemory>
     requires { ¬ HasLegalOrder (kind_spec kind) book.now }
     ensures { IfOk result (λ found. IfSome found (λ smaller.
@@ -209,9 +209,10 @@ fn least_broken(alloc: Global, kind: Kind, book: &Book, cut: Cut) -> Result<Cut,
     Ok(least)
 }
 
-// A count of a caller with which, and with the other counts of a cut, the book is found to break a
-// rule; or the count that the cut has. The count 0 is tried first, since most callers have nothing
-// to do with a rule, and then the range is halved.
+// A lower count for a caller: with it in the cut, in place of the caller's count there, the book is
+// still found to break a rule. Where no lower count is found, the answer is the caller's count in
+// the cut. The count 0 is tried first, since most callers have nothing to do with a rule, and then
+// the range is halved.
 fn broken_count(
     alloc: Global,
     kind: Kind,
@@ -240,8 +241,8 @@ fn broken_count(
     Ok(high)
 }
 
-// Whether the book is found to break a rule at the cut that has this count of a caller and the
-// other counts of a cut.
+// Whether the book is found to break a rule at `cut` with its count for `caller` replaced by
+// `count`.
 fn is_broken_with(
     alloc: Global,
     kind: Kind,
@@ -275,9 +276,9 @@ fn least_of_all(alloc: Global, kind: Kind, book: &Book, cut: Cut) -> Result<Cut,
     Ok(least)
 }
 
-// The least count of a caller with which, and with the other counts of a cut, the book has no legal
-// order. Steps down by 1, 2, 4 and so on are tried first, since most counts are little above the
-// least ones; after a legal order the range is halved.
+// The least count for a caller with which the book has no legal order, where the other counts of
+// the cut stay. Steps down by 1, 2, 4 and so on are tried first, since most counts are little above
+// the least ones; after a legal order the range is halved.
 fn least_count(
     alloc: Global,
     kind: Kind,

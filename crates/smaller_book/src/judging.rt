@@ -32,17 +32,17 @@ pub fn is_illegal(alloc: Global, kind: Kind, book: &Book) -> Result<bool, NoMemo
     }
 }
 
-/// All pairs of a book's calls are looked at for a broken rule before an order is looked for, where
-/// the book has no more calls than this, and a view holds several unanswered calls of a caller: a
-/// search finds little there that it may leave out.
+/// The greatest number of calls with which all pairs of a book's calls are looked at for a broken
+/// rule before an order is looked for. Pairs are looked at only where a view holds several
+/// unanswered calls of one caller, since a search for an order can leave out little in that case.
 const MOST_PAIRED: u64 = 512;
 
 /// The greatest number of calls with which pairs of calls are looked at for a broken rule while
 /// records are taken from a cut. It is greater than `MOST_PAIRED`, as no order is looked for then.
 const MOST_PAIRED_AT_A_CUT: u64 = 2048;
 
-// Whether a book is found to break a rule of its kind. A book of more than this many calls isn't
-// looked at.
+// Whether a book is found to break a rule of its kind; false, without a look, for a book of more
+// than `most` calls.
 fn breaks_rule(kind: Kind, book: &Book, most: u64) -> bool
     ensures { IsTrue result → ¬ HasLegalOrder (kind_spec kind) book.now }
 {

@@ -84,9 +84,9 @@ fn without_chunk(
     }
 }
 
-// The book without the calls of the keys from a first one to a last one, where it has fewer calls
-// and no legal order without them, and each of its views holds at most one unanswered call of each
-// caller.
+// The book without the calls of the keys from `first` to `last`. No book is answered where it has
+// no such calls, where it has a legal order without them, or where one of its views holds several
+// unanswered calls of one caller.
 fn without_some(
     alloc: Global,
     kind: Kind,
@@ -111,9 +111,9 @@ fn without_some(
     }
 }
 
-/// The book without the calls of the first key without which it has no legal order. No book is
-/// answered where the book has a legal order without each single key, or where a view holds two
-/// unanswered calls of a caller.
+/// The book without all calls of one key, the first key whose removal leaves a book without a legal
+/// order. No book is answered where there is no such key, or where a view holds several unanswered
+/// calls of one caller.
 pub fn without_one_key(alloc: Global, kind: Kind, book: &Book) -> Result<Option<Smaller>, NoMemory>
     ensures smaller { IfOk result (λ found. IfSome found (λ smaller.
         IsSmaller kind book.now (numbers_in smaller.numbers.items) smaller.book)) }
@@ -274,7 +274,7 @@ fn part_without(
     })
 }
 
-// The numbers of all calls that are about none of the keys from a first one to a last one.
+// For each caller the numbers of its calls that are about none of the keys from `first` to `last`.
 fn numbers_without(
     alloc: Global,
     kind: Kind,
@@ -314,7 +314,7 @@ fn numbers_of_caller(
     Ok(numbers)
 }
 
-// Whether there is a key, and it is from a first one to a last one.
+// Whether there is a key, and it is at least `first` and at most `last`.
 fn is_from_to(first: u64, last: u64, key: Option<u64>) -> bool
     ensures { result ≡ is_among (keys_from_to first last) key }
 {

@@ -23,9 +23,8 @@ pub fn evidence_tells()
 {}
 
 /// A minimal book has a legal order at each earlier moment of its run. A minimal book with few
-/// calls has a legal order at each cut within its records that lacks one of them; and a minimal
-/// book that no run has, since a view of it holds several unanswered calls of one caller, has a
-/// legal order at each such cut too.
+/// calls, or with a view that holds several unanswered calls of one caller, as no book of a run
+/// has, has a legal order at each cut within its records that lacks one of them.
 pub fn minimal_books_have_earlier_orders()
     // A minimal valid book with one open has a legal order at each moment that lacks a record: a
     // moment is a cut that holds with each record all records whose views lie within its view.

@@ -1,5 +1,5 @@
-//! From a book without a legal order a smaller book without one, and the laws that say why the
-//! smaller book is evidence.
+//! From a book without a legal order a smaller book without one, and the laws by which the smaller
+//! book shows that the first one has no legal order.
 #![tactic(auto)]
 
 pub mod cases;

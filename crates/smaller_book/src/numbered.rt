@@ -44,8 +44,8 @@ fn sizes(book: &Book, numbers: &[Vec<u64>]) -> Cut
     sizes
 }
 
-// Gives each call of a caller in the part the operation of the book's call that has its number in
-// the list.
+// Gives call k of a caller in the part the operation that the book has for the caller's call with
+// the number `numbers[k]`.
 fn put_operations(book: &Book, numbers: &[u64], caller: u32, part: &mut Book)
     requires inside { (k : ℕ) → k < length numbers.now
         → slice_index numbers.now k < calls_of book.now caller }
@@ -103,8 +103,8 @@ fn put_answers(
     Ok(())
 }
 
-// Puts into the part the answer to its first unanswered call of a caller, which is the call of the
-// book with this number.
+// Puts the book's answer to call `number` of a caller into the part, where this call is the
+// caller's first unanswered one.
 fn put_answer(
     book: &Book,
     numbers: &[Vec<u64>],

@@ -14,9 +14,9 @@ use book_base::{Book, Call, Cut, NoMemory};
 use seq_objects::Kind;
 use std::alloc::Global;
 
-/// Takes records from a cut at which the book has no legal order, of one caller after another,
-/// until the book has a legal order at each lesser cut at which each view of the book there holds
-/// at most one unanswered call of each caller.
+/// Removes records of one caller after another from a cut at which the book has no legal order. In
+/// the end the book has a legal order at each lesser cut, provided that each view of the book at
+/// that lesser cut holds at most one unanswered call of each caller.
 pub fn least_open_cut(alloc: Global, kind: Kind, book: &Book, cut: Cut) -> Result<Cut, NoMemory>
     requires { IsIllegalCut (kind_spec kind) book.now cut }
     ensures { IfOk result (IsLeastOpenCut (kind_spec kind) book.now) }
@@ -65,9 +65,9 @@ fn least_open_of(
     Ok(least)
 }
 
-// A cut within this one with at most this count of a caller, which holds each such cut at which the
-// book has one open: records whose views hold several unanswered calls of one caller go, round
-// after round, until none goes.
+// A cut within `cut` that counts at most `count` records of `caller`: records whose views hold
+// several unanswered calls of one caller are removed, round after round, until none is. Within the
+// answer lies each such cut at which every view holds at most one unanswered call of each caller.
 fn open_below(book: &Book, cut: &Cut, caller: u32, count: u64) -> Cut
     requires wide { length cut.now ≡ length book.now }
     requires within { IsWithin cut.now (answered book.now) }
@@ -91,8 +91,8 @@ fn open_below(book: &Book, cut: &Cut, caller: u32, count: u64) -> Cut
     kept
 }
 
-// The cut without the last records of each caller whose views hold several unanswered calls of one
-// caller: more than one beyond the cut's records of that caller.
+// The cut without the last records of each caller, as far as their views hold several unanswered
+// calls of one caller: at least two calls more than the cut has records of that caller.
 fn fewer_open(book: &Book, cut: &Cut) -> Cut
     requires wide { length cut.now ≡ length book.now }
     requires within { IsWithin cut.now (answered book.now) }
@@ -109,8 +109,9 @@ fn fewer_open(book: &Book, cut: &Cut) -> Cut
     fewer
 }
 
-// How many records of a caller remain in a cut without the last ones whose views hold several
-// unanswered calls of one caller: more than one beyond the cut's records of that caller.
+// How many records of a caller remain in a cut after its last ones are removed, as far as their
+// views hold several unanswered calls of one caller: at least two calls more than the cut has
+// records of that caller.
 fn open_count(book: &Book, cut: &Cut, caller: u32) -> u64
     requires wide { length cut.now ≡ length book.now }
     requires within { IsWithin cut.now (answered book.now) }

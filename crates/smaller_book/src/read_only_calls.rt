@@ -15,8 +15,8 @@ use book_base::{Book, Call, MAX_CALLS, NoMemory};
 use seq_objects::Kind;
 use std::alloc::Global;
 
-/// The book without a read-only call, where it has no legal order without this call. No book is
-/// answered where the book has a legal order without each single read-only call.
+/// The book without one read-only call, where that smaller book has no legal order. No book is
+/// answered where leaving out any one read-only call gives a book with a legal order.
 pub fn without_read_only(
     alloc: Global,
     kind: Kind,
@@ -33,9 +33,10 @@ pub fn without_read_only(
     }
 }
 
-/// The book without those single read-only calls that can be left out one after another. Each is
-/// tried once: a call without which the book has a legal order can't be left out of a part of it
-/// either.
+/// The book without read-only calls, which are tried one after another: a call is left out if the
+/// book has no legal order then. Each is tried once, since a call without which the book has a
+/// legal order can't be left out of a part of it either. No book is answered where no call is left
+/// out.
 pub fn without_singles(alloc: Global, kind: Kind, book: &Book) -> Result<Option<Smaller>, NoMemory>
     ensures { IfOk result (λ found. IfSome found (λ smaller.
         IsSmaller kind book.now (numbers_in smaller.numbers.items) smaller.book)) }

@@ -22,9 +22,9 @@ pub struct Smaller {
     pub numbers: Vec<Vec<u64>>,
 }
 
-/// The book without the first read-only call, of the caller `from` or a later one, without which it
-/// has no legal order, with the caller of this call. No book is answered where leaving out any
-/// single read-only call of these callers gives a book with a legal order.
+/// Leaves out the first read-only call, of the caller `from` or a later one, whose removal leaves a
+/// book without a legal order. The answer is that book with the call's caller; or no book, where
+/// the removal of any one read-only call of these callers leaves a book with a legal order.
 pub fn without_one(
     alloc: Global,
     kind: Kind,
@@ -47,7 +47,8 @@ pub fn without_one(
     Ok(None)
 }
 
-// The book without the first read-only call of this caller without which it has no legal order.
+// The book without one read-only call of a caller, the first whose removal leaves a book without a
+// legal order. No book is answered where the caller has no such call.
 fn without_one_of(
     alloc: Global,
     kind: Kind,
@@ -110,7 +111,7 @@ pub fn is_read_only(kind: Kind, book: &Book, call: Call) -> bool
     kind.leaves(op, record.reply)
 }
 
-// For each caller the numbers of its calls in a book, without that of this call.
+// For each caller of a book the numbers of its calls, with `call` left out.
 fn all_numbers_but(alloc: Global, book: &Book, call: Call) -> Result<Vec<Vec<u64>>, NoMemory>
     requires { IsCall book.now call }
     ensures { IfOk result (λ rows. numbers_in rows.items ≡ all_but book.now call) }
@@ -122,7 +123,7 @@ fn all_numbers_but(alloc: Global, book: &Book, call: Call) -> Result<Vec<Vec<u64
     Ok(rows)
 }
 
-// The numbers of a caller's calls in a book, without that of this call where it is the caller's.
+// The numbers of a caller's calls in a book, with `call` left out where it is the caller's.
 fn numbers_but(alloc: Global, book: &Book, call: Call, caller: u32) -> Result<Vec<u64>, NoMemory>
     requires call { IsCall book.now call }
     requires caller { caller < length book.now }
@@ -162,7 +163,7 @@ pub fn numbers_below(alloc: Global, count: u64) -> Result<Vec<u64>, NoMemory>
     Ok(numbers)
 }
 
-/// Whether a book has fewer calls of some caller than another book.
+/// Whether `few` has fewer calls of some caller than `book`.
 pub fn has_fewer(few: &Book, book: &Book) -> bool
     requires { length few.now ≡ length book.now }
     ensures { IsTrue result → (i : ℕ) × (calls_of few.now i < calls_of book.now i) }

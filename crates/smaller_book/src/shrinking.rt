@@ -69,9 +69,9 @@ pub fn shrink(alloc: Global, kind: Kind, book: &Book) -> Result<Option<Smaller>,
     }
 }
 
-// The book, thinned and then at an earliest cut at which it has no legal order. Many calls are left
-// out before single records are: each record that goes leaves an unanswered call, and a search has
-// more to try.
+// The book without many of the calls that can be left out, and then at an earliest cut at which it
+// has no legal order. Many calls are left out before single records are: each record that goes
+// leaves an unanswered call, and a search has more to try.
 fn begun(alloc: Global, kind: Kind, book: &Book) -> Result<Smaller, NoMemory>
     requires { ¬ HasLegalOrder (kind_spec kind) book.now }
     ensures { IfOk result (λ smaller. IsShrunk kind
@@ -97,8 +97,8 @@ fn at_earliest(alloc: Global, kind: Kind, book: &Book) -> Result<Smaller, NoMemo
     })
 }
 
-// The book without calls that aren't needed, thinned and then at an earliest cut at which it has no
-// legal order; none, where each read-only call and each key is needed.
+// The book without calls that aren't needed, at an earliest cut at which it has no legal order. No
+// book is answered where each read-only call and each key is needed.
 fn next_smaller(alloc: Global, kind: Kind, book: &Book) -> Result<Option<Smaller>, NoMemory>
     ensures smaller { IfOk result (λ found. IfSome found (λ smaller.
         IsShrunk kind book.now (numbers_in smaller.numbers.items) smaller.book)) }
@@ -133,8 +133,8 @@ fn without_calls(alloc: Global, kind: Kind, book: &Book) -> Result<Option<Smalle
     }
 }
 
-// A smaller book, thinned and then at an earliest cut at which it has no legal order, with the
-// numbers that its calls have in the first book.
+// A smaller book without further calls that can be left out, at an earliest cut at which it has no
+// legal order, with the numbers that its calls have in `book`.
 fn settled(alloc: Global, kind: Kind, book: &Book, without: Smaller) -> Result<Smaller, NoMemory>
     requires { IsSmaller kind book.now (numbers_in without.numbers.items) without.book }
     ensures shrunk { IfOk result (λ smaller. IsShrunk kind
@@ -151,7 +151,7 @@ fn settled(alloc: Global, kind: Kind, book: &Book, without: Smaller) -> Result<S
 }
 
 // A smaller book at an earliest cut at which it has no legal order, with the numbers that its calls
-// have in the first book.
+// have in `book`.
 fn at_earliest_after(
     alloc: Global,
     kind: Kind,

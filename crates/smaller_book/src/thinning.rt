@@ -14,12 +14,12 @@ use book_base::{Book, NoMemory};
 use seq_objects::Kind;
 use std::alloc::Global;
 
-/// The book up to the first views at which it has no legal order, without keys and read-only calls
-/// that can be left out: many at once, and then single ones (after Zeller and Hildebrandt 2002). No
-/// book is answered where nothing can be left out.
+/// A smaller book without a legal order: the latest records go, and then the calls of keys and the
+/// read-only calls that can be left out, many at once and then single ones (after Zeller and
+/// Hildebrandt 2002). No book is answered where nothing can be left out.
 ///
-/// No answer goes while a later call of its caller is in some view: where each view holds at most
-/// one unanswered call of each caller, a search is short.
+/// No answered call becomes unanswered while a view holds a later call of its caller: a search for
+/// an order is short where each view holds at most one unanswered call of each caller.
 pub fn thinned(alloc: Global, kind: Kind, book: &Book) -> Result<Option<Smaller>, NoMemory>
     requires { ¬ HasLegalOrder (kind_spec kind) book.now }
     ensures { IfOk result (λ found. IfSome found (λ smaller.
@@ -99,8 +99,9 @@ fn without_singles_too(
     }
 }
 
-// The smaller book found before, or else the book, without the records that can go while it has one
-// open; where no call goes with them, what was found before.
+// The smaller book found before, or else the book, without the records that can go while each view
+// still holds at most one unanswered call of each caller; where no call goes with them, what was
+// found before.
 fn without_open_too(
     alloc: Global,
     kind: Kind,

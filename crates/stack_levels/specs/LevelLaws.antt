@@ -1,4 +1,4 @@
--- Closed tables of levels and legal orders.
+-- The law that a stack's book has no legal order where a table of levels is closed for it.
 use Rattle.std.specs.Prelude.{ℕ, List, []}
 use Rattle.book_base.specs.SeqSpec.{spec_from}
 use Rattle.book_base.specs.Book.{Page, IsValid}
@@ -8,8 +8,8 @@ use Rattle.history_rules.specs.Container.{Reading}
 use Rattle.stack_pruning.specs.LastFirst.{GivesLastFirst}
 use Rattle.stack_levels.specs.Levels.{Layer, IsAmong, IsClosed}
 
--- An object that is read in this way, gives its last value first, and begins with the empty list
--- has no legal order of the book.
+-- The book has no legal order of any object that is read as `reading` says, gives its last value
+-- first, and begins with the empty list.
 abbrev pub StackHasNoOrder : Reading → List Page → Type 0
 StackHasNoOrder reading book = (next : List ℕ → ℕ → List ℕ × ℕ) (bound : ℕ)
     → GivesLastFirst reading next bound

@@ -1,6 +1,7 @@
--- Levels of a stack: a level is an item as the last one of all lists that end with it, with the
--- levels that may lie right below it. And tables of pairs of a level and a cut, each of which leads
--- only to pairs of the table.
+-- Levels of a stack, and tables of pairs of a level and a cut. A level stands for all lists that
+-- end with one item, and names the levels that may lie right below this item. A table is closed
+-- where it has the pair of the empty list and the cut of no call, and each call that has to be
+-- tried at one of its pairs leads only to its pairs: then the book has no legal order.
 use Rattle.std.specs.Prelude.{◌≡◌, ◌≢◌, ℕ, ◌≤◌, ◌⊎◌, IsTrue, List, length, replicate, Option, Some, None, IfSome, slice_get}
 use Rattle.book_base.specs.declared.call.Call.{Call}
 use Rattle.book_base.specs.declared.call.Record.{Record}
@@ -13,35 +14,37 @@ use Rattle.history_rules.specs.Calls.{IsNeverTaken, TakesShowing}
 use Rattle.stack_pruning.specs.declared.top.Top.{Top}
 use Rattle.stack_pruning.specs.LastFirst.{GivesLastFirst, HasTop}
 
--- A level: the last word of the lists that it ends, whether it is known that no answered call takes
--- any of their words, and the numbers of the levels that may lie right below it, its parents. The
--- bottom has no last word, and ends the empty list.
+-- A level: `top` has the last word of the lists for which the level stands, and the flag `kept`,
+-- which says that no answered call takes a word of these lists; `parents` has the numbers of the
+-- levels that may lie right below it. The bottom is the level of the empty list: it has no last
+-- word.
 pub record Layer : Type 0 where
   pub top : Top
   pub parents : List ℕ
 
--- A level, by its number, is one of these levels.
+-- The number `l` of a level is in the list `levels`.
 abbrev pub IsOneLevel : List ℕ → ℕ → Type 0
 IsOneLevel levels l = (k : ℕ) × (slice_get levels k ≡ Some l)
 
--- A set of pairs of a level, by its number, and a cut.
+-- A set of pairs of a level's number and a cut.
 abbrev pub Nodes : Type 1
 Nodes = ℕ → List ℕ → Type 0
 
--- The set of those pairs that are in a list.
+-- The set of the pairs of a level's number and a cut that are in the list `pairs`.
 abbrev pub IsAmong : List (ℕ × List ℕ) → Nodes
 IsAmong pairs l cut = (k : ℕ) × (slice_get pairs k ≡ Some (l, cut))
 
--- A take leads from a level to the pairs: where the level has a last word, each of its parents is a
--- pair with the cut after the take; where it has no last word, the level itself is a pair with this
--- cut.
+-- A take at level `l` leads to the set `nodes` of pairs: where the level has a last word, `nodes`
+-- has each of its parents with the cut `after` the take; where the level has no last word, `nodes`
+-- has the level itself with this cut.
 abbrev pub TakeLeads : Nodes → ℕ → Option ℕ → List ℕ → List ℕ → Type 0
 TakeLeads nodes l None parents after = nodes l after
 TakeLeads nodes l (Some v) parents after = (p : ℕ) → IsOneLevel parents p → nodes p after
 
--- What a call does leads from a level to the pairs, with the cut after the call: a put leads to
--- some level of its value that has this level as a parent, a take leads as `TakeLeads` says, and an
--- operation that does neither leads to this level itself.
+-- A call's effect at level `l` leads to the set `nodes` of pairs, where `after` is the cut after
+-- the call: for a put, `nodes` has with this cut some level of the put's value that has `l` as a
+-- parent; a take leads as `TakeLeads` says; for an effect that is neither, `nodes` has level `l`
+-- itself with this cut.
 abbrev pub DeedLeads : List Layer → Nodes → ℕ → Layer → List ℕ → Effect → Type 0
 DeedLeads layers nodes l layer after (Puts v) = (m : ℕ) × (above : Layer)
     × (slice_get layers m ≡ Some above)
@@ -49,20 +52,20 @@ DeedLeads layers nodes l layer after (Puts v) = (m : ℕ) × (above : Layer)
 DeedLeads layers nodes l layer after Takes = TakeLeads nodes l layer.top.last layer.parents after
 DeedLeads layers nodes l layer after Neither = nodes l after
 
--- A call of the book leads from a level to the pairs, with the cut that has one more call of its
--- caller.
+-- A call of the book, made at a level and a cut, leads to the set `nodes` of pairs, as `DeedLeads`
+-- says of its operation. The cut after the call counts one more call of its caller.
 abbrev pub CallLeads : Reading → List Page → List Layer → Nodes → ℕ → Layer → List ℕ → Call → Type 0
 CallLeads reading book layers nodes l layer cut call = (op : ℕ) × (operation_of book call ≡ Some op)
     × DeedLeads layers nodes l layer (raised cut call.caller) (reading.deed op)
 
--- A call is an answered take, and shows something other than the last word: another value, or
--- nothing where there is a last word.
+-- A call is an answered take, and what it shows isn't `last`, the last word of a list: it shows a
+-- value that isn't `last`, or it finds nothing though the list has a last word.
 abbrev pub ShowsAnother : Reading → List Page → Option ℕ → Call → Type 0
 ShowsAnother reading book last call = (shown : Option ℕ) × TakesShowing reading book call shown
     × (shown ≢ last)
 
--- A call is unanswered and doesn't change a list with this last word: it is neither put nor take,
--- or it is a take and there is no last word.
+-- A call is unanswered and doesn't change a list whose last word is `last`: it is neither put nor
+-- take, or it is a take and the list has no last word.
 abbrev pub LeavesTop : Reading → List Page → Option ℕ → Call → Type 0
 LeavesTop reading book last call = (IsAnswered book call → ⊥)
     × ((op : ℕ) × (operation_of book call ≡ Some op)
@@ -74,15 +77,17 @@ AreAnsweredAlike book a b = (r s : Record) × (record_of book a ≡ Some r)
     × (record_of book b ≡ Some s)
     × (r.reply ≡ s.reply) × ViewsAreWithin book a b
 
--- There is a last word, call a is an answered take that shows it, and call b is unanswered.
+-- A list has a last word, call `a` is an answered take that shows this word, and call `b` is
+-- unanswered.
 abbrev pub TakesForOpen : Reading → List Page → Option ℕ → Call → Call → Type 0
 TakesForOpen reading book last a b = (v : ℕ) × (last ≡ Some v)
     × TakesShowing reading book a (Some v)
     × (IsAnswered book b → ⊥)
 
--- Call a serves for call b of another caller, with the same operation, at each list with this last
--- word: both are answered, with the same reply and a's view within b's; or a is answered and takes
--- the last word, and b is unanswered; or neither is answered.
+-- Call `a` serves for call `b` at each list whose last word is `last`: the calls are of two callers
+-- and have the same operation. Further, both are answered, with the same reply, and the view of `a`
+-- is within that of `b`; or `a` is an answered take that shows the last word, and `b` is
+-- unanswered; or neither is answered.
 pub record ServesAtLevel (reading : Reading) (book : List Page) (last : Option ℕ)
     (a b : Call) : Type 0 where
   pub apart : a.caller ≢ b.caller
@@ -90,16 +95,17 @@ pub record ServesAtLevel (reading : Reading) (book : List Page) (last : Option �
   pub sooner : AreAnsweredAlike book a b ⊎ (TakesForOpen reading book last a b
       ⊎ ((IsAnswered book a → ⊥) × (IsAnswered book b → ⊥)))
 
--- The next call of some caller may come next, serves for this call, and leads to the pairs.
+-- Some caller's next call after the cut may come next, serves for `call` at the level's last word,
+-- and leads from the level to the set `nodes` of pairs.
 abbrev pub IsServed : Reading → List Page → List Layer → Nodes → ℕ → Layer → List ℕ → Call → Type 0
 IsServed reading book layers nodes l layer cut call = (i : ℕ)
     × MayComeNext book cut (next_call cut i)
     × ServesAtLevel reading book layer.top.last (next_call cut i) call
     × CallLeads reading book layers nodes l layer cut (next_call cut i)
 
--- A call is followed at a level: it shows something other than the last word, or it is unanswered
--- and doesn't change the list, or it leads to the pairs, or some next call that serves for it leads
--- to them.
+-- A call is followed at a level and a cut: it shows something other than the level's last word, or
+-- it is unanswered and doesn't change the list, or it leads to the set `nodes` of pairs, or some
+-- next call that serves for it leads to `nodes`.
 abbrev pub IsFollowed : Reading → List Page → List Layer → Nodes → ℕ → Layer → List ℕ
     → Call → Type 0
 IsFollowed reading book layers nodes l layer cut call =
@@ -108,9 +114,9 @@ IsFollowed reading book layers nodes l layer cut call =
     ⊎ (CallLeads reading book layers nodes l layer cut call
     ⊎ IsServed reading book layers nodes l layer cut call))
 
--- A pair of a level and a cut is closed: some callers are marked whose next calls suffice at each
--- list with the top of the level, for each object that gives its last value first, and each of
--- these next calls is followed.
+-- A pair of a level and a cut is closed: the marks suffice at this cut and each list with the
+-- level's top, for each object that gives its last value first, and the next call of each marked
+-- caller is followed.
 pub record IsClosedAt (reading : Reading) (book : List Page) (layers : List Layer) (nodes : Nodes)
     (l : ℕ) (cut : List ℕ) : Type 0 where
   pub wide : length book ≤ length cut
@@ -123,8 +129,8 @@ pub record IsClosedAt (reading : Reading) (book : List Page) (layers : List Laye
   pub followed : (i : ℕ) → IsMarked marks i
       → IsFollowed reading book layers nodes l layer cut (next_call cut i)
 
--- A level may be said to be kept: no answered call takes its last word, if it has one, and each of
--- its parents is said to be kept.
+-- A level that has the flag `kept` has it rightly: no answered call takes its last word, if it has
+-- one, and each of its parents is a level with this flag.
 pub record IsKeptLayer (reading : Reading) (book : List Page) (layers : List Layer)
     (layer : Layer) : Type 0 where
   pub word : IfSome layer.top.last (IsNeverTaken reading book)
@@ -135,9 +141,9 @@ pub record IsKeptLayer (reading : Reading) (book : List Page) (layers : List Lay
 abbrev pub no_calls : List Page → List ℕ
 no_calls book = replicate (length book) 0
 
--- A table is closed: its first level is the bottom, the bottom after no call is one of its pairs,
--- each level that is said to be kept is kept, as `IsKeptLayer` says, and each of its pairs is
--- closed.
+-- A table of levels and pairs is closed: its first level has no last word, this level with the cut
+-- of no call is one of the pairs, `IsKeptLayer` holds of each level with the flag `kept`, and each
+-- of the pairs is closed.
 pub record IsClosed (reading : Reading) (book : List Page) (layers : List Layer)
     (nodes : Nodes) : Type 0 where
   pub bottom : Layer

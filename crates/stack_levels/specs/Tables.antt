@@ -1,4 +1,4 @@
--- Tables of levels, as they are in memory.
+-- What the tables of levels that the code keeps in memory stand for.
 use Rattle.std.specs.Prelude.{◌≡◌, ℕ, IsTrue, List, length, map, take, Some, None, slice_get}
 use Rattle.book_base.specs.Book.{Page}
 use Rattle.stack_levels.specs.declared.table.Level.{Level}
@@ -14,20 +14,21 @@ layer_of level = record { top = level.top; parents = level.parents.items }
 abbrev pub layers_of : List Level → List Layer
 layers_of levels = map layer_of levels
 
--- The cut of a node: as many of its counts as the book has callers.
+-- The cut of a node: its first counts, as many as the book has callers.
 abbrev pub cut_at : List Page → Node → List ℕ
 cut_at book node = take (length book) node.counts
 
--- The set of pairs for which these nodes stand: each node has the number of its level, and the
--- place of its cut's counts in a list of counts, of which the cut has as many as the book has
--- callers.
+-- The set of pairs of a level's number and a cut for which the list `nodes` of a table in memory
+-- stands. A node has the number of its level, and the place of its counts in the list `cuts`; its
+-- cut is the first of these counts, as many as the book has callers.
 abbrev pub nodes_of : List Page → List (List ℕ) → List NodeKey → Nodes
 nodes_of book cuts nodes l cut = (k : ℕ) × (key : NodeKey) × (slice_get nodes k ≡ Some key)
     × (key.level ≡ l)
     × ((counts : List ℕ) × (slice_get cuts key.cut ≡ Some counts)
     × (take (length book) counts ≡ cut))
 
--- The first level is the bottom, and the bottom after no call is one of the pairs.
+-- A table in memory begins at the bottom: its first level has no last word, and this level with the
+-- cut of no call is one of its pairs.
 pub record BeginsAtBottom (book : List Page) (levels : List Level) (cuts : List (List ℕ))
     (nodes : List NodeKey) : Type 0 where
   pub bottom : Layer
@@ -35,11 +36,11 @@ pub record BeginsAtBottom (book : List Page) (levels : List Level) (cuts : List 
   pub empty : bottom.top.last ≡ None
   pub start : nodes_of book cuts nodes 0 (no_calls book)
 
--- There is a level with this number, and it is said to be kept.
+-- The level with the number `p` exists, and has the flag `kept`.
 abbrev pub IsSaidKept : List Layer → ℕ → Type 0
 IsSaidKept layers p = (under : Layer) × (slice_get layers p ≡ Some under) × IsTrue under.top.kept
 
--- There is a level m, it has this value as its last word, and level l is one of its parents.
+-- Level `m` exists, has the value `v` as its last word, and has level `l` as one of its parents.
 abbrev pub LiesOn : List Layer → ℕ → ℕ → ℕ → Type 0
 LiesOn layers m l v = (above : Layer) × (slice_get layers m ≡ Some above)
     × (above.top.last ≡ Some v)

@@ -21,7 +21,8 @@ use next_calls::has_one_open;
 use stack_pruning::Top;
 
 /// A table of levels that is to be checked once more. Where each call that has to be tried at a
-/// node of the table leads only to its nodes, no places continue an order from any node.
+/// node of the table leads only to nodes of the table, no places continue an order from any of its
+/// nodes.
 pub struct Closure<'a, R> {
     pub on: &'a StackBook<'a, R>,
     pub table: &'a LevelTable,
@@ -35,8 +36,8 @@ impl<R> Drop for Closure<'_, R> {
 
 impl<R: Reader> Closure<'_, R> {
     /// Whether the table shows that a stack's book has no legal order: the bottom after no call is
-    /// one of its nodes, and its nodes lead to one another alone. No clause says that this is found
-    /// wherever the book has no legal order.
+    /// one of its nodes, and each call that has to be tried at a node leads only to its nodes. No
+    /// clause says that this is found wherever the book has no legal order.
     pub fn refute(&self) -> bool
         // The sight lists each call of the book that puts in a value, and each answered one that
         // takes it out.
@@ -60,7 +61,8 @@ impl<R: Reader> Closure<'_, R> {
         self.are_closed()
     }
 
-    // Whether the first level is the bottom, and the bottom after no call is one of the nodes.
+    // Whether the table's first level is the bottom, and the bottom after no call is one of its
+    // nodes.
     fn begins(&self) -> bool
         ensures { IsTrue result
             → BeginsAtBottom self.now.on.now.book.now self.now.table.now.levels.items
@@ -76,7 +78,7 @@ impl<R: Reader> Closure<'_, R> {
         }
     }
 
-    // The level with this number, if there is one.
+    // The table's level with the number `number`, if it has one.
     fn level(&self, number: usize) -> Option<&Level>
         ensures { IfSome result
             (λ level. slice_get self.now.table.now.levels.items number ≡ Some level.now) }
@@ -84,7 +86,7 @@ impl<R: Reader> Closure<'_, R> {
         self.table.levels.get(number)
     }
 
-    // Whether a level and the cut with these counts are one of the nodes.
+    // Whether the table has the node of a level and the cut with the counts `counts`.
     fn has(&self, level: usize, counts: [u16; MAX_CALLERS]) -> bool
         ensures { IsTrue result
             → nodes_of self.now.on.now.book.now self.now.table.now.cuts.keys
@@ -96,7 +98,7 @@ impl<R: Reader> Closure<'_, R> {
         }
     }
 
-    // The number of the cut with these counts, where it is one of the table's.
+    // The number of the cut with the counts `counts`, where the table has this cut.
     fn cut_of(&self, counts: [u16; MAX_CALLERS]) -> Option<usize>
         ensures { IfSome result
             (λ cut. slice_get self.now.table.now.cuts.keys cut ≡ Some counts) }
@@ -107,7 +109,8 @@ impl<R: Reader> Closure<'_, R> {
         }
     }
 
-    // Whether a level and the cut with this number, which has these counts, are one of the nodes.
+    // Whether the table has the node of a level and the cut with the number `cut`, whose counts are
+    // `counts`.
     fn has_at(&self, level: usize, cut: usize, counts: [u16; MAX_CALLERS]) -> bool
         requires cut { slice_get self.now.table.now.cuts.keys cut ≡ Some counts }
         ensures { IsTrue result
@@ -121,7 +124,7 @@ impl<R: Reader> Closure<'_, R> {
         }
     }
 
-    // Whether each level that is said to be kept is kept.
+    // Whether each level of the table that has the flag `kept` is kept.
     fn levels_are_kept(&self) -> bool
         requires sight { ListsValues (R.reading self.now.on.now.reader.now) self.now.on.now.book.now
             self.now.on.now.sight.now }
@@ -138,7 +141,8 @@ impl<R: Reader> Closure<'_, R> {
         true
     }
 
-    // Whether there is a level with this number, and it is kept or isn't said to be kept.
+    // Whether the table has a level with the number `number`, and this level is kept or lacks the
+    // flag `kept`.
     fn level_is_kept_at(&self, number: usize) -> bool
         requires sight { ListsValues (R.reading self.now.on.now.reader.now) self.now.on.now.book.now
             self.now.on.now.sight.now }
@@ -153,7 +157,7 @@ impl<R: Reader> Closure<'_, R> {
         }
     }
 
-    // Whether a level is kept, or isn't said to be kept.
+    // Whether a level is kept, or lacks the flag `kept`.
     fn level_is_kept(&self, level: &Level) -> bool
         requires sight { ListsValues (R.reading self.now.on.now.reader.now) self.now.on.now.book.now
             self.now.on.now.sight.now }
@@ -170,7 +174,8 @@ impl<R: Reader> Closure<'_, R> {
         self.are_said_kept(&level.parents)
     }
 
-    // Whether there is no last word, or no answered call takes it.
+    // Whether no answered call takes `last`, a level's last word. A level without a last word
+    // passes.
     fn is_free(&self, last: Option<u64>) -> bool
         requires sight { ListsValues (R.reading self.now.on.now.reader.now) self.now.on.now.book.now
             self.now.on.now.sight.now }
@@ -183,7 +188,7 @@ impl<R: Reader> Closure<'_, R> {
         }
     }
 
-    // Whether all of these levels are said to be kept.
+    // Whether each level with a number in `parents` exists and has the flag `kept`.
     fn are_said_kept(&self, parents: &[usize]) -> bool
         ensures { IsTrue result → (p : ℕ) → IsOneLevel parents.now p
             → IsSaidKept (layers_of self.now.table.now.levels.items) p }
@@ -196,7 +201,7 @@ impl<R: Reader> Closure<'_, R> {
         true
     }
 
-    // Whether there is a level with this number, and it is said to be kept.
+    // Whether the level with the number `level` exists and has the flag `kept`.
     fn is_said_kept(&self, level: usize) -> bool
         ensures { IsTrue result → IsSaidKept (layers_of self.now.table.now.levels.items) level }
     {
@@ -206,8 +211,8 @@ impl<R: Reader> Closure<'_, R> {
         }
     }
 
-    // Whether each node is closed: each call that has to be tried at it leads only to nodes of the
-    // table.
+    // Whether each node of the table is closed: each call that has to be tried at a node leads only
+    // to nodes of the table.
     fn are_closed(&self) -> bool
         requires sight { ListsValues (R.reading self.now.on.now.reader.now) self.now.on.now.book.now
             self.now.on.now.sight.now }
@@ -229,7 +234,7 @@ impl<R: Reader> Closure<'_, R> {
         true
     }
 
-    // Whether the node at a place is closed, or there is no node.
+    // Whether the table's node with the number `place` is closed, or the table has no such node.
     fn is_closed_at(&self, place: usize) -> bool
         requires sight { ListsValues (R.reading self.now.on.now.reader.now) self.now.on.now.book.now
             self.now.on.now.sight.now }
@@ -249,7 +254,7 @@ impl<R: Reader> Closure<'_, R> {
         }
     }
 
-    // Whether the node of a key is closed, or the table has no such cut.
+    // Whether the node with the key `key` is closed, or the table lacks the key's cut.
     fn is_closed_key(&self, key: NodeKey) -> bool
         requires sight { ListsValues (R.reading self.now.on.now.reader.now) self.now.on.now.book.now
             self.now.on.now.sight.now }
@@ -294,7 +299,7 @@ impl<R: Reader> Closure<'_, R> {
         self.callers_are_followed(node, level, &look)
     }
 
-    // Whether the next calls of all marked callers are followed, as `is_followed` says.
+    // Whether the next call of each marked caller is followed at a node, as `is_followed` says.
     fn callers_are_followed(&self, node: &Node, level: &Level, look: &NextCallers) -> bool
         requires cut { look.now.cut ≡ cut_at self.now.on.now.book.now node.now }
         requires all { MarksAllNext self.now.on.now.book.now look.now.cut look.now.all }
@@ -315,8 +320,8 @@ impl<R: Reader> Closure<'_, R> {
         true
     }
 
-    // Whether the next call of a caller is followed, as `is_followed` says, or the caller isn't
-    // marked.
+    // Whether the next call of `caller` is followed at a node, as `is_followed` says, or the caller
+    // isn't marked.
     fn caller_is_followed(
         &self,
         node: &Node,
@@ -343,9 +348,9 @@ impl<R: Reader> Closure<'_, R> {
         self.is_followed(node, level, look, Call { caller, number })
     }
 
-    // Whether a caller's next call is followed: it shows something other than the last word, or it
-    // is unanswered and doesn't change the list, or it leads to the nodes, or a next call that
-    // serves for it leads to them.
+    // Whether a caller's next call is followed at a node: it shows something other than the last
+    // word of the node's level, or it is unanswered and doesn't change the list, or it leads to
+    // nodes of the table, or a next call that serves for it leads to such nodes.
     fn is_followed(&self, node: &Node, level: &Level, look: &NextCallers, call: Call) -> bool
         requires cut { look.now.cut ≡ cut_at self.now.on.now.book.now node.now }
         requires all { MarksAllNext self.now.on.now.book.now look.now.cut look.now.all }
@@ -371,8 +376,8 @@ impl<R: Reader> Closure<'_, R> {
         self.is_served(node, level, look, call)
     }
 
-    // Whether the next call of some caller may come next, serves for this call, and leads to the
-    // nodes.
+    // Whether some caller's next call may come next, serves for `call`, and leads to nodes of the
+    // table.
     fn is_served(&self, node: &Node, level: &Level, look: &NextCallers, call: Call) -> bool
         requires cut { look.now.cut ≡ cut_at self.now.on.now.book.now node.now }
         requires all { MarksAllNext self.now.on.now.book.now look.now.cut look.now.all }
@@ -393,8 +398,8 @@ impl<R: Reader> Closure<'_, R> {
         false
     }
 
-    // Whether the next call of this caller may come next, serves for another call, and leads to the
-    // nodes.
+    // Whether the next call of `caller` may come next, serves for `call`, and leads to nodes of the
+    // table.
     fn serves(
         &self,
         node: &Node,
@@ -426,8 +431,10 @@ impl<R: Reader> Closure<'_, R> {
         self.leads(node, level, look, other)
     }
 
-    // Whether a call leads from a level to the nodes: each level that may end the list after the
-    // call is in a node with the cut after the call.
+    // Whether a call that is made at a node leads to nodes of the table with the cut after the
+    // call: a put to a level of its value that has the node's level as a parent, a take to each
+    // parent of the node's level, or at the bottom to the bottom, and any other call to the node's
+    // level itself.
     fn leads(&self, node: &Node, level: &Level, look: &NextCallers, call: Call) -> bool
         requires cut { look.now.cut ≡ cut_at self.now.on.now.book.now node.now }
         requires caller { call.caller < length self.now.on.now.book.now }
@@ -451,8 +458,8 @@ impl<R: Reader> Closure<'_, R> {
         }
     }
 
-    // Whether a put of a value, after which the cut has these counts, leads from a level to one of
-    // the nodes.
+    // Whether a put of `value` leads from a level to a node of the table, whose cut is the one with
+    // the number `cut` and the counts `counts`.
     fn put_leads(
         &self,
         place: usize,
@@ -474,8 +481,8 @@ impl<R: Reader> Closure<'_, R> {
         self.put_leads_to(place, value, cut, counts, false)
     }
 
-    // Whether a put of a value leads from a level to a node whose level is kept, or isn't, as is
-    // asked.
+    // Whether a put of `value` leads from a level to a node of the table whose cut is the one with
+    // the number `cut`, and whose level has the flag `kept` as the parameter `kept` says.
     fn put_leads_to(
         &self,
         level: usize,
@@ -501,8 +508,8 @@ impl<R: Reader> Closure<'_, R> {
         }
     }
 
-    // Whether a level has this value as its last word and another level as a parent, and is in a
-    // node with the cut of these counts.
+    // Whether the level `above` has `value` as its last word and `level` as a parent, and the table
+    // has the node of `above` and the cut with the number `cut`.
     fn leads_to(
         &self,
         above: usize,
@@ -524,7 +531,7 @@ impl<R: Reader> Closure<'_, R> {
         self.has_at(above, cut, counts)
     }
 
-    // Whether a level has this value as its last word, and another level as a parent.
+    // Whether the level `above` has `value` as its last word, and `level` as a parent.
     fn lies_on(&self, above: usize, level: usize, value: u64) -> bool
         ensures { IsTrue result
             → LiesOn (layers_of self.now.table.now.levels.items) above level value }
@@ -538,8 +545,8 @@ impl<R: Reader> Closure<'_, R> {
         is_among(&upper.parents, level)
     }
 
-    // Whether a take, after which the cut has these counts, leads from a level to the nodes: to
-    // each of its parents, and from the bottom to the bottom.
+    // Whether a take leads from a level to nodes of the table with the cut after the take: to each
+    // parent of the level, and from the bottom to the bottom.
     fn take_leads(
         &self,
         place: usize,
@@ -560,8 +567,8 @@ impl<R: Reader> Closure<'_, R> {
         }
     }
 
-    // Whether each of these levels is in a node with the cut of this number, which has these
-    // counts.
+    // Whether the table has for each level in `parents` the node of this level and the cut with the
+    // number `cut`.
     fn has_all_at(&self, parents: &[usize], cut: usize, counts: [u16; MAX_CALLERS]) -> bool
         requires cut { slice_get self.now.table.now.cuts.keys cut ≡ Some counts }
         ensures { IsTrue result → (p : ℕ) → IsOneLevel parents.now p
@@ -577,7 +584,7 @@ impl<R: Reader> Closure<'_, R> {
     }
 }
 
-// Whether the last word is this value.
+// Whether `last`, a level's last word, is `value`.
 fn is_last(last: Option<u64>, value: u64) -> bool
     ensures { IsTrue result → last ≡ Some value }
 {
@@ -587,7 +594,7 @@ fn is_last(last: Option<u64>, value: u64) -> bool
     }
 }
 
-// Whether a level is one of these levels.
+// Whether the number `level` is in the list `levels`.
 fn is_among(levels: &[usize], level: usize) -> bool
     ensures { IsTrue result → IsOneLevel levels.now level }
 {

@@ -18,18 +18,19 @@ use queue_pairs::{Table, places_of};
 use std::alloc::Global;
 use value_pruning::sight_of_values;
 
-/// Decides a stack's book by its levels: by a search of pairs of a level and a cut, as of a
-/// pushdown system (Bouajjani, Esparza and Maler 1997), so that no list is kept.
+/// Decides a stack's book by a search of pairs of a level and a cut, as pushdown systems are
+/// searched (Bouajjani, Esparza and Maler 1997). The search keeps no lists of the stack.
 ///
 /// Counts of puts and takes are compared first: where they contradict one another, the book has no
 /// legal order, and there is no search.
 ///
-/// Levels serve where values are put in more than once, so that many lists end alike: where all
-/// values differ, nothing is said, and a search of orders has few lists at each cut.
+/// Levels are worth their cost where values are put in more than once, so that many lists end
+/// alike. Where all values differ, no decision is made: a search of orders then has few lists at
+/// each cut.
 ///
-/// The search isn't trusted: the order that it finds is judged, and one that isn't legal isn't
-/// delivered; and the pairs that it found are looked at once more. No clause says for which books a
-/// decision is made: where none is made, only time is lost.
+/// The search isn't trusted: an order that it finds is judged, and isn't delivered where it isn't
+/// legal; and a table of pairs from which it finds no order is checked once more. No clause says
+/// for which books a decision is made: where none is made, only time is lost.
 pub fn decide_stack<S: SeqObject + Reader>(
     alloc: Global,
     stack: &S,
@@ -44,8 +45,8 @@ pub fn decide_stack<S: SeqObject + Reader>(
     requires container { IsContainer (S.reading stack.now) (S.spec stack.now).next }
     // The first list of the object holds no value.
     requires nothing { (S.reading stack.now).values (S.spec stack.now).init ≡ [] }
-    // An order that is answered is legal, and where it is answered that the book has no legal
-    // order, it has none.
+    // `Order` is answered with a legal order of the book, and `NoOrder` only where the book has
+    // none.
     ensures { IfOk result (IsRightDecision (S.spec stack.now) book.now) }
 {
     if !has_one_open(book) {
@@ -97,8 +98,8 @@ fn has_equal_puts(sight: &Sight) -> bool {
     false
 }
 
-// The decision with the order of the calls that lead to a node, where this order is legal; else
-// nothing is said.
+// The decision with the calls that lead from the start to a node, in order, where this order is
+// legal; else `Unsaid`.
 fn order_of<S: SeqObject + Reader>(
     alloc: Global,
     stack: &S,

@@ -2,8 +2,8 @@
 
 ghost use Rattle.stack_levels.specs.LevelLaws.{ClosedTablesHaveNoOrder};
 
-/// A stack's valid book, each of whose views holds at most one unanswered call of each caller, has
-/// no legal order from the empty list where a table of levels is closed for it.
+/// A valid book has no legal order of a stack that begins empty, where each view of the book holds
+/// at most one unanswered call of each caller, and a table of levels is closed for the book.
 pub fn closed_tables_have_no_order()
     ensures { ClosedTablesHaveNoOrder }
 {}

@@ -1,6 +1,7 @@
-//! Stacks decided by levels, without a search of orders: an order that is found is judged; and the
-//! book has no legal order where each call that has to be tried at a pair of a level and a cut, of
-//! the start and of all pairs that follow, leads to one of these pairs.
+//! Decides the books of stacks by levels, without a search of orders. The search is for pairs of a
+//! level and a cut; an order that it finds is judged before it is delivered. A book has no legal
+//! order where each call that has to be tried, at the pair of the start and at all pairs that
+//! follow from it, leads to one of these pairs.
 #![tactic(auto)]
 
 pub mod cases;

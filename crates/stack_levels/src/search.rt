@@ -21,9 +21,9 @@ pub const LINKS: u64 = 30_000_000;
 /// The result of a search.
 #[derive(Drop)]
 pub enum LevelsFound {
-    /// A node whose cut holds all answered calls, by its number.
+    /// The table, and the number of a node whose cut holds all answered calls.
     Whole(LevelTable, usize),
-    /// All nodes were looked at, and the cut of none holds all answered calls.
+    /// The table, where all of its nodes were looked at and no node's cut holds all answered calls.
     DeadEnds(LevelTable),
     /// The search was given up at one of its bounds.
     Unsaid,
@@ -41,8 +41,9 @@ impl<R> Drop for LevelSearch<'_, R> {
     }
 }
 
-/// The levels that were found, the numbers of the nodes that are still to be looked at, how often
-/// something led to a node, and what is to be tried at the cuts and tops that were looked at.
+/// How far a search has come: the table of what was found; the numbers of the nodes that are still
+/// to be looked at; how often a call led to a node; and the cuts and tops that were looked at, with
+/// the calls that are to be tried at each.
 #[derive(Drop)]
 struct SearchState {
     table: LevelTable,
@@ -52,7 +53,7 @@ struct SearchState {
     steps: Vec<Vec<LevelStep>>,
 }
 
-/// A node, its number, and what is known of the lists that its level ends.
+/// A node: its number, its key, and what is known of the lists that end with its level's item.
 #[derive(Clone, Copy)]
 struct Here {
     place: usize,
@@ -68,7 +69,7 @@ pub struct Turn {
     pub call: Call,
 }
 
-/// A call that is to be tried, and the number of the cut that it leads to.
+/// A call that is to be tried at some cut, and the number of the cut after it.
 #[derive(Clone, Copy)]
 pub struct LevelStep {
     pub call: Call,
@@ -103,8 +104,8 @@ impl<R: Reader> LevelSearch<'_, R> {
         Ok(LevelsFound::Unsaid)
     }
 
-    // Follows each call that is to be tried from a node. Answers whether no call is, since the cut
-    // holds all answered calls.
+    // Follows each call that is to be tried at a node. Answers `true` where there is no call to be
+    // tried, since the node's cut holds all answered calls.
     fn look_at(&self, progress: &mut SearchState, place: usize) -> Result<bool, NoMemory>
         requires sight { ListsValues (R.reading self.now.on.now.reader.now) self.now.on.now.book.now
             self.now.on.now.sight.now }
@@ -131,7 +132,7 @@ impl<R: Reader> LevelSearch<'_, R> {
     }
 
     // The number of the list of calls that are to be tried at a cut and a top; each such list is
-    // made once. There is none where the cut holds all answered calls.
+    // made once. Answers `None` where the cut holds all answered calls.
     fn steps_at(&self, progress: &mut SearchState, at: Beginning) -> Result<Option<usize>, NoMemory>
         requires sight { ListsValues (R.reading self.now.on.now.reader.now) self.now.on.now.book.now
             self.now.on.now.sight.now }
@@ -158,7 +159,7 @@ impl<R: Reader> LevelSearch<'_, R> {
         Ok(Some(looked))
     }
 
-    /// The calls that are to be tried, the one of the least turn last.
+    /// The calls that are to be tried at a list with the top `top`, the one of the least turn last.
     pub fn turns(&self, look: &NextCallers, top: Top) -> Result<Vec<Turn>, NoMemory>
         // The cut has a count for each caller of the book.
         requires wide { length look.now.cut ≡ length self.now.on.now.book.now }
@@ -181,9 +182,10 @@ impl<R: Reader> LevelSearch<'_, R> {
         Ok(turns)
     }
 
-    /// Adds a call to those that are to be tried, unless it shows something other than the last
-    /// word, is unanswered and doesn't change the list, or one of them serves for it. Where it
-    /// serves for one of them, it replaces that one.
+    /// Adds `call` to `turns`, the calls that are to be tried at a list with the top `top`. It
+    /// isn't added where it shows something other than the list's last word, where it is unanswered
+    /// and doesn't change the list, or where one of `turns` serves for it. Where it serves for one
+    /// of `turns`, it takes that one's place.
     pub fn consider(&self, turns: &mut Vec<Turn>, top: Top, call: Call) -> Result<(), NoMemory> {
         if !self.is_call(call) {
             return Ok(());
@@ -268,8 +270,8 @@ impl<R: Reader> LevelSearch<'_, R> {
         }
     }
 
-    // Follows a put, which leads to the level that it shares with all puts of its value that lead
-    // to the same cut, with the same answer to whether the list is kept.
+    // Follows a put of `value` from a node to the level that it begins. Puts of one value that lead
+    // to one cut share a level, where their lists are alike in being kept or not.
     fn begin(
         &self,
         progress: &mut SearchState,
@@ -301,7 +303,7 @@ impl<R: Reader> LevelSearch<'_, R> {
     }
 }
 
-// The step with this number of those at a cut and a top.
+// The step with the number `k` in the list of steps with the number `looked`.
 fn step_of(progress: &SearchState, looked: usize, k: usize) -> Option<LevelStep> {
     progress.steps.get(looked)?.get(k).copied()
 }
@@ -317,8 +319,8 @@ pub fn more(counts: &[u16; MAX_CALLERS], caller: u32) -> [u16; MAX_CALLERS] {
     }
 }
 
-// Adds a level to those that may lie right below another one, with a put that leads from it: each
-// take that ended the upper level leads to the lower one too.
+// Adds the level `below` to the parents of `level`, with a put that leads from the lower one to the
+// upper one. Each known take of the upper level's item leads to the lower level too.
 fn lay_on(
     progress: &mut SearchState,
     level: usize,
@@ -343,12 +345,13 @@ fn lay_on(
     Ok(())
 }
 
-// The number of the cut that the take with this number of those that ended a level leads to.
+// The number of the cut after the take with the number `k` among a level's endings.
 fn ended_at(progress: &SearchState, level: usize, k: usize) -> Option<usize> {
     Some(progress.table.levels.get(level)?.endings.get(k)?.cut)
 }
 
-// Adds a take to those that ended a level: it leads to each of the levels that may lie right below.
+// Adds a take of a level's item to the level's endings, where none of them leads to the same cut:
+// the take leads to each parent of the level.
 fn end(progress: &mut SearchState, level: usize, ending: LevelEnd) -> Result<(), NoMemory> {
     let node = NodeKey {
         level,
@@ -374,12 +377,12 @@ fn end(progress: &mut SearchState, level: usize, ending: LevelEnd) -> Result<(),
     Ok(())
 }
 
-// The level with this number among the parents of a level.
+// The parent with the number `k` of a level.
 fn parent_of(progress: &SearchState, level: usize, k: usize) -> Option<usize> {
     progress.table.levels.get(level)?.parents.get(k).copied()
 }
 
-// Counts that something leads to a node; a new node is still to be looked at.
+// Counts one more way to a node, and notes a new node as one that is still to be looked at.
 fn reach(progress: &mut SearchState, node: NodeKey, by: FirstReached) -> Result<(), NoMemory> {
     progress.links = progress.links.saturating_add(1);
     let (place, is_new) = progress.table.nodes.insert_full(node)?;

@@ -39,8 +39,9 @@ pub struct NextCallers {
 }
 
 impl<R: Reader> StackBook<'_, R> {
-    /// What may come next after the calls of a cut, at a list with this top. No answer is given
-    /// where the cut holds all answered calls.
+    /// The callers whose next calls may come next after a cut, and those of them whose next calls
+    /// have to be tried at a list with the top `top`. Answers `None` where the cut holds all
+    /// answered calls.
     pub fn look(&self, counts: &[u16], top: Top) -> Option<NextCallers>
         // The sight lists each call of the book that puts in a value, and each answered one that
         // takes it out.
@@ -50,14 +51,14 @@ impl<R: Reader> StackBook<'_, R> {
         requires open { HasOneOpen self.now.book.now }
         // The cut has a count for each caller of the book.
         requires wide { length counts.now ≡ length self.now.book.now }
-        // The answer has the cut with these counts.
+        // The answer has the cut with the counts `counts`.
         ensures cut { IfSome result (λ look. look.cut ≡ counts.now) }
         // Exactly those callers are marked in `all` whose next calls may come next after the cut.
         ensures all { IfSome result (λ look. MarksAllNext self.now.book.now look.cut look.all) }
         // Each caller whose next call has to be tried is one whose next call may come next.
         ensures fewer { IfSome result (λ look. IsMarkedWithin look.marks look.all) }
-        // For each object that gives its last value first, and each list with this top, the callers
-        // suffice whose next calls have to be tried.
+        // The marks in `marks` suffice for each object that gives its last value first, at each
+        // list with the top `top`.
         ensures suffice { IfSome result
             (λ look. (next : List ℕ → ℕ → List ℕ × ℕ) (bound : ℕ) (list : List ℕ)
             → GivesLastFirst (R.reading self.now.reader.now) next bound
@@ -73,7 +74,8 @@ impl<R: Reader> StackBook<'_, R> {
         Some(NextCallers { cut, all, marks })
     }
 
-    /// Whether a call is an answered take that shows something other than the last word.
+    /// Whether a call is an answered take that shows something other than `last`, the last word of
+    /// a list.
     pub fn shows_another(&self, last: Option<u64>, call: Call) -> bool
         // The call is one of the book's.
         requires caller { call.caller < length self.now.book.now }
@@ -90,7 +92,7 @@ impl<R: Reader> StackBook<'_, R> {
         }
     }
 
-    /// Whether a call is unanswered and doesn't change a list with this last word.
+    /// Whether a call is unanswered and doesn't change a list whose last word is `last`.
     pub fn leaves_top(&self, last: Option<u64>, call: Call) -> bool
         // The call is one of the book's.
         requires caller { call.caller < length self.now.book.now }
@@ -108,7 +110,8 @@ impl<R: Reader> StackBook<'_, R> {
         }
     }
 
-    /// Whether a call serves for another caller's call at each list with this last word.
+    /// Whether call `one` serves for call `other`, which is another caller's, at each list whose
+    /// last word is `last`.
     pub fn serves(&self, last: Option<u64>, one: Call, other: Call) -> bool
         // Both calls are calls of the book.
         requires one_caller { one.caller < length self.now.book.now }
@@ -133,7 +136,7 @@ impl<R: Reader> StackBook<'_, R> {
         self.are_alike(one, other)
     }
 
-    /// Whether some answered call takes this value.
+    /// Whether some answered call takes `value`.
     pub fn is_taken(&self, value: u64) -> bool
         // The sight lists each call of the book that puts in a value, and each answered one that
         // takes it out.
@@ -147,7 +150,7 @@ impl<R: Reader> StackBook<'_, R> {
         is_read(self.reader, self.sight, self.book, &none, value)
     }
 
-    // Whether a call is an answered take that shows the last word.
+    // Whether a call is an answered take that shows `last`, the last word of a list.
     fn takes_last(&self, last: Option<u64>, call: Call) -> bool
         ensures { IsTrue result → (v : ℕ) × (last ≡ Some v)
             × TakesOut (R.reading self.now.reader.now) self.now.book.now call v }
@@ -158,7 +161,7 @@ impl<R: Reader> StackBook<'_, R> {
         }
     }
 
-    // Whether a call is an answered take that shows this value.
+    // Whether a call is an answered take that shows `value`.
     fn takes(&self, value: u64, call: Call) -> bool
         ensures { IsTrue result
             → TakesOut (R.reading self.now.reader.now) self.now.book.now call value }
@@ -182,7 +185,7 @@ impl<R: Reader> StackBook<'_, R> {
     }
 }
 
-// Whether there is no last word.
+// Whether a list has no last word: `last` is `None`.
 fn is_none(last: Option<u64>) -> bool
     ensures { IsTrue result → last ≡ None }
 {
@@ -192,8 +195,8 @@ fn is_none(last: Option<u64>) -> bool
     }
 }
 
-// Whether a take shows something other than the last word: another value, or nothing where there is
-// a last word.
+// Whether a take shows something other than `last`, the last word of a list: another value, or
+// nothing where the list has a last word.
 fn is_another(shown: Option<u64>, last: Option<u64>) -> bool
     ensures { IsTrue result → shown ≢ last }
 {

@@ -13,31 +13,32 @@ pub struct Node {
     pub counts: [u16; MAX_CALLERS],
 }
 
-/// A node as a table lists it: the number of its level, and that of its cut among the table's cuts.
+/// A node as a table lists it: the number of its level, and the number of its cut among the table's
+/// cuts.
 #[derive(Clone, Copy, Debug, PartialEq, Eq, Hash)]
 pub struct NodeKey {
     pub level: usize,
     pub cut: usize,
 }
 
-/// A cut, by its number, and what is known of a list after it. A level begins with one: all puts of
-/// one value that lead to one cut, with one answer to whether the list is kept, begin the same
-/// level.
+/// The number of a cut, and what is known of the lists after it: their last word, and whether they
+/// are kept. Each level begins with one such pair, which all puts share that have the same value,
+/// lead to the same cut, and leave lists that are alike in being kept or not.
 #[derive(Clone, Copy, Debug, PartialEq, Eq, Hash)]
 pub struct Beginning {
     pub cut: usize,
     pub top: Top,
 }
 
-/// A put that began a level, and the number of the node from which it leads there.
+/// A put that begins a level, and the number of the node at which the put is made.
 #[derive(Clone, Copy)]
 pub struct Origin {
     pub node: usize,
     pub put: Call,
 }
 
-/// A take that ended a level, the number of the node from which it leads away, and the number of
-/// the cut that it leads to.
+/// A take that takes out a level's item: the number of the node at which the take is made, the
+/// call, and the number of the cut after it.
 #[derive(Clone, Copy)]
 pub struct LevelEnd {
     pub node: usize,
@@ -45,9 +46,10 @@ pub struct LevelEnd {
     pub cut: usize,
 }
 
-/// A level: what is known of the lists that it ends, the levels that may lie right below it with a
-/// put that leads from each, and the takes that end it. The bottom has no last word, and no levels
-/// below it.
+/// A level: what is known of the lists that end with its item; the numbers of the levels that may
+/// lie right below it, its parents; for each parent a put that leads from it, in `origins`; and the
+/// takes that take its item out, in `endings`. The bottom, the level of the empty list, has no last
+/// word and no parents.
 #[derive(Drop)]
 pub struct Level {
     pub top: Top,
@@ -63,15 +65,16 @@ pub enum FirstReached {
     Begins,
     /// By a call that doesn't change the list, from another node of the level, by its number.
     Stays(usize, Call),
-    /// From a node of the level by a put, and from a node of the level that this put began by a
-    /// take: the number of the level that the put began, the number of the put among the origins
-    /// of that level, and the number of the take among its endings.
+    /// By a put at a node of the level, and a later take that takes out the item of this put. The
+    /// numbers are that of the level that the put begins, that of the put among this level's
+    /// origins, and that of the take among its endings.
     Returns(usize, usize, usize),
 }
 
-/// The levels of a search, the cuts that it reached, by their counts, its nodes, and with each
-/// level the cuts to which takes that ended it lead. The bottom is the first level; a level has the
-/// number of its beginning, and a node that of the way in which it was reached.
+/// What a search has found: its levels, of which the first is the bottom; its cuts, by their
+/// counts; of each level, at the same place, its beginning; its nodes; of each node, at the same
+/// place, how it was reached first; and in `ended` pairs of a level and the cut after a take that
+/// takes the level's item out.
 #[derive(Drop)]
 pub struct LevelTable {
     pub levels: Vec<Level>,
@@ -92,7 +95,7 @@ impl NodeKey {
 }
 
 impl Level {
-    /// A level with this top, which no put has begun and no take has ended yet.
+    /// A level with the top `top`, without parents, origins or endings.
     pub fn new(alloc: Global, top: Top) -> Level {
         Level {
             top,
@@ -127,11 +130,11 @@ impl LevelTable {
     }
 }
 
-/// The counts with one more call of a caller.
+/// `counts` with one more call of `caller`.
 pub fn raised(counts: &[u16; MAX_CALLERS], caller: u32) -> [u16; MAX_CALLERS]
-    // There is a count for the caller.
+    // `counts` has a count for `caller`.
     requires caller { caller < MAX_CALLERS }
-    // It is less than the number of calls that a caller may have.
+    // The count of `caller` is less than the number of calls that a caller may have.
     requires few { slice_index counts.now caller < MAX_CALLS }
     ensures { result ≡ slice_set counts.now caller (slice_index counts.now caller + 1) }
 {

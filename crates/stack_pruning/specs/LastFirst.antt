@@ -44,8 +44,8 @@ pub record GivesLastFirst (reading : Reading) (next : List ℕ → ℕ → List 
   pub one_take : (a b : ℕ) → reading.deed a ≡ Takes → reading.deed b ≡ Takes → a ≡ b
   pub one_reply : (a b v : ℕ) → reading.shown a ≡ Some v → reading.shown b ≡ Some v → a ≡ b
 
--- Each call outside a cut that puts in this value may come next after the cut, or the take precedes
--- it.
+-- Each call outside a cut that puts in the value `v` may come next after the cut, or is preceded by
+-- the call `take`.
 abbrev pub PutsAreNextOrLater : Reading → List Page → List ℕ → ℕ → Call → Type 0
 PutsAreNextOrLater reading book cut v take = (put : Call) → WritesOutside reading book cut v put
     → MayComeNext book cut put ⊎ Precedes book take put
@@ -94,8 +94,8 @@ pub record PutsKept (reading : Reading) (book : List Page) (cut list : List ℕ)
   pub below : AllByRecursion (IsKept reading book cut) list
   pub never_empty : IsNeverEmpty reading book cut
 
--- The next call of a caller puts in a value that isn't the one that some take shows, or that is the
--- last item of the list already.
+-- The next call of a caller puts in a value other than `shown`, what some take shows, or one that
+-- is the last item of the list already.
 abbrev pub PutsNeedless : Reading → List Page → List ℕ → List ℕ → Option ℕ → ℕ → Type 0
 PutsNeedless reading book cut list shown caller = (value : ℕ)
     × PutsIn reading book (next_call cut caller) value
@@ -108,9 +108,9 @@ pub record IsItem (reading : Reading) (book : List Page) (cut : List ℕ) (bound
   pub puts : PutsIn reading book put v
   pub inside : Holds cut put
 
--- A list after a cut has this top: it ends with the last word, if the top has one; each item is
--- below a bound and put in by some call of the cut; and where the top says that they are kept, no
--- answered call outside the cut takes any of the items.
+-- A list after a cut has a top: it ends with the top's last word, where there is one; each item is
+-- below a bound and put in by some call of the cut; and where the top says that the items are kept,
+-- no answered call outside the cut takes any of them.
 pub record HasTop (reading : Reading) (book : List Page) (cut : List ℕ) (bound : ℕ) (top : Top)
     (list : List ℕ) : Type 0 where
   pub last : IfSome top.last (EndsWith list)

@@ -39,7 +39,7 @@ pub fn puts_are_next_or_later<R: Reader>(
     true
 }
 
-// Whether some call of a caller, outside the cut and with a number below this one, puts in a value,
+// Whether some call of a caller, outside the cut and with a number below `below`, puts in a value,
 // and isn't a marked caller's next call.
 fn puts_below<R: Reader>(
     reader: &R,

@@ -36,8 +36,8 @@ pub fn forced_take<R: Reader>(
     }
 }
 
-/// The marks without those on callers whose next calls put in a value that the forced take doesn't
-/// show, or that is the last word already.
+/// The marks without those on callers whose next calls put in a value other than `shown`, what the
+/// forced take shows, or one that is the last of `words` already.
 pub fn without_needless<R: Reader>(
     reader: &R,
     book: &Book,
@@ -61,8 +61,8 @@ pub fn without_needless<R: Reader>(
     left
 }
 
-// Whether a caller's next call puts in a value that the forced take doesn't show, or that is the
-// last word already.
+// Whether a caller's next call puts in a value other than `shown`, what the forced take shows, or
+// one that is the last of `words` already.
 fn puts_needless<R: Reader>(
     reader: &R,
     book: &Book,
@@ -87,7 +87,7 @@ fn puts_needless<R: Reader>(
     }
 }
 
-// Whether what a take shows isn't this value.
+// Whether a take shows another value than this one, or shows that nothing was there.
 fn shows_another(shown: Option<u64>, value: u64) -> bool
     ensures { IsTrue result → shown ≢ Some value }
 {
@@ -97,7 +97,7 @@ fn shows_another(shown: Option<u64>, value: u64) -> bool
     }
 }
 
-// Whether a value is the last of these words.
+// Whether a value is the last of `words`.
 fn ends_with(words: &[u64], value: u64) -> bool
     ensures { IsTrue result → EndsWith words.now value }
 {

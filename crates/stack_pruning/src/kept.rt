@@ -12,8 +12,8 @@ use container_pruning::{Reader, Role};
 use value_pruning::{is_read, value_put};
 
 /// A marked caller whose next call is answered and puts in a value that no answered call outside
-/// the cut takes, where no answered call outside the cut takes any of the words, or finds nothing.
-/// No clause says that such a caller is found: where none is, only time is lost.
+/// the cut takes, where no answered call outside the cut takes any of `words`, and none finds
+/// nothing. No clause says that such a caller is found: where none is, only time is lost.
 pub fn kept_put<R: Reader>(
     reader: &R,
     sight: &Sight,
@@ -91,7 +91,7 @@ fn puts_kept<R: Reader>(reader: &R, sight: &Sight, book: &Book, cut: &Cut, call:
     }
 }
 
-// Whether no answered call outside a cut takes any of these words.
+// Whether no answered call outside a cut takes any of `words`.
 fn are_kept<R: Reader>(reader: &R, sight: &Sight, book: &Book, cut: &Cut, words: &[u64]) -> bool
     requires sight { ListsValues (R.reading reader.now) book.now sight.now }
     requires wide { length cut.now ≡ length book.now }

@@ -14,15 +14,22 @@ use book_base::{Book, Call, Cut, MarkedCallers, Sight};
 use container_pruning::Reader;
 use value_pruning::{is_put_once, next_least_take, value_put};
 
-/// Which callers' next calls a search has to try at a list of a stack. It is one caller alone where
-/// some marked caller's next call is one of these, looked for in this order: a take of the last
-/// item, with the least view of all answered calls outside the cut that take this value, if each
-/// call outside the cut that puts the value in may come next or comes after the take; the only put
-/// of a value that isn't in the list, if a take of the value with that least view may come next
-/// too; an answered put of a value that no answered call outside the cut takes, if none of these
-/// calls takes an item of the list or finds nothing. Otherwise it is all marked callers, but where
-/// the forced call is a take, those are left out whose next calls put in the last item or a value
-/// that this take doesn't show.
+/// The callers whose next calls a search has to try at a list of a stack: some of the marked
+/// callers, and these marks suffice.
+///
+/// It is one caller alone where some marked caller's next call is one of three, looked for in this
+/// order:
+///
+/// - a take of the last item, with the least view of all answered calls outside the cut that take
+///   this value, if each call outside the cut that puts the value in may come next or is preceded
+///   by the take;
+/// - the only put of a value that isn't in the list, if the take of this value with the least view
+///   may come next too;
+/// - an answered put of a value that no answered call outside the cut takes, if no answered call
+///   outside the cut takes an item of the list or finds nothing.
+///
+/// Otherwise it is all marked callers. Where the forced call is a take, those are left out whose
+/// next calls put in the last item, or a value that this take doesn't show.
 pub fn narrow_last_first<R: Reader>(
     reader: &R,
     sight: &Sight,
@@ -56,9 +63,10 @@ pub fn narrow_last_first<R: Reader>(
     narrow_by(reader, sight, book, cut, words, words, true, forced, marks)
 }
 
-/// Which callers' next calls a search has to try at each list of a stack with this top, as
-/// `narrow_last_first` says it for one list. A value that is put in once, by a call that may come
-/// next, is in no such list.
+/// The callers whose next calls a search has to try at each list of a stack that has this top. They
+/// are chosen as [`narrow_last_first`] chooses them at one list. A value that is put in once, by a
+/// call that may come next, is in no list with the top, since each item is put in by a call of the
+/// cut.
 pub fn narrow_by_top<R: Reader>(
     reader: &R,
     sight: &Sight,
@@ -105,10 +113,10 @@ pub fn narrow_by_top<R: Reader>(
     }
 }
 
-// Which callers' next calls a search has to try at each list for which two lists of words stand, as
-// `StandFor` says: the list ends with the last word of `ends`, and lacks what is put in by one call
-// and isn't among `others`. Whether all of `others` are kept is looked at only where `look` is
-// true.
+// The callers whose next calls a search has to try at each list for which two lists of words stand,
+// as `StandFor` says: the list ends with the last word of `ends`, and lacks each value that isn't
+// among `others` and that a caller's next call, and no other call, puts in. Whether all of `others`
+// are kept is looked at only where `look` is true.
 fn narrow_by<R: Reader>(
     reader: &R,
     sight: &Sight,
@@ -148,8 +156,8 @@ fn narrow_by<R: Reader>(
     }
 }
 
-// If `look` is true, a marked caller whose next call is answered and puts in a kept value, where
-// all of `others` are kept too and no answered call outside the cut finds nothing.
+// A marked caller whose next call is answered and puts in a kept value, where all of `others` are
+// kept too and no answered call outside the cut finds nothing. It is `None` where `look` is false.
 fn put_if_kept<R: Reader>(
     reader: &R,
     sight: &Sight,
@@ -174,9 +182,9 @@ fn put_if_kept<R: Reader>(
     }
 }
 
-// A marked caller whose next call takes the last word, with the least view of all answered calls
-// outside the cut that take it, where each call outside the cut that puts this value in may come
-// next, or comes after the take.
+// A marked caller whose next call takes the last of `words`, with the least view of all answered
+// calls outside the cut that take this value, where each call outside the cut that puts the value
+// in may come next, or is preceded by the take.
 fn last_take<R: Reader>(
     reader: &R,
     book: &Book,
@@ -198,8 +206,8 @@ fn last_take<R: Reader>(
     Some(caller)
 }
 
-// A marked caller whose next call is the only one that puts in some value, which isn't among the
-// words, where the take of this value with the least view may come next.
+// A marked caller whose next call is the only one that puts in some value, which isn't among
+// `words`, where the take of this value with the least view may come next.
 fn paired_put<R: Reader>(
     reader: &R,
     sight: &Sight,
@@ -224,7 +232,7 @@ fn paired_put<R: Reader>(
 }
 
 // Whether a marked caller's next call is the only one that puts in some value, which isn't among
-// the words, and the take of this value with the least view may come next.
+// `words`, and the take of this value with the least view may come next.
 fn puts_paired<R: Reader>(
     reader: &R,
     sight: &Sight,

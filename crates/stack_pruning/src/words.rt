@@ -1,7 +1,7 @@
 ghost use Rattle.std.specs.Prelude.{◌≡◌, false, IfSome};
 ghost use Rattle.stack_pruning.specs.LastFirst.{EndsWith, Lacks};
 
-/// Whether a value is among these words.
+/// Whether a value is among `words`.
 pub fn holds(words: &[u64], value: u64) -> bool
     ensures { result ≡ false → Lacks words.now value }
 {
@@ -13,7 +13,7 @@ pub fn holds(words: &[u64], value: u64) -> bool
     false
 }
 
-/// The last of these words, where there is one.
+/// The last of `words`, where there is one.
 #[tactic(auto, using(crate::proofs::Stepping::ends_with_before))]
 pub fn last_word(words: &[u64]) -> Option<u64>
     ensures { IfSome result (EndsWith words.now) }

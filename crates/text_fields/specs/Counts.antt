@@ -5,11 +5,11 @@ use Rattle.text_fields.specs.Lines.{cut_at}
 use Rattle.text_fields.specs.declared.version.Version.{Version}
 use Rattle.text_fields.specs.declared.version.Version.TheVariants.{First, Second}
 
--- each of the counts is at most the first number
+-- each of the counts is at most `most`
 abbrev pub AreAtMost : ℕ → List ℕ → Type 0
 AreAtMost most counts = AllByRecursion (λ n. n ≤ most) counts
 
--- each of these numbers can be written in a text
+-- each of the numbers is below 2^64, as numbers in texts are
 abbrev pub AreNumbers : List ℕ → Type 0
 AreNumbers counts = AllByRecursion (λ n. n < 2 ^ 64) counts
 
@@ -32,7 +32,7 @@ cut_words Second cut = pair_words 0 cut
 abbrev pub has_colon : List ℕ → Bool
 has_colon word = is_some (cut_at 58 word)
 
--- a word with a colon is cut at its first one into these two parts
+-- in the word made of `prefix`, a colon and `suffix`, this colon is the first one
 abbrev pub AreParts : List ℕ → List ℕ → Type 0
 AreParts prefix suffix = cut_at 58 (prefix ++ 58 ∷ suffix) ≡ Some (prefix, suffix)
 
@@ -47,8 +47,8 @@ pub record IsPair (n : ℕ) (word : List ℕ) (j count : ℕ) : Type 0 where
 abbrev pub IsNoPair : ℕ → List ℕ → Type 0
 IsNoPair n word = (j count : ℕ) → IsPair n word j count → ⊥
 
--- Of the words with a colon that these words begin with, one is no pair, or its caller is below the
--- least one allowed or not above that of the pair before it.
+-- Of the words up to the first one without a colon, one is no pair J:C with J below `n` and C above
+-- 0, or its J is below `least`, or its J isn't above that of the pair before it.
 abbrev pub HasBadPair : ℕ → ℕ → List (List ℕ) → Type 0
 HasBadPair n least [] = ⊥
 HasBadPair n least (word ∷ words) = IsTrue (has_colon word)

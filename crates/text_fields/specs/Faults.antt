@@ -25,7 +25,7 @@ pub record Rules (Due : Type 0) : Type 1 where
   -- what is due next in a state
   pub wanted : Due → Wanted
 
--- the turn of a test: the tests of one line are tried in this order
+-- the turn of a test: of the tests of one line those with lower turns are tried first
 abbrev pub turn_of : What → ℕ
 turn_of Long = 0
 turn_of Cut = 1
@@ -50,7 +50,7 @@ turn_of Turns = 19
 turn_of End = 20
 turn_of Rest = 21
 
--- A line fails this test, and none with an earlier turn.
+-- This test is the first one that a line fails: the line fails it, and no test with a lower turn.
 pub record IsFirstTest (Fails : What → Type 0) (what : What) : Type 0 where
   pub fails : Fails what
   pub first : (other : What) → turn_of other < turn_of what → Fails other → ⊥
@@ -63,8 +63,9 @@ pub record IsWrongLine {Due : Type 0} (rules : Rules Due) (due : Due) (bytes : L
   pub whole : cut_at 10 bytes ≡ Some (line, rest)
   pub test : IsFirstTest (rules.Fails due (words_of line)) what
 
--- The bytes are wrong by this test: where a line is due, the next line isn't whole, or this is the
--- first test that the line fails; where the end is due, bytes follow it.
+-- The first test that the bytes fail. Where a line is due, it is `Cut` if no line feed is left, or
+-- the first test that the next line fails; where the end is due, it is `Rest` if bytes are left;
+-- where nothing is due, bytes fail no test.
 abbrev pub IsWrong : {Due : Type 0} → Rules Due → Due → Wanted → List ℕ → What → Type 0
 IsWrong rules due ALine bytes what = ((what ≡ Cut) × (cut_at 10 bytes ≡ None))
     ⊎ IsWrongLine rules due bytes what
@@ -88,7 +89,7 @@ pub record GoesTo {Due : Type 0} (rules : Rules Due) (due : Due) (text : Unread)
   pub number : left.number ≡ text.number + length lines
 
 -- The first fault of a text that is read from a state on: all lines before the fault's line are
--- right, and what is wrong there is the first test that fails.
+-- right, and the fault names the first test that is failed at its line.
 pub record IsFirstFault {Due : Type 0} (rules : Rules Due) (due : Due) (text : Unread)
     (fault : TextFault) : Type 0 where
   pub reached : Due
@@ -107,8 +108,8 @@ abbrev pub StopsFor : {Due : Type 0} → Rules Due → Due → Unread → ReadFa
 StopsFor rules due text NoMemory = Unit {0}
 StopsFor rules due text (Text fault) = IsFirstFault rules due text fault
 
--- Nothing is left for these rules to read: where the end is due, the bytes have ended; where
--- nothing is due, other rules read on.
+-- Rules have nothing left to read: where the end is due, no byte is left; where nothing is due,
+-- other rules read on, whatever is left; where a line is due, something is always left to read.
 abbrev pub IsThrough : Wanted → List ℕ → Type 0
 IsThrough ALine bytes = ⊥
 IsThrough TheEnd bytes = bytes ≡ []

@@ -11,19 +11,19 @@ use Rattle.text_fields.specs.Lines.{Unread}
 use Rattle.text_fields.specs.Faults.{Wanted, ALine, Nothing, Rules, GoesTo, IsFirstFault}
 use Rattle.book_base.specs.declared.fault.TextFault.{TextFault}
 
--- the line of the title
+-- the words of the title line: the title and the version
 abbrev pub title_words : Version → List ℕ → List (List ℕ)
 title_words version title = title ∷ version_word version ∷ []
 
--- the line of the object
+-- the words of the object line: `object` and the name of the object's kind
 abbrev pub object_words : Kind → List (List ℕ)
 object_words kind = codes "object" ∷ kind_name kind ∷ []
 
--- the line of the number of callers
+-- the words of the callers line: `callers` and their number
 abbrev pub callers_words : ℕ → List (List ℕ)
 callers_words n = codes "callers" ∷ decimal n ∷ []
 
--- the line of the numbers of calls, of which there is one for each caller
+-- the words of the calls line: `calls` and for each caller the number of its calls
 abbrev pub calls_words : List ℕ → List (List ℕ)
 calls_words calls = codes "calls" ∷ map decimal calls
 
@@ -50,7 +50,7 @@ pub data HeadDue : Type 0 where
   CountsDue : Kind → ℕ → HeadDue
   HeadRead : Kind → List ℕ → HeadDue
 
--- the right lines of a head
+-- a line of these words is right in a state of reading a head, and leads to another state
 abbrev pub HeadPasses : Version → List ℕ → HeadDue → List (List ℕ) → HeadDue → Type 0
 HeadPasses version title TitleDue words after = (words ≡ title_words version title)
     × (after ≡ ObjectDue)
@@ -62,11 +62,11 @@ HeadPasses version title (CountsDue kind n) words after = (calls : List ℕ)
     × AreCalls version n calls × (words ≡ calls_words calls) × (after ≡ HeadRead kind calls)
 HeadPasses version title (HeadRead kind calls) words after = ⊥
 
--- the tests of the lines of a head, of which each has one
+-- a line of these words fails a test in a state of reading a head; each line of a head has one test
 abbrev pub HeadFails : Version → List ℕ → HeadDue → List (List ℕ) → What → Type 0
--- the line isn't the title that is due
+-- the line isn't the title with the version
 HeadFails version title TitleDue words what = (what ≡ Head) × (words ≢ title_words version title)
--- the line isn't 'object' and the name of a kind that texts have
+-- the line isn't 'object' and the name of a kind that texts of the version have
 HeadFails version title ObjectDue words what = (what ≡ Object)
     × ((kind : Kind) → has_kind version kind ≡ true → words ≢ object_words kind)
 -- the line isn't 'callers' and a number in range
@@ -93,8 +93,8 @@ head_rules version title = record {
   wanted = head_wanted;
 }
 
--- the text begins with right lines of a head that lead from one state to another, and leaves the
--- rest unread
+-- the text begins with right lines of a head that lead from one state to another, and `left` is the
+-- rest of it
 abbrev pub HeadGoes : Version → List ℕ → HeadDue → Unread → HeadDue → Unread → Type 0
 HeadGoes version title due text after left = GoesTo (head_rules version title) due text after left
 
@@ -102,7 +102,7 @@ HeadGoes version title due text after left = GoesTo (head_rules version title) d
 abbrev pub IsHeadFault : Version → List ℕ → HeadDue → Unread → TextFault → Type 0
 IsHeadFault version title due text fault = IsFirstFault (head_rules version title) due text fault
 
--- the text begins with the head of this kind and these calls, and leaves the rest unread
+-- the text begins with the head of this kind and these calls, and `left` is the rest of it
 abbrev pub IsHead : Version → List ℕ → Kind → List ℕ → Unread → Unread → Type 0
 IsHead version title kind calls text left =
     HeadGoes version title TitleDue text (HeadRead kind calls) left

@@ -1,4 +1,5 @@
--- The operations of a sequential object have words as texts want them.
+-- The words of a sequential object's operations in texts: one to three, none with a space or a line
+-- feed, and no operation's words begin those of another.
 use Rattle.std.proofs.Common.{◌≡◌, ℕ, ◌-◌, ◌<◌, ◌≤◌, ◌^◌, List, ◌++◌, length, refl, sym, subst, arith, inl, inr}
 use Rattle.std.specs.Prelude.{IsTrue, nat_lt}
 use Rattle.std.proofs.lemmas.Bool.{ltb-true}
@@ -16,7 +17,7 @@ use Rattle.text_fields.specs.declared.version.Version.TheVariants.{First, Second
 use Rattle.text_fields.specs.Version.{word_limit}
 use Rattle.text_fields.specs.Lines.{IsSolid, AreSolid}
 
--- the operations of both versions are operation words
+-- a number below the limit of a version's operation words is an operation word
 pub small_word : (version : Version) (op : ℕ) → IsTrue (nat_lt op (word_limit version))
     → IsOperationWord op
 small_word First op h = let lt : op < 2 ^ 64 = ltb-true op (2 ^ 64) h in omega arith
@@ -45,6 +46,7 @@ few_operation_words kind op = elim (cases_Option (entry_of kind op)) [
       (record { some = omega arith; few = omega arith })
 ]
 
+-- where the words of two operations begin the same list of words, they are one operation
 pub one_kind_operation : (version : Version) (kind : Kind) (a b : ℕ) (x y : List (List ℕ))
     → IsTrue (nat_lt a (word_limit version)) → IsTrue (nat_lt b (word_limit version))
     → operation_words kind a ++ x ≡ operation_words kind b ++ y → a ≡ b
@@ -56,6 +58,7 @@ one_kind_operation version kind a b x y h k e =
     (record { suffix = x; whole = sym e; count = omega (arith, some.some) })
     (record { suffix = y; whole = refl; count = omega (arith, other.some) })).0
 
+-- an operation has at least one word, and no word of it has a space or a line feed
 pub solid_kind_words : (version : Version) (kind : Kind) (op : ℕ)
     → IsTrue (nat_lt op (word_limit version)) → AreSolid (operation_words kind op)
 solid_kind_words version kind op h = record {
@@ -65,5 +68,6 @@ solid_kind_words version kind op h = record {
       inside in record { some = word.some; above = λ j c within. (word.printed j c within).0 });
 }
 
+-- an operation has at most three words
 pub few_kind_words : (kind : Kind) (op : ℕ) → length (operation_words kind op) ≤ 3
 few_kind_words kind op = (few_operation_words kind op).few

@@ -1,4 +1,4 @@
-//! Numbers in a row.
+//! The words of a line, read as one number or as a number for each caller.
 
 ghost use Rattle.std.specs.Prelude.{◌≡◌, ◌≢◌, ℕ, ◌≤◌, List, [], ◌∷◌, length, map, decimal, IfSome, IfNone};
 ghost use Rattle.book_base.specs.declared.TheConstants.{MAX_CALLERS};
@@ -12,7 +12,8 @@ use seq_objects::number;
 pub fn next_number(words: &mut Words, most: u64) -> Option<u64>
     // A number that was found is at most `most`, and its digits were the next word, which is taken.
     ensures found { IfSome result (λ n. (n ≤ most) × (words.old ≡ decimal n ∷ words.new)) }
-    // No number is found only where the next word is no number, or one above `most`.
+    // No number is found only where no word is left, or the next word is no number, or one above
+    // `most`.
     ensures none { IfNone result
         ((n : ℕ) (suffix : List (List ℕ)) → n ≤ most → words.old ≢ decimal n ∷ suffix) }
 {
@@ -20,14 +21,15 @@ pub fn next_number(words: &mut Words, most: u64) -> Option<u64>
     if n <= most { Some(n) } else { None }
 }
 
-/// As many numbers as there are callers, each at most `most`, and nothing after them.
+/// All words of a line as counts: a number for each of `n` callers, each at most `most`, and no
+/// further word.
 pub fn read_counts(words: &mut Words, n: u32, most: u64) -> Option<Cut>
     // There is at least one caller.
     requires some { 1 ≤ n }
     // There are at most `MAX_CALLERS` callers.
     requires few { n ≤ MAX_CALLERS }
-    // The counts that were found are one for each caller, each at most `most`, and the words were
-    // theirs alone.
+    // Counts that were found are one for each caller, each at most `most`, and the words were
+    // exactly their digits.
     ensures found { IfSome result
         (λ counts. (length counts ≡ n) × AreAtMost most counts × (words.old ≡ map decimal counts)) }
     // No counts are found only where the words aren't one number for each caller, each at most

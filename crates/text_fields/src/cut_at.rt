@@ -1,7 +1,8 @@
 ghost use Rattle.std.specs.Prelude.{◌≡◌, ◌==◌, position, option_map};
 ghost use Rattle.text_fields.specs.Lines.{cut_at as cut_at_lem};
 
-/// Bytes cut at the first of a given byte: what is before it and what is after it.
+/// Bytes cut at the first place of a given byte: the bytes before it and the bytes after it; `None`
+/// where the byte isn't among them.
 pub(crate) fn cut_at(byte: u8, bytes: &[u8]) -> Option<(&[u8], &[u8])>
     ensures { option_map (λ parts. (parts.0.now, parts.1.now)) result ≡ cut_at_lem byte bytes.now }
 {

@@ -30,7 +30,7 @@ pub struct Head {
 /// The head of a text of version 2 with this title, a word such as `book`. After a refusal the
 /// lines stay as they were.
 pub fn read_head(lines: &mut Lines, title: &[u8]) -> Result<Head, TextFault>
-    // A head that was found is that with which the lines began in version 2, and it is taken.
+    // A head that was found is the one, in version 2, that the lines began with; it is taken.
     ensures found { IfOk result (λ head.
         IsHead Second title.now head.kind head.calls lines.old lines.new) }
     // A head that was found has as many callers and calls as texts of version 2 may have.
@@ -40,12 +40,13 @@ pub fn read_head(lines: &mut Lines, title: &[u8]) -> Result<Head, TextFault>
     ensures refused { IfErr result (IsHeadFault Second title.now TitleDue lines.old) }
     // A refusal leaves the lines as they were.
     ensures unchanged { IfErr result (λ _. lines.new ≡ lines.old) }
-    // A head with a title that is a word is read as that head, and what follows it is left.
+    // Where the lines begin with a head whose title is one word, this head is answered, and the
+    // lines after it are left.
     ensures only { (kind : Kind) (calls : List ℕ) (left : Unread) → IsSolid title.now
         → IsHead Second title.now kind calls lines.old left
         → MatchResult result (λ head.
         (head.kind ≡ kind) × (head.calls ≡ calls) × (lines.new ≡ left)) (λ _. ⊥) }
-    // Where the head has a first fault, the answer is that fault.
+    // Where the title is one word and the head has a first fault, the answer is that fault.
     ensures first { (fault : TextFault) → IsSolid title.now
         → IsHeadFault Second title.now TitleDue lines.old fault
         → MatchResult result (λ _. ⊥) (λ e. e ≡ fault) }
@@ -56,7 +57,7 @@ pub fn read_head(lines: &mut Lines, title: &[u8]) -> Result<Head, TextFault>
 /// The head of a text of version 1 with this title, a word such as `book`. After a refusal the
 /// lines stay as they were.
 pub fn read_head1(lines: &mut Lines, title: &[u8]) -> Result<Head, TextFault>
-    // A head that was found is that with which the lines began in version 1, and it is taken.
+    // A head that was found is the one, in version 1, that the lines began with; it is taken.
     ensures found { IfOk result (λ head.
         IsHead First title.now head.kind head.calls lines.old lines.new) }
     // A head that was found has as many callers and calls as texts of version 1 may have.
@@ -66,12 +67,13 @@ pub fn read_head1(lines: &mut Lines, title: &[u8]) -> Result<Head, TextFault>
     ensures refused { IfErr result (IsHeadFault First title.now TitleDue lines.old) }
     // A refusal leaves the lines as they were.
     ensures unchanged { IfErr result (λ _. lines.new ≡ lines.old) }
-    // A head with a title that is a word is read as that head, and what follows it is left.
+    // Where the lines begin with a head whose title is one word, this head is answered, and the
+    // lines after it are left.
     ensures only { (kind : Kind) (calls : List ℕ) (left : Unread) → IsSolid title.now
         → IsHead First title.now kind calls lines.old left
         → MatchResult result (λ head.
         (head.kind ≡ kind) × (head.calls ≡ calls) × (lines.new ≡ left)) (λ _. ⊥) }
-    // Where the head has a first fault, the answer is that fault.
+    // Where the title is one word and the head has a first fault, the answer is that fault.
     ensures first { (fault : TextFault) → IsSolid title.now
         → IsHeadFault First title.now TitleDue lines.old fault
         → MatchResult result (λ _. ⊥) (λ e. e ≡ fault) }
@@ -81,7 +83,7 @@ pub fn read_head1(lines: &mut Lines, title: &[u8]) -> Result<Head, TextFault>
 
 /// The head of a text of this version with this title. After a refusal the lines stay as they were.
 pub fn read_head_of(version: Version, lines: &mut Lines, title: &[u8]) -> Result<Head, TextFault>
-    // A head that was found is that with which the lines began in this version, and it is taken.
+    // A head that was found is the one, in this version, that the lines began with; it is taken.
     ensures found { IfOk result (λ head.
         IsHead version title.now head.kind head.calls lines.old lines.new) }
     // A head that was found has as many callers and calls as texts of this version may have.
@@ -91,12 +93,13 @@ pub fn read_head_of(version: Version, lines: &mut Lines, title: &[u8]) -> Result
     ensures refused { IfErr result (IsHeadFault version title.now TitleDue lines.old) }
     // A refusal leaves the lines as they were.
     ensures unchanged { IfErr result (λ _. lines.new ≡ lines.old) }
-    // A head with a title that is a word is read as that head, and what follows it is left.
+    // Where the lines begin with a head whose title is one word, this head is answered, and the
+    // lines after it are left.
     ensures only { (kind : Kind) (calls : List ℕ) (left : Unread) → IsSolid title.now
         → IsHead version title.now kind calls lines.old left
         → MatchResult result (λ head.
         (head.kind ≡ kind) × (head.calls ≡ calls) × (lines.new ≡ left)) (λ _. ⊥) }
-    // Where the head has a first fault, the answer is that fault.
+    // Where the title is one word and the head has a first fault, the answer is that fault.
     ensures first { (fault : TextFault) → IsSolid title.now
         → IsHeadFault version title.now TitleDue lines.old fault
         → MatchResult result (λ _. ⊥) (λ e. e ≡ fault) }
@@ -140,7 +143,7 @@ fn read_title(version: Version, lines: &mut Lines, title: &[u8]) -> Result<(), T
     }
 }
 
-/// Whether the words are these two.
+/// Whether the words are exactly `first` and `second`.
 pub fn are_words(words: &mut Words, first: &[u8], second: &[u8]) -> bool
     ensures { IsTrue result ↔ (words.old ≡ first.now ∷ second.now ∷ []) }
 {

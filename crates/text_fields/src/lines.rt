@@ -36,13 +36,13 @@ impl<'a> Lines<'a> {
         }
     }
 
-    /// The next line, without its line feed. Where no whole line is left, the text is cut, and no
-    /// byte is taken.
+    /// The next line, without its line feed. Where no whole line is left, the answer is the fault
+    /// `Cut`, and no byte is taken.
     pub fn line(&mut self) -> Result<&'a [u8], TextFault>
         // An answered line is what the bytes had before the first line feed, and is taken with it.
         ensures line { IfOk result (λ line. line_at self.old ≡ Ok (line.now, self.new)) }
-        // An error comes only where no whole line is left: the text is cut there, and no byte is
-        // taken.
+        // An error comes only where no whole line is left: it is the fault `Cut` at this line, and
+        // no byte is taken.
         ensures cut { IfErr result
             (λ fault. (line_at self.old ≡ Err fault) × (self.new ≡ self.old)) }
     {

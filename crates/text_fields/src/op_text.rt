@@ -17,7 +17,7 @@ pub trait OpText {
     ghost operations: { Self → Operations };
 
     /// The operation that the first word spells with none, one or both of the further words, and
-    /// how many of these are used. A third word is given only where there is a second.
+    /// how many of these are used. A third word counts only where there is a second.
     fn read_op(
         &self,
         first: &[u8],

@@ -9,23 +9,23 @@ use crate::words::Words;
 use book_base::Cut;
 use seq_objects::number;
 
-/// The pairs of a cut, up to the next word without a colon or to the end of the line.
+/// Reads the pairs of a cut, up to the next word without a colon or to the end of the line.
 ///
-/// `None` comes exactly where a word up to there is no pair of a caller below `n` and a count above
+/// `None` comes exactly where one of these words is no pair of a caller below `n` and a count above
 /// 0, or its caller isn't above that of the pair before it.
 pub fn read_pairs(words: &mut Words, n: u32) -> Option<Cut>
     // There is at least one caller.
     requires some { 1 ≤ n }
     // There are at most `MAX_CALLERS` callers.
     requires few { n ≤ MAX_CALLERS }
-    // A cut that was found has a count for each caller that texts can write, and the words of its
+    // A cut that was found has one count for each caller, each below 2^64, and the words of its
     // pairs are taken.
     ensures found { IfSome result
         (λ cut. (length cut ≡ n) × AreNumbers cut × (words.old ≡ pair_words 0 cut ++ words.new)) }
     // The words after the pairs of a cut don't begin with a word with a colon.
     ensures whole { IfSome result (λ cut. NoPairFirst words.new) }
-    // No cut is found only where one of the first words with a colon is no pair, or isn't in the
-    // callers' order.
+    // No cut is found only where, of the words up to the first one without a colon, one is no pair,
+    // or its caller isn't above that of the pair before it.
     ensures none { IfNone result (HasBadPair n 0 words.old) }
 {
     let mut cut = Cut::zero(n);

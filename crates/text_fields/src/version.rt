@@ -11,7 +11,7 @@ const FIRST_OPERATIONS: OpWord = 1 << 64;
 /// A version of texts.
 #[derive(Clone, Copy, Debug, PartialEq, Eq)]
 pub enum Version {
-    /// Version 1, which is only read.
+    /// Version 1, whose texts are read but not written.
     First,
     /// Version 2.
     Second,

@@ -37,13 +37,13 @@ IsRead reading book cut v = (call : Call) × ReadsOutside reading book cut v cal
 abbrev pub IsWritten : Reading → List Page → List ℕ → ℕ → Type 0
 IsWritten reading book cut v = (call : Call) × WritesOutside reading book cut v call
 
--- The value held is read by an answered call outside a cut, and written by no call outside it: it
--- must not be overwritten yet.
+-- A held value is read by an answered call outside a cut, and written by no call outside it, so
+-- that no other value may be written over it there.
 abbrev pub IsIrreplaceable : Reading → List Page → List ℕ → ℕ → Type 0
 IsIrreplaceable reading book cut held = IsRead reading book cut held
     × (IsWritten reading book cut held → ⊥)
 
--- a call writes what no answered call outside a cut reads
+-- a call writes a value that no answered call outside a cut reads
 abbrev pub IsUnreadWrite : Reading → List Page → List ℕ → Call → Type 0
 IsUnreadWrite reading book cut call = (value : ℕ) × PutsIn reading book call value
     × (IsRead reading book cut value → ⊥)
@@ -52,16 +52,17 @@ IsUnreadWrite reading book cut call = (value : ℕ) × PutsIn reading book call 
 abbrev pub WritesAnother : Reading → List Page → Call → ℕ → Type 0
 WritesAnother reading book call held = (value : ℕ) × PutsIn reading book call value × (value ≢ held)
 
--- The next call of a caller is answered and writes what no answered call outside the cut reads, and
--- none reads the value held either.
+-- The next call of a caller is answered and writes a value that no answered call outside the cut
+-- reads, and no answered call outside the cut reads the value held.
 pub record WritesUnread (reading : Reading) (book : List Page) (cut : List ℕ)
     (held caller : ℕ) : Type 0 where
   pub answered : IsAnswered book (next_call cut caller)
   pub write : IsUnreadWrite reading book cut (next_call cut caller)
   pub lost : IsRead reading book cut held → ⊥
 
--- The next call of a caller needn't be tried: it writes over a value that must not be overwritten
--- yet, or it is unanswered and writes what no answered call outside the cut reads.
+-- The next call of a caller needn't be tried: it writes another value over the one held, which
+-- calls outside the cut read and none writes, or it is unanswered and writes a value that no
+-- answered call outside the cut reads.
 abbrev pub IsNeedless : Reading → List Page → List ℕ → ℕ → ℕ → Type 0
 IsNeedless reading book cut held caller =
     (IsIrreplaceable reading book cut held × WritesAnother reading book (next_call cut caller) held)

@@ -9,7 +9,8 @@ use Rattle.book_base.specs.Pruning.{ViewsAreWithin}
 use Rattle.history_rules.specs.Container.{Puts, Takes, Neither, Reading}
 use Rattle.history_rules.specs.Calls.{PutsIn, PutsInAlone, TakesOut}
 
--- A list with a value before the first greater item, or at the end where none is greater.
+-- A list with one more value, put before the first greater item, or at the end where no item is
+-- greater.
 abbrev pub placed : ℕ → List ℕ → List ℕ
 placed v [] = v ∷ []
 placed v (x ∷ rest) = if nat_lt v x then v ∷ x ∷ rest else x ∷ placed v rest
@@ -39,28 +40,29 @@ pub record GivesLeastFirst (reading : Reading) (next : List ℕ → ℕ → List
   pub one_reply : (a b v : ℕ) → reading.shown a ≡ Some v → reading.shown b ≡ Some v → a ≡ b
 
 -- A call takes out a value, and its view is within those of all calls outside a cut that take it
--- out: also of those that may not come next yet, since one of them with a lesser view may have to
--- take this item.
+-- out. Calls that may not come next yet count too, since one with a lesser view may have to take
+-- this item.
 pub record IsLeastTake (reading : Reading) (book : List Page) (cut : List ℕ) (v : ℕ)
     (take : Call) : Type 0 where
   pub takes : TakesOut reading book take v
   pub least : (other : Call) → TakesOut reading book other v
       → slice_index cut other.caller ≤ other.number → ViewsAreWithin book take other
 
--- The next call of a caller takes the first item, with the least view.
+-- The next call of a caller takes the first item of a list, with the least view of all answered
+-- calls outside the cut that take this value.
 abbrev pub TakesFirst : Reading → List Page → List ℕ → List ℕ → ℕ → Type 0
 TakesFirst reading book cut [] caller = ⊥
 TakesFirst reading book cut (low ∷ rest) caller =
     IsLeastTake reading book cut low (next_call cut caller)
 
--- a value is less than all items of a rising list
+-- a value is less than all items of a rising list, which may be empty
 abbrev pub IsBelowFirst : ℕ → List ℕ → Type 0
 IsBelowFirst v [] = Unit {0}
 IsBelowFirst v (x ∷ rest) = v < x
 
--- The next call of a caller is the only one that puts in some value, which is less than the first
--- item, if there is one; and the next call of another caller may come next and takes this value,
--- with the least view of all answered calls outside the cut that take it.
+-- The next call of a caller is the only one that puts in some value, which is less than all items
+-- of the list; and the next call of another caller may come next and takes this value, with the
+-- least view of all answered calls outside the cut that take it.
 pub record PutsLeast (reading : Reading) (book : List Page) (cut list : List ℕ)
     (caller : ℕ) : Type 0 where
   pub value : ℕ
@@ -82,14 +84,14 @@ abbrev pub IsTakenByNone : Reading → List Page → List ℕ → ℕ → Type 0
 IsTakenByNone reading book cut v = (i : ℕ) → MayComeNext book cut (next_call cut i)
     → CouldTake reading book (next_call cut i) v → ⊥
 
--- A value that is put in now isn't the one that the next take takes: it isn't less than all items,
--- or no call that may come next may take it out.
+-- A value that is put in next, after a cut and at a list, isn't taken by the take that follows: it
+-- isn't less than all items, or no call that may come next may take it out.
 abbrev pub IsNeverFirst : Reading → List Page → List ℕ → List ℕ → ℕ → Type 0
 IsNeverFirst reading book cut list v = (IsBelowFirst v list → ⊥)
     ⊎ IsTakenByNone reading book cut v
 
--- The next call of a caller isn't the forced one, and puts in a value that the next take doesn't
--- take.
+-- The next call of a caller isn't the forced one, and puts in a value that the take which follows
+-- doesn't take.
 pub record IsUnwanted (reading : Reading) (book : List Page) (cut list : List ℕ) (forced : ℕ)
     (caller : ℕ) : Type 0 where
   pub apart : caller ≢ forced

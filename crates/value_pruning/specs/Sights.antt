@@ -38,37 +38,37 @@ shows_of sight v = shows_at sight (place_of sight v)
 abbrev pub IsListed : List Call → Call → Type 0
 IsListed calls call = (k : ℕ) × (slice_get calls k ≡ Some call)
 
--- The place of each value is one of the sight's.
+-- Each place that a sight has for a value is one at which it lists calls.
 abbrev pub HasItsPlaces : Sight → Type 0
 HasItsPlaces sight = (v place : ℕ) → place_of sight v ≡ Some place
     → place < length sight.labelled.items
 
--- A sight lists all that another one lists.
+-- A sight lists all calls that another one lists, each for the same value.
 pub record ListsMore (old new : Sight) : Type 0 where
   pub puts : (v : ℕ) (call : Call) → IsListed (puts_of old v) call → IsListed (puts_of new v) call
   pub shows : (v : ℕ) (call : Call) → IsListed (shows_of old v) call
       → IsListed (shows_of new v) call
 
--- A sight has a place for a value, and lists all that another one lists.
+-- A sight has this place for a value, and lists all calls that another one lists.
 pub record HasPlace (old new : Sight) (v found : ℕ) : Type 0 where
   pub places : HasItsPlaces new
   pub more : ListsMore old new
   pub place : place_of new v ≡ Some found
 
--- A sight lists one more put of a value.
+-- A sight lists a call as a put of a value, and all calls that another sight lists.
 pub record HasPut (old new : Sight) (v : ℕ) (call : Call) : Type 0 where
   pub places : HasItsPlaces new
   pub more : ListsMore old new
   pub listed : IsListed (puts_of new v) call
 
--- A sight lists one more call that takes out a value.
+-- A sight lists a call as one that takes out a value, and all calls that another sight lists.
 pub record HasTake (old new : Sight) (v : ℕ) (call : Call) : Type 0 where
   pub places : HasItsPlaces new
   pub more : ListsMore old new
   pub listed : IsListed (shows_of new v) call
 
--- A sight lists the calls that were read: the puts of each value, and the answered takes that show
--- it.
+-- A sight lists the calls of a book that were read so far, those before the call `number` of
+-- `caller`: the puts of each value, and the answered takes that show it.
 pub record ListsRead (reading : Reading) (book : List Page) (caller number : ℕ)
     (sight : Sight) : Type 0 where
   pub places : HasItsPlaces sight

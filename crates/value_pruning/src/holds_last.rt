@@ -13,11 +13,12 @@ use container_pruning::Reader;
 /// The callers whose next calls a search has to try, in the book of a register that holds a value:
 /// some of the marked callers, and these marks suffice. No clause says which.
 ///
-/// Where no answered call outside the cut reads the value held, and the next call of a marked
-/// caller is an answered write of a value that no such call reads either, it is that caller alone.
-/// Else it is each marked caller but those whose next calls write another value over the one held,
-/// where calls outside the cut still read the one held and no call outside it writes that one, or
-/// are unanswered writes of a value that no answered call outside the cut reads.
+/// - Where no answered call outside the cut reads the value held, and a marked caller's next call
+///   is an answered write of a value that none of them reads either, it is that caller alone.
+/// - Otherwise it is all marked callers but some whose next calls are writes. Left out are
+///   unanswered writes of a value that no answered call outside the cut reads. Where an answered
+///   call outside the cut reads the value held, and no call outside it writes that value, all
+///   writes of other values are left out too.
 pub fn narrow_holds_last<R: Reader>(
     reader: &R,
     sight: &Sight,
@@ -40,9 +41,9 @@ pub fn narrow_holds_last<R: Reader>(
     requires marks { MarksAllNext book.now cut.now marks }
     // Each caller that the answer marks was marked.
     ensures fewer { IsMarkedWithin result marks }
-    // For each object that holds the value written last, and holds `held` at a list: where places
-    // continue an order from the cut and the list, places that begin with the next call of a caller
-    // that the answer marks continue one from there as well, and are no more.
+    // For each object that holds the value written last, and each list at which it holds `held`:
+    // where places continue an order from the cut and the list, as many places or fewer that begin
+    // with the next call of a caller that the answer marks do too.
     ensures suffice { (held_in : List ℕ → ℕ) (next : List ℕ → ℕ → List ℕ × ℕ) (list : List ℕ)
         → HoldsLast (R.reading reader.now) held_in next
         → held_in list ≡ held → MarksSuffice book.now next cut.now list result }
@@ -55,7 +56,7 @@ pub fn narrow_holds_last<R: Reader>(
 }
 
 // A marked caller whose next call is answered and writes a value that no answered call outside the
-// cut reads, where no such call reads the value held either.
+// cut reads, where no answered call outside the cut reads the value held.
 fn unread_write<R: Reader>(
     reader: &R,
     sight: &Sight,
@@ -82,7 +83,8 @@ fn unread_write<R: Reader>(
     None
 }
 
-// Whether a caller's next call is answered and writes what no answered call outside the cut reads.
+// Whether a caller's next call is answered and writes a value that no answered call outside the cut
+// reads.
 fn writes_unread<R: Reader>(reader: &R, sight: &Sight, book: &Book, cut: &Cut, caller: u32) -> bool
     requires sight { ListsValues (R.reading reader.now) book.now sight.now }
     requires wide { length cut.now ≡ length book.now }
@@ -99,7 +101,7 @@ fn writes_unread<R: Reader>(reader: &R, sight: &Sight, book: &Book, cut: &Cut, c
     is_unread_write(reader, sight, book, cut, Call { caller, number })
 }
 
-// The marked callers but those whose next calls needn't be tried.
+// The marked callers but those whose next calls needn't be tried at a register that holds `held`.
 fn without_needless<R: Reader>(
     reader: &R,
     sight: &Sight,
@@ -125,8 +127,9 @@ fn without_needless<R: Reader>(
     left
 }
 
-// Whether a caller's next call writes over a value that is irreplaceable, or is unanswered and
-// writes what no answered call outside the cut reads.
+// Whether a caller's next call writes another value than `held` where `held` is irreplaceable,
+// since calls outside the cut read it and none writes it, or is unanswered and writes a value that
+// no answered call outside the cut reads.
 fn is_needless<R: Reader>(
     reader: &R,
     sight: &Sight,
@@ -155,7 +158,7 @@ fn is_needless<R: Reader>(
     is_unread_write(reader, sight, book, cut, call)
 }
 
-// Whether a call writes another value than this one.
+// Whether a call writes another value than `held`.
 fn writes_another<R: Reader>(reader: &R, book: &Book, call: Call, held: u64) -> bool
     requires { IsCall book.now call }
     ensures { IsTrue result → WritesAnother (R.reading reader.now) book.now call held }
@@ -166,7 +169,7 @@ fn writes_another<R: Reader>(reader: &R, book: &Book, call: Call, held: u64) -> 
     }
 }
 
-// Whether a call writes what no answered call outside a cut reads.
+// Whether a call writes a value that no answered call outside a cut reads.
 fn is_unread_write<R: Reader>(reader: &R, sight: &Sight, book: &Book, cut: &Cut, call: Call) -> bool
     requires sight { ListsValues (R.reading reader.now) book.now sight.now }
     requires wide { length cut.now ≡ length book.now }

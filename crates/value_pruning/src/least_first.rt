@@ -14,12 +14,17 @@ use crate::values::{value_put, value_taken};
 use book_base::{Book, Call, Cut, MarkedCallers, Sight};
 use container_pruning::{Reader, Role};
 
-/// Which of the calls that may come next a search has to try, of a priority queue: some of those
-/// that are marked, and they suffice. No clause says which. It is one take alone that shows the
-/// least item, where it has the least view of all that show it, also of those that may not come
-/// next yet; and else a put of a lesser value that is put in once, where its take may come next
-/// too; and else all takes, the forced call, and the puts of lesser values that a call which may
-/// come next may take.
+/// The callers whose next calls a search has to try, in the book of a priority queue: some of the
+/// marked callers, and these marks suffice. No clause says which.
+///
+/// The answer is the first of three that there is:
+///
+/// - one caller alone, whose next call takes the least item, with the least view of all answered
+///   calls outside the cut that take this value, also of those that may not come next yet;
+/// - one caller alone, whose next call is the only put of a value below all items, where the take
+///   of this value with the least view may come next too;
+/// - all marked callers but those, other than the forced one, whose next calls put in a value that
+///   isn't below all items, or that no call which may come next may take.
 pub fn narrow_least_first<R: Reader>(
     reader: &R,
     sight: &Sight,
@@ -61,7 +66,8 @@ pub fn narrow_least_first<R: Reader>(
     without_unwanted(reader, book, cut, words, forced, marks)
 }
 
-// A marked caller whose next call takes the first item, with the least view.
+// A marked caller whose next call takes the first of `words`, with the least view of all answered
+// calls outside the cut that take this value.
 fn first_take<R: Reader>(
     reader: &R,
     book: &Book,
@@ -139,7 +145,7 @@ fn puts_least<R: Reader>(
     next_least_take(reader, book, cut, marks, value).is_some()
 }
 
-// Whether a value is less than the first of these words, where there is one.
+// Whether a value is less than the first of `words`, or there is no word.
 fn is_below_first(words: &[u64], value: u64) -> bool
     ensures { IsTrue result ↔ IsBelowFirst value words.now }
 {
@@ -149,7 +155,8 @@ fn is_below_first(words: &[u64], value: u64) -> bool
     }
 }
 
-// The marked callers but those whose next calls put in what no call takes out first.
+// The marked callers but those, other than the forced one, whose next calls put in a value that
+// isn't below all items, or that no call which may come next may take.
 fn without_unwanted<R: Reader>(
     reader: &R,
     book: &Book,
@@ -173,8 +180,8 @@ fn without_unwanted<R: Reader>(
     left
 }
 
-// Whether a marked caller's next call isn't the forced one, and puts in a value that no call takes
-// out first.
+// Whether a marked caller's next call isn't the forced one, and puts in a value that isn't below
+// all items, or that no call which may come next may take.
 fn is_unwanted<R: Reader>(
     reader: &R,
     book: &Book,
@@ -247,7 +254,7 @@ fn may_be_taken<R: Reader>(
     false
 }
 
-// Whether a caller is marked, and its next call takes, and is unanswered or shows a value.
+// Whether a caller is marked, and its next call is a take that is unanswered or shows the value.
 fn next_may_take<R: Reader>(
     reader: &R,
     book: &Book,
@@ -273,7 +280,7 @@ fn next_may_take<R: Reader>(
     is_take(reader, book, call)
 }
 
-// Whether a call takes.
+// Whether a call's operation is a take.
 fn is_take<R: Reader>(reader: &R, book: &Book, call: Call) -> bool
     requires { IsCall book.now call }
     ensures { result ≡ false → (op : ℕ) → operation_of book.now call ≡ Some op

@@ -38,7 +38,7 @@ pub fn is_written<R: Reader>(reader: &R, sight: &Sight, book: &Book, cut: &Cut, 
     }
 }
 
-// Whether one of these calls is answered, is outside a cut and reads a value.
+// Whether one of `calls` is answered, is outside a cut and reads a value.
 fn some_reads<R: Reader>(reader: &R, book: &Book, cut: &Cut, calls: &[Call], value: u64) -> bool
     requires wide { length cut.now ≡ length book.now }
     ensures found { IsTrue result → IsRead (R.reading reader.now) book.now cut.now value }
@@ -53,7 +53,7 @@ fn some_reads<R: Reader>(reader: &R, book: &Book, cut: &Cut, calls: &[Call], val
     false
 }
 
-// Whether some of these calls is outside a cut and writes a value.
+// Whether one of `calls` is outside a cut and writes a value.
 fn some_writes<R: Reader>(reader: &R, book: &Book, cut: &Cut, calls: &[Call], value: u64) -> bool
     requires wide { length cut.now ≡ length book.now }
     ensures found { IsTrue result → IsWritten (R.reading reader.now) book.now cut.now value }

@@ -27,7 +27,7 @@ pub fn sight_of_values<R: Reader>(alloc: Global, reader: &R, book: &Book) -> Res
     Ok(sight)
 }
 
-// Lists the calls of a caller.
+// Adds the calls of a caller to a sight.
 fn list_caller<R: Reader>(
     alloc: Global,
     reader: &R,
@@ -46,7 +46,7 @@ fn list_caller<R: Reader>(
     Ok(())
 }
 
-// Lists a call.
+// Adds a call to a sight, at the value that it puts in or takes out.
 fn list_call<R: Reader>(
     alloc: Global,
     reader: &R,
@@ -68,7 +68,7 @@ fn list_call<R: Reader>(
     }
 }
 
-// Lists a call that puts in a value.
+// Adds a call that puts in a value to a sight.
 fn list_put(alloc: Global, sight: &mut Sight, value: u64, call: Call) -> Result<(), NoMemory>
     requires { HasItsPlaces sight.old }
     ensures { OnOk result (HasPut sight.old sight.new value call) }
@@ -78,7 +78,7 @@ fn list_put(alloc: Global, sight: &mut Sight, value: u64, call: Call) -> Result<
     Ok(())
 }
 
-// Lists an answered call that takes out a value.
+// Adds an answered call that takes out a value to a sight.
 fn list_take(alloc: Global, sight: &mut Sight, value: u64, call: Call) -> Result<(), NoMemory>
     requires { HasItsPlaces sight.old }
     ensures { OnOk result (HasTake sight.old sight.new value call) }
@@ -88,7 +88,7 @@ fn list_take(alloc: Global, sight: &mut Sight, value: u64, call: Call) -> Result
     Ok(())
 }
 
-// The place of a value's calls, which is made where there is none.
+// The place of a value's calls in a sight, which is made where the sight has none.
 fn place_for(alloc: Global, sight: &mut Sight, value: u64) -> Result<usize, NoMemory>
     requires { HasItsPlaces sight.old }
     ensures { IfOk result (HasPlace sight.old sight.new value) }
@@ -107,7 +107,7 @@ fn place_for(alloc: Global, sight: &mut Sight, value: u64) -> Result<usize, NoMe
     Ok(place)
 }
 
-// Sets the place of a label.
+// Sets the place of a label in a sight.
 fn set_place(sight: &mut Sight, label: u128, place: u64) -> Result<(), NoMemory>
     ensures places { OnOk result ((v : ℕ)
         → place_of sight.new v ≡ (if v == label then Some place else place_of sight.old v)) }
@@ -117,7 +117,7 @@ fn set_place(sight: &mut Sight, label: u128, place: u64) -> Result<(), NoMemory>
     Ok(())
 }
 
-/// The calls of a value, where any are listed.
+/// The calls that a sight lists for a value, where it lists any.
 pub fn labelled_of(sight: &Sight, value: u64) -> Option<&Labelled>
     ensures puts { IfSome result
         (λ labelled. labelled.now.puts.items ≡ sights.puts_of sight.now value) }
@@ -130,7 +130,7 @@ pub fn labelled_of(sight: &Sight, value: u64) -> Option<&Labelled>
     sight.labelled.get(*place as usize)
 }
 
-/// Whether one call alone puts in a value.
+/// Whether a sight lists exactly one call that puts in a value.
 pub fn is_put_once(sight: &Sight, value: u64) -> bool
     // The answer is `true` only where the sight lists exactly one call that puts in the value.
     ensures { IsTrue result → length (sights.puts_of sight.now value) ≡ 1 }

@@ -25,12 +25,12 @@ pub fn next_least_take<R: Reader>(
 ) -> Option<u32>
     // The cut has a count for each caller of the book.
     requires wide { length cut.now ≡ length book.now }
-    // A caller that is answered is one of the book's.
+    // The answer is a caller of the book, or `None`.
     ensures caller { IfSome result (λ i. i < length book.now) }
-    // A caller that is answered is marked.
+    // The answer is a marked caller, or `None`.
     ensures marked { IfSome result (IsMarked marks) }
-    // The next call of the answered caller takes out the value, and has the least view of all
-    // answered calls outside the cut that do.
+    // The next call of the caller in the answer takes out the value, and has the least view of all
+    // answered calls outside the cut that take it out.
     ensures take { IfSome result
         (λ i. IsLeastTake (R.reading reader.now) book.now cut.now value (next_call cut.now i)) }
 {
@@ -80,8 +80,8 @@ fn has_least_view<R: Reader>(reader: &R, book: &Book, cut: &Cut, take: Call, val
     true
 }
 
-// Whether some call of a caller, of those from a number on that a view holds, takes out a value,
-// and the view isn't within that of this call.
+// Whether a caller has a call that takes out a value, that `view` holds, whose number is `from` or
+// greater, and whose own view doesn't contain `view`.
 fn takes_sooner<R: Reader>(
     reader: &R,
     book: &Book,
@@ -106,7 +106,7 @@ fn takes_sooner<R: Reader>(
     false
 }
 
-// Whether a call takes out a value, and the given view isn't within that of this call.
+// Whether a call takes out a value, and its own view doesn't contain `view`.
 fn is_sooner<R: Reader>(reader: &R, book: &Book, view: &Cut, call: Call, value: u64) -> bool
     requires wide { length view.now ≡ length book.now }
     requires caller { call.caller < length book.now }

@@ -9,9 +9,9 @@ use container_pruning::{Reader, Role};
 pub fn value_put<R: Reader>(reader: &R, book: &Book, call: Call) -> Option<u64>
     // The call is one of the book's.
     requires { IsCall book.now call }
-    // A value that is answered is put in by the call.
+    // The answer is a value only where the call puts it in.
     ensures some { IfSome result (PutsIn (R.reading reader.now) book.now call) }
-    // None is answered only where the call puts in no value.
+    // The answer is `None` only where the call puts in no value.
     ensures none { IfNone result ((v : ℕ) → PutsIn (R.reading reader.now) book.now call v → ⊥) }
 {
     match reader.role(book.op(call)) {
@@ -22,9 +22,9 @@ pub fn value_put<R: Reader>(reader: &R, book: &Book, call: Call) -> Option<u64>
 
 /// The value that an answered call takes out, if it takes one out.
 pub fn value_taken<R: Reader>(reader: &R, book: &Book, call: Call) -> Option<u64>
-    // A value that is answered is taken out by the call, which is answered.
+    // The answer is a value only where the call is answered and takes it out.
     ensures some { IfSome result (TakesOut (R.reading reader.now) book.now call) }
-    // None is answered only where the call takes out no value.
+    // The answer is `None` only where the call isn't an answered one that takes out a value.
     ensures none { IfNone result ((v : ℕ) → TakesOut (R.reading reader.now) book.now call v → ⊥) }
 {
     if call.caller >= book.callers() || call.number >= book.answers(call.caller) {

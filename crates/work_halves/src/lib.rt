@@ -1,5 +1,5 @@
-//! Workers side by side: each works once over what all of them share, half of them beside the other
-//! half.
+//! Workers side by side: each works once over what all of them share. The first half of them works
+//! in a thread beside the second half.
 #![tactic(auto)]
 
 ghost use Rattle.std.specs.Prelude.{◌≡◌, ◌+◌, ◌<◌, ◌≤◌, length};
@@ -8,12 +8,13 @@ ghost use Rattle.std.specs.Thread.{IsSend, IsSync};
 
 use std::thread::{Threads, join_mut};
 
-/// A worker over what all workers share, the context `C`.
+/// A worker, which works once over what all workers share: a context of the type `C`.
 pub trait Work<C>: Send {
-    /// The worker may work over this context.
+    /// Whether a worker may work over a context.
     ghost ready: { Self → C → Type 0 };
 
-    /// The worker has done its work over this context: it has become the second worker.
+    /// What a worker's work over a context does: it relates the worker before its work, the
+    /// context, and the worker after its work.
     ghost done: { Self → C → Self → Type 0 };
 
     /// Does the worker's work, once.
@@ -22,15 +23,16 @@ pub trait Work<C>: Send {
         ensures { done self.old shared.now self.new };
 }
 
-/// Each of the workers works once, in any order: the first half in a thread of its own, beside the
-/// second one, and each half likewise. Where a thread can't be had, one half works after the other.
+/// Lets each of the workers work once, in any order: the first half of them in a thread of its own
+/// beside the second half, and each half is divided further in this way. Where a thread can't be
+/// had, one half works after the other.
 ///
 /// All have worked when it returns.
 #[cycle(halves)]
 pub fn work_all<R: Threads + Sync, C: Sync, W: Work<C>>(rt: &R, shared: &C, all: &mut [W])
-    // Each worker is ready for what the workers share.
+    // Each worker may work over `shared`.
     requires { All (λ w. W.ready w shared.now) all.old }
-    // Each worker has done its work.
+    // Each worker has done its work over `shared`.
     ensures { AllZip (λ before after. W.done before shared.now after) all.old all.new }
 {
     match all.len() {
@@ -43,7 +45,7 @@ pub fn work_all<R: Threads + Sync, C: Sync, W: Work<C>>(rt: &R, shared: &C, all:
     }
 }
 
-// Lets the workers of both parts work, those of one part beside those of the other.
+// Lets the workers of both parts work once, those of one part beside those of the other.
 #[cycle(halves)]
 fn work_beside<R: Threads + Sync, C: Sync, W: Work<C>>(
     rt: &R,
@@ -72,8 +74,8 @@ fn work_beside<R: Threads + Sync, C: Sync, W: Work<C>>(
     join_mut(rt, &mut in_prefix, &mut from_suffix);
 }
 
-/// Lets the workers of a list work, and beside them two workers of another kind, each kind over
-/// what its workers share.
+/// Lets the workers of a list work once over `shared`, and beside them two workers of another type
+/// over `aside`.
 ///
 /// All have worked when it returns.
 pub fn work_with_two<R: Threads + Sync, C: Sync, W: Work<C>, D: Sync, V: Work<D>>(
@@ -84,17 +86,17 @@ pub fn work_with_two<R: Threads + Sync, C: Sync, W: Work<C>, D: Sync, V: Work<D>
     one: &mut V,
     other: &mut V,
 )
-    // Each worker of the list is ready for what these workers share.
+    // Each worker of the list may work over `shared`.
     requires all { All (λ w. W.ready w shared.now) all.old }
-    // The one worker beside them is ready for what the two workers beside them share.
+    // The worker `one` may work over `aside`.
     requires one { V.ready one.old aside.now }
-    // The other worker beside them is ready for what the two workers beside them share.
+    // The worker `other` may work over `aside`.
     requires other { V.ready other.old aside.now }
-    // Each worker of the list has done its work.
+    // Each worker of the list has done its work over `shared`.
     ensures all { AllZip (λ before after. W.done before shared.now after) all.old all.new }
-    // The one worker beside them has done its work.
+    // The worker `one` has done its work over `aside`.
     ensures one { V.done one.old aside.now one.new }
-    // The other worker beside them has done its work.
+    // The worker `other` has done its work over `aside`.
     ensures other { V.done other.old aside.now other.new }
 {
     let mut list = ||
@@ -112,7 +114,7 @@ pub fn work_with_two<R: Threads + Sync, C: Sync, W: Work<C>, D: Sync, V: Work<D>
     join_mut(rt, &mut list, &mut two);
 }
 
-// Lets two workers work side by side.
+// Lets two workers work once, side by side.
 fn work_two<R: Threads, C: Sync, W: Work<C>>(rt: &R, shared: &C, one: &mut W, other: &mut W)
     requires one { W.ready one.old shared.now }
     requires other { W.ready other.old shared.now }

@@ -14,7 +14,7 @@ use Rattle.world_core.specs.History.{Happening, Invoked, Returned, IsLinearizabl
 use Rattle.world_core.specs.Calls.{IsPublished, book_in}
 use Rattle.world_core.specs.Schedules.{pair, by, announcement, publication, two_calls}
 
--- The locals of two callers after these steps.
+-- The locals after these steps in a world of two callers with one row each.
 abbrev pub locals_after : List Step → List Local
 locals_after steps = (end_of pair steps).locals
 
@@ -31,11 +31,11 @@ abbrev pub both_answered : List Page
 both_answered =
     page (5 ∷ []) (answer 50 (1 ∷ 1 ∷ []) ∷ []) ∷ page (6 ∷ []) (answer 60 (1 ∷ 1 ∷ []) ∷ []) ∷ []
 
--- The book of the two calls at the cut of the first one's record.
+-- The book of the two whole calls at the cut of the first one's record: the second has no record.
 abbrev pub one_answered : List Page
 one_answered = page (5 ∷ []) (answer 50 (1 ∷ 1 ∷ []) ∷ []) ∷ page (6 ∷ []) [] ∷ []
 
--- After the two calls caller 1 peeks both operations, both replies and both views.
+-- After the run of two whole calls caller 1 peeks both operations, both replies and both views.
 abbrev pub gathering : List Step
 gathering =
     two_calls
@@ -79,8 +79,8 @@ ReturnsMayBeLate =
     → IsLinearizable spec (late_history_of s steps) → IsPublished (end_of s steps).locals cut
     → HasLegalOrder spec (book_at cut (book_in (end_of s steps).locals))
 
--- Caller 1 announces 6, and its object replies 1. Right before the last look of its view caller 0
--- announces 5, which the view misses.
+-- Caller 1 announces 6, and its object replies 1. Right before the last look of that call's view
+-- caller 0 announces 5, which the view misses.
 abbrev pub missed : List Step
 missed =
     announcement 1 6 (0 ∷ 0 ∷ [])
@@ -91,6 +91,7 @@ missed =
     ++ by 1 (Look N 1 1 Begins_none)
     ∷ publication 1 1 (0 ∷ 1 ∷ []) (0 ∷ 0 ∷ [])
 
--- The book at the cut of caller 1's record alone.
+-- The book at the cut of caller 1's record alone, where the view of this record misses the call of
+-- caller 0.
 abbrev pub missed_part : List Page
 missed_part = page [] [] ∷ page (6 ∷ []) (answer 1 (0 ∷ 1 ∷ []) ∷ []) ∷ []

@@ -7,7 +7,7 @@ use Rattle.world_core.specs.Local.{Local, Peeked}
 use Rattle.world_core.specs.Calls.{AreTogether, IsGathered, book_in, local_at}
 
 -- A book that a caller gathered at a cut is the book at that cut of the book of all callers. The
--- cut needn't be one of what was published, since each peeked record was published.
+-- law doesn't demand that the cut counts published records alone: each peeked record was published.
 abbrev pub GatheredIsTheBookAt : Type 0
 GatheredIsTheBookAt =
     (s : Shape) (locals : List Local) (i : ℕ) (cut : List ℕ) (book : List Page)
@@ -19,7 +19,7 @@ GatheredIsTheBookAt =
 abbrev pub HasPeekedAll : Local → Local → Type 0
 HasPeekedAll l m = (p : Peeked) → Contains l.peeked p → Contains m.peeked p
 
--- A book that a caller has gathered at a cut is still one that it has gathered there when it has
+-- A book that a caller has gathered at a cut is still gathered there by a local of it that has
 -- peeked more words.
 abbrev pub GatheredStays : Type 0
 GatheredStays = (n : ℕ) (l m : Local) (cut : List ℕ) (book : List Page) → HasPeekedAll l m

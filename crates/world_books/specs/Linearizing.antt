@@ -28,17 +28,17 @@ pub record IsHistoryOf (history : List Happening) (book : List Page) : Type 0 wh
   -- that one was invoked
   pub before : (a b : Call) → IsCall book b → Precedes book a b → ReturnsBefore history a b
 
--- The object history of a run is one of the book of its locals.
+-- The object history of every run agrees with the book of the run's locals.
 abbrev pub RunsHaveTheirHistories : Type 0
 RunsHaveTheirHistories = (s : Shape) (steps : List Step) → IsRun s steps
     → IsHistoryOf (history_of s steps) (book_in (end_of s steps).locals)
 
--- The place of a call of an order.
+-- An entry of a linearization as a place of an order: the entry's call, with its reply.
 abbrev pub place_of : Done → Place
 place_of d = record { caller = d.call.caller; number = d.call.number; reply = d.reply }
 
--- A linearization of a history of a book is a legal order of the book: it has all answered calls,
--- each with its reply, and those unanswered ones that the linearization has.
+-- A linearization of a history that agrees with a book is a legal order of the book: it has all
+-- answered calls, each with its reply, and those unanswered ones that the linearization has.
 abbrev pub LinearizationsAreLegalOrders : Type 0
 LinearizationsAreLegalOrders =
     (spec : SeqSpec) (history : List Happening) (book : List Page)
@@ -53,7 +53,7 @@ LinearizableRunsHaveLegalBooks =
     → IsLinearizable spec (history_of s steps)
     → HasLegalOrder spec (book_in (end_of s steps).locals)
 
--- Where the object history of a run is linearizable, the book at each cut of what was published has
+-- Where the object history of a run is linearizable, the book at each cut of published records has
 -- a legal order: no error is false.
 abbrev pub NoFalseError : Type 0
 NoFalseError =

@@ -36,8 +36,8 @@ page_in_rows s w i =
 abbrev pub book_in_rows : Shape → World → List Page
 book_in_rows s w = map (λ i. page_in_rows s w i) (range_with_len 0 s.callers)
 
--- How the book of the rows agrees with that of the locals: it is valid, has all their calls, and of
--- their records those that were published.
+-- The book of the rows is valid, has all calls of the book of the locals, and has of each caller's
+-- records there those that the caller has published.
 pub record AreRowsOf (rows book : List Page) (locals : ℕ → Local) : Type 0 where
   pub valid : IsValid rows
   pub operations : (call : Call) → operation_of rows call ≡ operation_of book call
@@ -50,21 +50,21 @@ RowsAreAValidBook =
     (s : Shape) (steps : List Step) → IsRun s steps → AreRowsOf (book_in_rows s (end_of s steps))
     (book_in (end_of s steps).locals) (local_of (end_of s steps))
 
--- At this cut the book of the rows is valid, and is the book of all callers' calls.
+-- The book of the rows at this cut is valid, and is the book at this cut of all callers' calls.
 abbrev pub IsInTheRows : Shape → World → List ℕ → Type 0
 IsInTheRows s w cut =
     IsValidPart (book_in_rows s w) cut (book_at cut (book_in_rows s w))
     × (book_at cut (book_in_rows s w) ≡ book_at cut (book_in w.locals))
 
--- At each cut of what was published the book of the rows is valid, and is the book of all callers'
--- calls.
+-- The book of the rows at each cut of published records is valid, and is the book at that cut of
+-- all callers' calls.
 abbrev pub BooksAtCutsAreInTheRows : Type 0
 BooksAtCutsAreInTheRows =
     (s : Shape) (steps : List Step) (cut : List ℕ) → IsRun s steps
     → IsPublished (end_of s steps).locals cut → IsInTheRows s (end_of s steps) cut
 
--- At each cut that a scan of M gave the book of the rows is the book of all callers' calls, and is
--- valid.
+-- The book of the rows at each cut that a scan of M gave is valid, and is the book at that cut of
+-- all callers' calls.
 abbrev pub BooksAtGivenCutsAreInTheRows : Type 0
 BooksAtGivenCutsAreInTheRows =
     (s : Shape) (steps : List Step) (i p : ℕ) (given : Given) → IsRun s steps → i < s.callers

@@ -1,4 +1,4 @@
--- What verdicts at seen cuts say of a run, in the words of its calls alone.
+-- What verdicts at seen cuts say of a run, stated by its calls alone.
 use Rattle.std.specs.Prelude.{◌≡◌, ℕ, ◌+◌, List, [], map, Some, slice_get, slice_index, slice_index_or}
 use Rattle.book_base.specs.declared.call.Call.{Call}
 use Rattle.book_base.specs.declared.call.Record.{Record}
@@ -14,16 +14,16 @@ use Rattle.world_core.specs.World.{Step, IsRun, end_of}
 use Rattle.world_core.specs.History.{IsLinearizable, history_of}
 use Rattle.world_core.specs.Calls.{Made, Has_seen, AreTogether, IsPublished, calls_in, book_of, book_in}
 
--- This call of some callers' calls has its record, and its caller has seen this cut after it
--- published it.
+-- A call among the calls of some callers has its record, and the cut is its seen cut: the one that
+-- its caller saw after it published the record.
 pub record HasSeenCut (calls : List (List Made)) (call : Call) (cut : List ℕ) : Type 0 where
   pub operation : ℕ
   pub answer : Record
   pub made : slice_get (slice_index_or calls call.caller []) call.number
       ≡ Some (record { operation = operation; reached = Has_seen answer cut })
 
--- How the seen cuts of the calls of these locals fit: each is one of what was published, and holds
--- its own call as the last of its caller; and any two are comparable.
+-- The seen cuts of the calls of these locals: each counts published records alone, and of its own
+-- caller's calls it holds the one that it was seen for as the last; and any two are comparable.
 pub record AreSeenCuts (locals : List Local) : Type 0 where
   pub published : (call : Call) (cut : List ℕ) → HasSeenCut (map calls_in locals) call cut
       → IsPublished locals cut
@@ -32,13 +32,13 @@ pub record AreSeenCuts (locals : List Local) : Type 0 where
   pub comparable : (a b : Call) (s t : List ℕ) → HasSeenCut (map calls_in locals) a s
       → HasSeenCut (map calls_in locals) b t → AreComparable s t
 
--- In every reachable world each seen cut of the locals is one of what was published, and holds its
--- own call as the last of its caller; and any two seen cuts are comparable.
+-- In every reachable world each seen cut counts published records alone, and of its own caller's
+-- calls it holds the one that it was seen for as the last; and any two seen cuts are comparable.
 abbrev pub SeenCutsFit : Type 0
 SeenCutsFit = (s : Shape) (locals : List Local) → AreTogether s locals → AreSeenCuts locals
 
--- Where the book at a cut of what a run published has no legal order, the object history of the run
--- isn't linearizable.
+-- Where the book at a cut of a run's published records has no legal order, the object history of
+-- the run isn't linearizable.
 abbrev pub NoRunHasThisError : Type 0
 NoRunHasThisError =
     (spec : SeqSpec) (s : Shape) (steps : List Step) (cut : List ℕ)
@@ -47,8 +47,8 @@ NoRunHasThisError =
     → ¬ HasLegalOrder spec (book_at cut (book_in (end_of s steps).locals))
     → ¬ IsLinearizable spec (history_of s steps)
 
--- Where the book of some calls has no legal order at a cut that one of them has seen, this is so of
--- every run that ends with these calls, whatever its program and its cap.
+-- Where the book of some calls has no legal order at a cut that one of them has seen, no run that
+-- ends with these calls has a linearizable object history, whatever its program and its cap.
 abbrev pub NoRunHasThisErrorSeen : Type 0
 NoRunHasThisErrorSeen =
     (spec : SeqSpec) (calls : List (List Made)) (call : Call)
@@ -57,16 +57,17 @@ NoRunHasThisErrorSeen =
     → (s : Shape) (steps : List Step) → IsRun s steps → map calls_in (end_of s steps).locals ≡ calls
     → ¬ IsLinearizable spec (history_of s steps)
 
--- Each of these cuts was seen by one of the calls of these locals, and their book at it has a legal
--- order.
+-- Each of these cuts was seen by one of the calls of these locals, and the book of the locals at
+-- that cut has a legal order.
 abbrev pub AreDelivered : SeqSpec → List Local → List (List ℕ) → Type 0
 AreDelivered spec locals cuts =
     (k : ℕ) (cut : List ℕ) → slice_get cuts k ≡ Some cut
     → (call : Call) × HasSeenCut (map calls_in locals) call cut
     × HasLegalOrder spec (book_at cut (book_in locals))
 
--- One cut has all delivered calls: it is one of what was published, contains each of their cuts,
--- holds each of them, and the book at it has a legal order and the record of each.
+-- One cut has all delivered calls: it counts published records alone, contains each of their seen
+-- cuts, and holds each of them; and the book at it has a legal order, and the record of each call
+-- that the cut holds.
 pub record HasAllDelivered (spec : SeqSpec) (locals : List Local) (cuts : List (List ℕ))
     (all : List ℕ) : Type 0 where
   pub published : IsPublished locals all
@@ -77,8 +78,8 @@ pub record HasAllDelivered (spec : SeqSpec) (locals : List Local) (cuts : List (
       → record_of (book_at all (book_in locals)) call ≡ record_of (book_in locals) call
   pub one_order : HasLegalOrder spec (book_at all (book_in locals))
 
--- The greatest counts of the cuts of delivered calls are a cut that has all delivered calls. Where
--- no call is delivered, all its counts are 0, and the order is empty.
+-- The cut of the greatest counts of the seen cuts of delivered calls has all delivered calls. Where
+-- no call is delivered, all its counts are 0.
 abbrev pub DeliveredCallsStandInOne : Type 0
 DeliveredCallsStandInOne =
     (spec : SeqSpec) (s : Shape) (locals : List Local)

@@ -8,12 +8,12 @@ pub fn books_are_valid()
     ensures { BooksAreValid }
 {}
 
-/// At every cut of published records, comparable with the views or not, the book of the locals is
-/// valid, and its record counts are the cut.
+/// At every cut of published records, comparable with the views or not, the book of the locals at
+/// this cut is valid, and its record counts are the cut.
 pub fn books_at_published_cuts()
-    // A cut of what was published is within the record counts of the book.
+    // A cut of published records is within the record counts of the book.
     ensures within { PublishedCutsAreWithin }
-    // At each cut of what was published the book of the locals is valid, and its record counts are
-    // the cut.
+    // At each cut of published records the book of the locals at this cut is valid, and its record
+    // counts are the cut.
     ensures books { BooksAtPublishedCuts }
 {}

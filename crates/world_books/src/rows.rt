@@ -8,10 +8,10 @@ pub fn rows_are_a_valid_book()
     ensures { RowsAreAValidBook }
 {}
 
-/// The book of the rows at a cut of what was published, so at each cut that a scan of the region of
-/// answers gave, is a valid book, and is the book at that cut of all callers' calls.
+/// At a cut of published records, and so at each cut that a scan of M gave, the book of the rows is
+/// valid, and is the book at that cut of all callers' calls.
 pub fn books_at_cuts_are_in_the_rows()
-    // The book of the rows at each cut of what was published is valid, and is the book at that cut
+    // The book of the rows at each cut of published records is valid, and is the book at that cut
     // of all callers' calls.
     ensures published { BooksAtCutsAreInTheRows }
     // The book of the rows at each cut that a scan of M gave is valid, and is the book at that cut

@@ -39,11 +39,11 @@ unseen_records Viewing = 0
 unseen_records Publishing = 0
 unseen_records Judging = 1
 
--- The counts of a local and the lengths of its lists are those of its phase: the announced calls,
--- the replies and the views are more than the published records by as many as have no published
--- record in this phase; the seen cuts are fewer than the published records by as many as have no
--- seen cut in it; there are as many operations, cuts embedded in N and lists of object steps as
--- announced calls, and as many cuts embedded in M as published records.
+-- The counts of a local and the lengths of its lists are those that its phase demands: the
+-- announced calls, the replies and the views are more than the published records by as many as have
+-- no published record in this phase; the seen cuts are fewer than the published records by as many
+-- as have no seen cut in it; there are as many operations, cuts embedded in N and lists of object
+-- steps as announced calls, and as many cuts embedded in M as published records.
 pub record HasPhase (l : Local) : Type 0 where
   pub announced : l.announced ≡ l.published + unpublished_calls l.phase
   pub operations : length l.operations ≡ l.announced
@@ -87,10 +87,10 @@ pub record IsInRow (s : Shape) (words : List ℕ) (i : ℕ) (l : Local) (region 
   pub due : IsTrue (is_due l (content s.callers region place) (staged_at l.staged place))
 
 -- The local of caller i agrees with the words of the table: its own counts are its count words; it
--- has announced at most as many calls as the cap says; each row below its count in a region has
--- there the words of its call; at each place where a word is staged, the word that was staged last
--- is in the row under way; and its staged words, its cut to embed, its counts and lists, and its
--- scan under way fit its phase.
+-- has announced at most as many calls as the cap says; each row whose number is below its count in
+-- a region has the words of its call there; at each place where a word is staged, the word that was
+-- staged last is in the row under way; and its staged words, its cut to embed, its counts and
+-- lists, and its scan under way fit its phase.
 pub record Agrees (s : Shape) (words : List ℕ) (i : ℕ) (l : Local) : Type 0 where
   pub counts : (region : Region)
       → slice_index words (count_index s.callers region i) ≡ own_count l region

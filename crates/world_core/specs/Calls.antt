@@ -45,8 +45,8 @@ call_in l k = record { operation = slice_index l.operations k; reached = reached
 abbrev pub calls_in : Local → List Made
 calls_in l = map (λ k. call_in l k) (range_with_len 0 (length l.operations))
 
--- The record of a call that has come so far, as a list, which is empty where the call has no
--- record.
+-- The record of a call that has come this far, as a list of one, or the empty list where the call
+-- has no record.
 abbrev pub records_of : Reached → List Record
 records_of Is_announced = []
 records_of (Has_record r) = r ∷ []

@@ -49,8 +49,7 @@ is_staging Announcing N = true
 is_staging Publishing M = true
 is_staging _ _ = false
 
--- Whether x is the entry for caller j of the cut to embed. Without a cut to embed no number is such
--- an entry.
+-- Whether x is the entry for caller j of the cut to embed; no where there is no cut to embed.
 abbrev pub is_entry_to_embed : Option (List ℕ) → ℕ → ℕ → Bool
 is_entry_to_embed None j x = false
 is_entry_to_embed (Some cut) j x = x == slice_index cut j
@@ -221,8 +220,8 @@ abbrev pub given_by : Scan → List ℕ → Given
 given_by scan cut = record { region = scan.region; cut = cut; since = scan.since }
 
 -- The local after its scan under way took a word, given what the scan needs next. A scan that is
--- done with a cut is under way no more, and its cut is added to those that were given and serves
--- its purpose. Any other scan stays under way.
+-- done with a cut ends, and its cut is added to those that were given and serves its purpose. Any
+-- other scan stays under way.
 abbrev pub went_on : Local → Scan → Want → Local
 went_on l scan (Done cut) =
     served (record l { scan = None; cuts = l.cuts ++ given_by scan cut ∷ [] })
@@ -255,7 +254,7 @@ fed n l (Some scan) region is_it x =
     then went_on l (with_word scan x) (wanted n (with_word scan x).taken)
     else l
 
--- A scan of a region that the local's caller begins now, and that has taken no word.
+-- The scan of a region that the local's caller is about to begin: it has taken no word.
 abbrev pub begun : Local → Region → Bool → Scan
 begun l region is_view =
     record { region = region; is_view = is_view; since = length l.looked; taken = [] }
@@ -280,7 +279,7 @@ with_look l look = record l { looked = look ∷ l.looked }
 abbrev pub with_peek : Local → Peeked → Local
 with_peek l peek = record l { peeked = peek ∷ l.peeked }
 
--- The cut that the row under way is to embed, or the empty cut where there is no such cut.
+-- The cut that the row under way is to embed, or the empty cut where there is no cut to embed.
 abbrev pub cut_to_embed : Local → List ℕ
 cut_to_embed l = unwrap_or l.to_embed []
 

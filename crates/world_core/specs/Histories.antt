@@ -4,8 +4,8 @@ use Rattle.book_base.specs.declared.call.Call.{Call}
 use Rattle.book_base.specs.SeqSpec.{SeqSpec}
 use Rattle.world_core.specs.History.{Happening, Invoked, Returned, Done, call_of}
 
--- An object that adds each operation to its list, and whose reply is the length of its list before:
--- from the empty list on, the number of operations before.
+-- An object that adds each operation to its list, and replies how long the list was before. It
+-- begins with the empty list, so its reply is the number of operations before.
 abbrev pub numbering : SeqSpec
 numbering = record { init = []; next = λ list operation. (operation ∷ list, length list) }
 
@@ -17,11 +17,11 @@ first = call_of 0 0
 abbrev pub second : Call
 second = call_of 1 0
 
--- The first call returns 1, and after that the second is invoked, which returns 0.
+-- The call of caller 0 returns 1; after that the call of caller 1 is invoked, and it returns 0.
 abbrev pub one_after_another : List Happening
 one_after_another = Invoked first 5 ∷ Returned first 1 ∷ Invoked second 6 ∷ Returned second 0 ∷ []
 
--- Both calls are invoked before the first returns 1 and the second 0.
+-- The calls of the callers 0 and 1 are both invoked before the first returns 1 and the second 0.
 abbrev pub side_by_side : List Happening
 side_by_side = Invoked first 5 ∷ Invoked second 6 ∷ Returned first 1 ∷ Returned second 0 ∷ []
 
@@ -29,14 +29,14 @@ side_by_side = Invoked first 5 ∷ Invoked second 6 ∷ Returned first 1 ∷ Ret
 abbrev pub reply_of_another : List Happening
 reply_of_another = Invoked first 5 ∷ Returned first 60 ∷ []
 
--- The first call is invoked and never returns; the second, invoked after it, returns 1.
+-- The call of caller 0 is invoked and never returns; that of caller 1, invoked later, returns 1.
 abbrev pub after_unanswered : List Happening
 after_unanswered = Invoked first 5 ∷ Invoked second 6 ∷ Returned second 1 ∷ []
 
--- The first call is invoked and never returns; the second, invoked after it, returns 0.
+-- The call of caller 0 is invoked and never returns; that of caller 1, invoked later, returns 0.
 abbrev pub without_unanswered : List Happening
 without_unanswered = Invoked first 5 ∷ Invoked second 6 ∷ Returned second 0 ∷ []
 
--- The order of the second call alone, with the reply 0.
+-- The order of the call of caller 1 alone, with the reply 0.
 abbrev pub second_alone : List Done
 second_alone = record { call = second; operation = 6; reply = 0 } ∷ []

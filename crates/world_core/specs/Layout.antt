@@ -4,8 +4,8 @@ use Rattle.std.specs.Prelude.{ℕ, zero, suc, ◌+◌, ◌-◌, ◌*◌, nat_lt,
 use Rattle.world_core.specs.declared.region.Region.{Region}
 use Rattle.world_core.specs.declared.region.Region.TheVariants.{N, M}
 
--- What a place of a row is for: the low or the high word of the operation, the reply, the entry for
--- a caller of the view, or the entry for a caller of the cut that the row embeds in a region.
+-- What a place of a row is for: the low or the high word of the operation; the reply; the view's
+-- entry for a caller; or the entry for a caller of the cut that the row embeds in a region.
 pub data Content : Type 0 where
   Low : Content
   High : Content
@@ -26,7 +26,7 @@ abbrev pub entry_after_reply : ℕ → ℕ → Content
 entry_after_reply n j = if nat_lt j n then View_entry j else Embedded_entry M (j - n)
 
 -- What a place of a region is for, with n callers. The definition gives an answer at places past
--- the region's number of places too, but no enabled event names such a place.
+-- the region's number of places too, but no enabled event names one of them.
 abbrev pub content : ℕ → Region → ℕ → Content
 content n N zero = Low
 content n N (suc zero) = High

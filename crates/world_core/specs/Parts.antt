@@ -1,4 +1,4 @@
--- Values at which the definitions of the world hold or fail by one part alone.
+-- Values for which the definitions of the world hold, or fail because of one part alone.
 use Rattle.std.specs.Prelude.{ℕ, ◌+◌, ◌*◌, ◌^◌, Bool, true, List, [], ◌∷◌, ◌++◌, map, replicate, Some}
 use Rattle.book_base.specs.Book.{Page}
 use Rattle.world_core.specs.declared.region.Region.{Region}
@@ -19,12 +19,12 @@ phases = Announcing ∷ Asking ∷ Viewing ∷ Publishing ∷ Judging ∷ []
 abbrev pub scan_of : Region → Bool → Scan
 scan_of region is_view = record { region = region; is_view = is_view; since = 0; taken = [] }
 
--- The word staged at a place.
+-- A word as staged at a place.
 abbrev pub staged_word : ℕ → ℕ → Staged
 staged_word place word = record { place = place; word = word }
 
--- What the cut of a scan serves in each of the five phases, given the staged words, the region of
--- the scan, and whether it is the view's.
+-- What the cut of a scan becomes in each of the five phases (the cut to embed, the view, the seen
+-- cut, or nothing), given the staged words, the scan's region, and whether it is the view's scan.
 abbrev pub purposes : List Staged → Region → Bool → List Purpose
 purposes staged region is_view = map (λ p. purpose_of p staged (scan_of region is_view)) phases
 
@@ -78,7 +78,7 @@ span_given_up = span_to_look (announcement 0 5 (0 ∷ [])) (by 0 (Look N 0 1 Beg
 abbrev pub given_since : ℕ → Given
 given_since since = record { region = N; cut = 1 ∷ []; since = since }
 
--- No callers, and one object word.
+-- The shape of a world without callers and with one object word.
 abbrev pub nobody : Shape
 nobody = record { callers = 0; cap = 1; program = scrap }
 
@@ -118,19 +118,19 @@ abbrev pub lacking_none : ℕ → Local
 lacking_none count = with_peeks (low_peek ∷ high_peek ∷ reply_peek ∷ entry_peek count
     ∷ peek_of N 0 1 0 6 ∷ peek_of N 0 1 1 0 ∷ [])
 
--- A local that has peeked the words of the first call but the low word of the operation.
+-- A local that has peeked all words of the first call but the low word of the operation.
 abbrev pub lacking_low : Local
 lacking_low = with_peeks (high_peek ∷ reply_peek ∷ entry_peek 1 ∷ [])
 
--- A local that has peeked the words of the first call but the high word of the operation.
+-- A local that has peeked all words of the first call but the high word of the operation.
 abbrev pub lacking_high : Local
 lacking_high = with_peeks (low_peek ∷ reply_peek ∷ entry_peek 1 ∷ [])
 
--- A local that has peeked the words of the first call but the reply.
+-- A local that has peeked all words of the first call but the reply.
 abbrev pub lacking_reply : Local
 lacking_reply = with_peeks (low_peek ∷ high_peek ∷ entry_peek 1 ∷ [])
 
--- A local that has peeked the words of the first call but the view's entry.
+-- A local that has peeked all words of the first call but the view's entry.
 abbrev pub lacking_entry : Local
 lacking_entry = with_peeks (low_peek ∷ high_peek ∷ reply_peek ∷ [])
 

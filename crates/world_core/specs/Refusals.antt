@@ -1,6 +1,6 @@
--- Steps that are refused after worked runs of two callers, since they aren't enabled there, beside
--- like steps that are enabled; locals that know of rows in one way; and a program that allows
--- little.
+-- Steps that aren't enabled after worked runs of two callers, beside like steps that are enabled;
+-- locals each of which knows of counted rows in one way alone; and a program that allows one step
+-- and one reply.
 use Rattle.std.specs.Prelude.{◌-◌, ◌^◌, ◌==◌, ◌&&◌, List, [], ◌∷◌, ◌++◌}
 use Rattle.world_core.specs.declared.region.Region.TheVariants.{N, M}
 use Rattle.world_core.specs.Shape.{Shape}
@@ -23,29 +23,29 @@ allowed_at_start =
 -- Steps that aren't enabled at the start.
 abbrev pub refused_at_start : List Step
 refused_at_start =
-    -- there are only the callers 0 and 1
+    -- a stage of caller 2, where there are only the callers 0 and 1
     by 2 (Stage N 0 5)
-    -- a row of two callers has only the places 0 to 3 in N
+    -- a stage at place 4 in N, where a row of two callers has only the places 0 to 3
     ∷ by 0 (Stage N 4 0)
-    -- no scan has given a cut to embed
+    -- a stage of an entry of the embedded cut, before a scan has given a cut to embed
     ∷ by 0 (Stage N 2 0)
-    -- the low and the high word of an operation are below 2^64
+    -- stages of a low and a high word that aren't below 2^64
     ∷ by 0 (Stage N 0 (2 ^ 64))
     ∷ by 0 (Stage N 1 (2 ^ 64))
-    -- the phase announce stages only the row of N
+    -- a stage in M, where the phase announce stages only the row of N
     ∷ by 0 (Stage M 0 0)
-    -- no word is staged
+    -- an announcement and a publication, where no word is staged
     ∷ by 0 Announce
     ∷ by 0 Publish
-    -- only the callers 0 and 1 have counts
+    -- a look at a count of caller 2, where only the callers 0 and 1 have counts
     ∷ by 0 (Look N 2 0 Begins_none)
-    -- the count of caller 1 is 0, not 1
+    -- a look that finds the count 1 of caller 1, which is 0
     ∷ by 0 (Look N 1 1 Begins_none)
-    -- the look that begins a scan is at caller 0
+    -- a scan that begins with a look at caller 1, where each scan begins with one at caller 0
     ∷ by 0 (Look N 1 0 Begins_scan)
-    -- the view's scan begins only in the phase ask
+    -- a view's scan, which begins only in the phase ask
     ∷ by 0 (Look N 0 0 (Begins_view 50))
-    -- the caller knows of no counted row
+    -- a peek into a row that the caller doesn't know to be counted
     ∷ by 0 (Peek N 1 0 0 0)
     ∷ []
 
@@ -60,9 +60,9 @@ allowed_as_scanned = by 0 (Stage N 2 0) ∷ by 0 (Stage N 3 0) ∷ []
 -- Stages that aren't enabled after `scanned`.
 abbrev pub refused_as_scanned : List Step
 refused_as_scanned =
-    -- the entry of the cut to embed is 0, not 1
+    -- a stage of 1 as the entry for caller 0 of the cut to embed, which is 0
     by 0 (Stage N 2 1)
-    -- a cut of two callers has no third entry
+    -- a stage of a third entry of the cut to embed, which has two
     ∷ by 0 (Stage N 4 0)
     ∷ []
 
@@ -91,15 +91,15 @@ allowed_as_asked =
 -- Steps of caller 0 that aren't enabled in the phase ask, after `asked`.
 abbrev pub refused_as_asked : List Step
 refused_as_asked =
-    -- the view's scan is of N
+    -- a view's scan that begins in M, where it has to be of N
     by 0 (Look M 0 0 (Begins_view 50))
-    -- the look that begins the view's scan is at caller 0
+    -- a view's scan that begins with a look at caller 1, where it has to begin with one at caller 0
     ∷ by 0 (Look N 1 0 (Begins_view 50))
-    -- a reply is below 2^64
+    -- a view's scan with a reply that isn't below 2^64
     ∷ by 0 (Look N 0 1 (Begins_view (2 ^ 64)))
-    -- an object outside the world has no object words
+    -- an object step, where the object is outside the world and there are no object words
     ∷ by 0 (Object (object_step 0 0 0))
-    -- the phase ask stages no row
+    -- stages, where the phase ask stages no row
     ∷ by 0 (Stage M 0 0)
     ∷ by 0 (Stage N 0 0)
     ∷ []
@@ -117,9 +117,9 @@ allowed_as_viewing =
 -- Looks of caller 0 that aren't enabled in the phase view, after `viewing`.
 abbrev pub refused_as_viewing : List Step
 refused_as_viewing =
-    -- no other scan begins while the view's scan is under way
+    -- another scan, while the view's scan is under way
     by 0 (Look N 0 1 Begins_scan)
-    -- the view's scan begins only in the phase ask
+    -- the view's scan again, which begins only in the phase ask
     ∷ by 0 (Look N 0 1 (Begins_view 50))
     ∷ []
 
@@ -135,9 +135,9 @@ ready = viewed ++ scan 0 M Begins_scan (0 ∷ 0 ∷ [])
 -- Stages of caller 0 that aren't enabled after `viewed`.
 abbrev pub refused_as_viewed : List Step
 refused_as_viewed =
-    -- no scan of M has given a cut to embed
+    -- a stage of an entry of the embedded cut, before a scan of M has given a cut to embed
     by 0 (Stage M 3 0)
-    -- the phase publish stages only the row of M
+    -- a stage in N, where the phase publish stages only the row of M
     ∷ by 0 (Stage N 0 5)
     ∷ []
 
@@ -149,13 +149,13 @@ allowed_as_ready = by 0 (Stage M 0 50) ∷ by 0 (Stage M 1 1) ∷ by 0 (Stage M 
 -- Stages of caller 0 that aren't enabled after `ready`.
 abbrev pub refused_as_ready : List Step
 refused_as_ready =
-    -- the reply is 50, not 51
+    -- a stage of the reply 51, where the reply is 50
     by 0 (Stage M 0 51)
-    -- the view's entry for caller 1 is 1, not 0
+    -- a stage of 0 as the view's entry for caller 1, which is 1
     ∷ by 0 (Stage M 2 0)
-    -- the entry for caller 1 of the cut to embed is 0, not 1
+    -- a stage of 1 as the entry for caller 1 of the cut to embed, which is 0
     ∷ by 0 (Stage M 4 1)
-    -- a row of two callers has only the places 0 to 4 in M
+    -- a stage at place 5 in M, where a row of two callers has only the places 0 to 4
     ∷ by 0 (Stage M 5 0)
     ∷ []
 
@@ -166,9 +166,9 @@ staged_four = ready ++ stages 0 M 0 (50 ∷ 1 ∷ 1 ∷ 0 ∷ [])
 -- Steps of caller 0 that aren't enabled after `staged_four`.
 abbrev pub refused_as_staged_four : List Step
 refused_as_staged_four =
-    -- the last entry of the cut to embed isn't staged
+    -- a publication, where the last entry of the cut to embed isn't staged
     by 0 Publish
-    -- an announcement needs the phase announce
+    -- an announcement, which needs the phase announce
     ∷ by 0 Announce
     ∷ []
 
@@ -187,15 +187,15 @@ allowed_as_looked = by 1 (Peek N 0 0 0 5) ∷ by 1 (Peek N 0 0 1 0) ∷ by 1 (Pe
 -- Peeks of caller 1 that aren't enabled after `looked`.
 abbrev pub refused_as_looked : List Step
 refused_as_looked =
-    -- the count that caller 1 found is 1, so it knows of no row numbered 1
+    -- a peek into the second row of caller 0, where caller 1 found the count 1
     by 1 (Peek N 0 1 0 0)
-    -- caller 1 has looked at no count of its own
+    -- a peek into a row of caller 1, which has looked at no count of its own
     ∷ by 1 (Peek N 1 0 0 0)
-    -- caller 1 has looked at no count of M
+    -- a peek into a row of M, where caller 1 has looked at no count of M
     ∷ by 1 (Peek M 0 0 0 0)
-    -- a row of two callers has only the places 0 to 3 in N
+    -- a peek at place 4 in N, where a row of two callers has only the places 0 to 3
     ∷ by 1 (Peek N 0 0 4 0)
-    -- the low word of the operation is 5, not 6
+    -- a peek that finds 6 as the low word of the operation, which is 5
     ∷ by 1 (Peek N 0 0 0 6)
     ∷ []
 
@@ -220,30 +220,30 @@ entry_peeked = reply_peeked ++ by 1 (Peek M 0 0 1 1) ∷ []
 -- Peeks of caller 1 that aren't enabled after `entry_peeked`.
 abbrev pub refused_as_entry_peeked : List Step
 refused_as_entry_peeked =
-    -- the peeked entry for caller 0 is 1, so caller 1 knows of no row numbered 1
+    -- a peek into the second row of caller 0, where the peeked entry for caller 0 is 1
     by 1 (Peek N 0 1 0 0)
-    -- the peeked entry is for caller 0, not for caller 1
+    -- a peek into a row of caller 1, where the peeked entry is for caller 0
     ∷ by 1 (Peek N 1 0 0 0)
     ∷ []
 
--- A local that knows of the first row of caller 0 in N, by a look at a count of N alone.
+-- A local that knows of the first row of caller 0 in N only by a look at a count of N.
 abbrev pub looked_in_N : Local
 looked_in_N = record fresh { looked = record { region = N; caller = 0; count = 1 } ∷ [] }
 
--- A local that knows of the first row of caller 0 in M, by a look at a count of M alone.
+-- A local that knows of the first row of caller 0 in M only by a look at a count of M.
 abbrev pub looked_in_M : Local
 looked_in_M = record fresh { looked = record { region = M; caller = 0; count = 1 } ∷ [] }
 
--- A local that knows of the first row of caller 0 in N, by a cut that a scan of N gave alone.
+-- A local that knows of the first row of caller 0 in N only by a cut that a scan of N gave.
 abbrev pub cut_of_N : Local
 cut_of_N = record fresh { cuts = record { region = N; cut = 1 ∷ 0 ∷ []; since = 0 } ∷ [] }
 
--- A local that knows of the first row of caller 0 in M, by a cut that a scan of M gave alone.
+-- A local that knows of the first row of caller 0 in M only by a cut that a scan of M gave.
 abbrev pub cut_of_M : Local
 cut_of_M = record fresh { cuts = record { region = M; cut = 1 ∷ 0 ∷ []; since = 0 } ∷ [] }
 
--- A local that knows of the first row of caller 0 in N, by the entry of a view alone, which it
--- peeked from a row of M of caller 1.
+-- A local that knows of the first row of caller 0 in N only by the entry of a view, which it peeked
+-- from a row of M of caller 1.
 abbrev pub view_peeked : Local
 view_peeked =
     record fresh { peeked = record { region = M; caller = 1; row = 0; place = 1; word = 1 } ∷ [] }

@@ -39,8 +39,9 @@ abbrev pub mover : List ℕ → List ℕ → Option ℕ
 mover first latest = mover_from 0 first latest
 
 -- What a scan does next, given its latest collect and the caller that has moved twice since the
--- first, if there is one: it borrows the cut that this caller's latest row, by the count of the
--- latest collect, embeds; and where no caller has moved twice it makes the next collect.
+-- first, if there is one. It borrows the cut that this caller's latest row embeds, whose number is
+-- 1 less than the caller's count in the latest collect. Where no caller has moved twice it makes
+-- the next collect.
 abbrev pub lent_by : List ℕ → Option ℕ → Course
 lent_by latest None = Collects
 lent_by latest (Some j) = Borrows j (slice_index latest j - 1)
@@ -55,15 +56,15 @@ course_by first None latest = Collects
 course_by first (Some before) latest =
     if is_same_cut before latest then Ends latest else lent_by latest (mover first latest)
 
--- The words of the last of the first k rounds; where k is 0 there is no such round.
+-- The words of the last of the first k rounds, or none where k is 0.
 abbrev pub last_of : ℕ → List ℕ → ℕ → Option (List ℕ)
 last_of n taken zero = None
 last_of n taken (suc k) = Some (round n taken k)
 
 -- What a scan does after a round, given the first round, the round before the latest, if there is
--- one, the latest round, and what the scan did in the latest. After a collect the scan goes by its
--- collects. The entries of a borrowed cut end the scan with that cut. A scan that has ended stays
--- ended with its cut.
+-- one, the latest round, and what the scan did in the latest. After a collect it ends, borrows or
+-- collects again, as `course_by` says. After the round in which it peeked a borrowed cut it ends
+-- with that cut. A scan that has ended stays ended with its cut.
 abbrev pub course_on : List ℕ → Option (List ℕ) → List ℕ → Course → Course
 course_on first last latest Collects = course_by first last latest
 course_on first last latest (Borrows j row) = Ends latest
@@ -76,7 +77,7 @@ course_after n taken zero = Collects
 course_after n taken (suc k) =
     course_on (round n taken 0) (last_of n taken k) (round n taken k) (course_after n taken k)
 
--- What a scan that has taken these words does now: what it does after all of its whole rounds.
+-- What a scan does that has taken these words: what it does after all of its whole rounds.
 abbrev pub course : ℕ → List ℕ → Course
 course n taken = course_after n taken (rounds n taken)
 
@@ -96,8 +97,8 @@ wanted n taken = wanted_by (course n taken) (open_round n taken)
 abbrev pub first_caller : ℕ
 first_caller = 0
 
--- What a scan needs next fits n callers where a look is at one of them, a peek is into a row of one
--- of them and at an entry for one of them, and the cut of a scan that is done has n counts.
+-- What a scan needs next fits n callers: a look is at the count of one of them; a peek is into a
+-- row of one of them, at an entry for one of them; and the cut of a scan that is done has n counts.
 abbrev pub FitsCallers : ℕ → Want → Type 0
 FitsCallers n (Look j) = j < n
 FitsCallers n (Peek j row entry) = (j < n) × (entry < n)

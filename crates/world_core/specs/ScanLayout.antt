@@ -6,7 +6,7 @@ use Rattle.world_core.specs.declared.course.Course.TheVariants.{Collects, Borrow
 use Rattle.world_core.specs.declared.scan_core.ScanCore.TheInside.{Inside}
 use Rattle.world_core.specs.Standing.{ScanState}
 
--- The state of a scan that its fields keep.
+-- The state of a scan, read off the fields of its `ScanCore`.
 abbrev pub standing_of : Inside → ScanState
 standing_of c =
     record {
@@ -19,20 +19,20 @@ standing_of c =
       course = c.course;
     }
 
--- A round, if there is one, has n words.
+-- A round of a scan of n callers, if there is one, has n words.
 abbrev pub FitsRound : ℕ → Option (List ℕ) → Type 0
 FitsRound n round = MatchOption round (Unit {0}) (λ words. length words ≡ n)
 
--- What a scan does fits n callers where it borrows from one of them, or ends with n counts, or
--- collects.
+-- What a scan of n callers does at present fits them: it collects, borrows from one of them, or has
+-- ended with a cut of n counts.
 abbrev pub FitsCourse : ℕ → Course → Type 0
 FitsCourse n Collects = Unit {0}
 FitsCourse n (Borrows j row) = j < n
 FitsCourse n (Ends cut) = length cut ≡ n
 
--- The fields of a scan keep a state: the caller that scans is one of the callers, the round under
--- way has fewer words than there are callers, the first and the last round, if there is one, have
--- one word for each caller, and what the scan does fits the callers.
+-- The fields of a `ScanCore` fit one another: the caller that scans is one of the callers, the
+-- round under way has fewer words than there are callers, the first and the last round, if there is
+-- one, have one word for each caller, and what the scan does fits the callers.
 pub record IsWhole (c : Inside) : Type 0 where
   pub me : c.me < length c.current
   pub lacks : c.taken < length c.current

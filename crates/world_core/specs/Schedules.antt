@@ -176,7 +176,7 @@ scans_given_up =
     ∷ []
 
 -- Caller 0, in the phase ask, makes a whole scan of N that doesn't carry the object's reply, and
--- whose cut serves nothing.
+-- whose cut becomes neither the view nor a cut to embed.
 abbrev pub scan_for_nothing : List Step
 scan_for_nothing = scan 0 N Begins_scan (1 ∷ 0 ∷ [])
 
@@ -205,8 +205,7 @@ scanned_twice = scan 0 N Begins_scan (0 ∷ 0 ∷ []) ++ announcement 1 6 (0 ∷
     ++ scan 0 N Begins_scan (0 ∷ 1 ∷ [])
 
 -- Caller 0 scans N twice, with an announcement of caller 1 between, and stages a word before the
--- second scan: the cut of the first scan is the one to embed, and that of the second serves
--- nothing.
+-- second scan: the cut of the first scan is the one to embed, and that of the second has no use.
 abbrev pub scanned_late : List Step
 scanned_late = scan 0 N Begins_scan (0 ∷ 0 ∷ []) ++ announcement 1 6 (0 ∷ 0 ∷ [])
     ++ by 0 (Stage N 0 5) ∷ scan 0 N Begins_scan (0 ∷ 1 ∷ [])
@@ -247,7 +246,7 @@ borrowed =
     ∷ by 2 (Peek N 0 1 4 0)
     ∷ []
 
--- The steps before the fourth collect of caller 2.
+-- The steps of the run `borrowing` before the fourth collect of caller 2.
 abbrev pub moved_twice : List Step
 moved_twice = three_collects ++ moved_again
 

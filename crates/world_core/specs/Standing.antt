@@ -1,10 +1,11 @@
--- The state of a scan: what is kept of the words that it has taken.
+-- The state of a scan: what is kept of the words that it has taken. The words make rounds of one
+-- word for each caller: those of a collect, or those of the peeks at an embedded cut.
 use Rattle.std.specs.Prelude.{ℕ, zero, suc, List, Option, Some, None}
 use Rattle.world_core.specs.declared.region.Region.{Region}
 use Rattle.world_core.specs.declared.course.Course.{Course}
 use Rattle.world_core.specs.Scan.{rounds, round, last_of, open_round, course}
 
--- The words of the first of k rounds; where k is 0 there is no such round.
+-- The words of the first of the k whole rounds of a scan of n callers, or none where k is 0.
 abbrev pub first_of : ℕ → List ℕ → ℕ → Option (List ℕ)
 first_of n taken zero = None
 first_of n taken (suc k) = Some (round n taken 0)

@@ -22,12 +22,12 @@ both_return_0 = Invoked first 5 ∷ Returned first 0 ∷ Invoked again 5 ∷ Ret
 abbrev pub second_returns_1 : List Happening
 second_returns_1 = Invoked second 6 ∷ Returned second 1 ∷ []
 
--- The first call returns 1, and after that the second is invoked, which never returns.
+-- The call of caller 0 returns 1; after that the call of caller 1 is invoked, and it never returns.
 abbrev pub before_unanswered : List Happening
 before_unanswered = Invoked first 5 ∷ Returned first 1 ∷ Invoked second 6 ∷ []
 
--- The third call returns 3 and then the fourth 0, before the first is invoked, which returns 1. The
--- second overlaps all of them, and returns 2.
+-- The call of caller 2 returns 3, and then that of caller 3 returns 0, before the call of caller 0
+-- is invoked, which returns 1. The call of caller 1 overlaps all of them, and returns 2.
 abbrev pub beside_all : List Happening
 beside_all =
     Invoked second 6
@@ -40,7 +40,8 @@ beside_all =
     ∷ Returned second 2
     ∷ []
 
--- The first call never returns. The second returns 1, and the third, invoked after that, returns 3.
+-- The call of caller 0 never returns. That of caller 1 returns 1, and that of caller 2, invoked
+-- after this return, returns 3.
 abbrev pub returns_1_and_3 : List Happening
 returns_1_and_3 =
     Invoked first 5 ∷ Invoked second 6 ∷ Returned second 1 ∷ Invoked third 7 ∷ Returned third 3 ∷ []

@@ -1,12 +1,13 @@
 use book_base::Cut;
 
-/// What a scan does now.
+/// What a scan does at present.
 #[derive(Clone, Copy, Debug)]
 pub enum Course {
-    /// It makes a collect: a look at the count of each caller.
+    /// The scan makes a collect: it looks at the count of each caller in turn.
     Collects,
-    /// It peeks the cut that a row of a caller embeds, entry by entry: the caller, and the row.
+    /// The scan peeks, entry by entry, the cut that one row embeds: the caller that the row is of,
+    /// and the row's number.
     Borrows(u32, u64),
-    /// Nothing, since it has ended with this cut.
+    /// The scan has ended, with this cut.
     Ends(Cut),
 }

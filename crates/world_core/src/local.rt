@@ -1,10 +1,11 @@
 use std::marker::Model;
 
 /// One caller's state in the world: its operations, replies and views, its counts, its phase, its
-/// staged words, its scan under way, and what it has looked at, peeked and been given.
+/// staged words, its scan under way, the counts that it looked at, the words that it peeked, and
+/// the cuts that its scans gave.
 ///
-/// Clauses see a value as the local that `specs/Local.antt` defines. The table keeps locals in what
-/// its seats know, in clauses alone, so no code makes a value of this type.
+/// Clauses see a value as the local that `specs/Local.antt` defines. Locals occur in clauses alone,
+/// as what the seats of the table know, so no code makes a value of this type.
 pub struct Local;
 
 impl Model for Local {

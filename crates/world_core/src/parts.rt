@@ -1,5 +1,5 @@
-//! The small definitions of the world, value by value; and for each part of the larger ones a value
-//! that lacks this part alone.
+//! The small definitions of the world, checked value by value; and, for each condition of the
+//! larger ones, a value that fails this condition alone.
 
 ghost use Rattle.std.specs.Prelude.{◌≡◌, true, false, [], ◌∷◌, ◌++◌, IsTrue, Some, None, map, replicate};
 ghost use Rattle.world_core.specs.declared.region.Region.TheVariants.{N, M};
@@ -21,9 +21,9 @@ ghost use Rattle.world_core.specs.Refusals.{entry_peeked};
 ghost use Rattle.world_core.specs.SecondCalls.{as_announced, as_viewed, as_published, as_judged};
 ghost use Rattle.world_core.specs.Parts.{phases, scan_of, staged_word, purposes, with_looks, with_cuts, rowless, span_of_no_run, span_begun_before, span_given_up, given_since, nobody, stepped, peek_of, with_peeks, lacking_none, lacking_low, lacking_high, lacking_reply, lacking_entry, book_alone, book_of_another, book_unheld, book_lacking, book_too_wide, reply_staged, published_alone, uncounted, crowded, asking_alone, asking_staged, asking_embeds, asking_views, staged_past, staged_beside, staged_entry, staged_low, no_words, lent_words};
 
-/// Which region each phase stages, which phase asks the object, and how many calls, replies and
-/// views of a caller have no published record in each phase, and how many published records no seen
-/// cut.
+/// For each of the five phases of a call: which region's words are staged, whether the object is
+/// asked, how many of the caller's calls, replies and views are in no published record, and how
+/// many of its published records have no seen cut.
 pub fn phases_differ()
     // Of the five phases the phase announce alone stages words of N.
     ensures staging_N { map (λ p. is_staging p N) phases
@@ -33,42 +33,44 @@ pub fn phases_differ()
         ≡ false ∷ false ∷ false ∷ true ∷ false ∷ [] }
     // Of the five phases the phase ask alone asks the object.
     ensures asking { map is_asking phases ≡ false ∷ true ∷ false ∷ false ∷ false ∷ [] }
-    // One announced call has no published record in the phases ask, view and publish, and no call
-    // in the other phases.
+    // In the phases ask, view and publish one announced call of the caller has no published record;
+    // in the other phases each has one.
     ensures calls { map unpublished_calls phases ≡ 0 ∷ 1 ∷ 1 ∷ 1 ∷ 0 ∷ [] }
-    // One reply is in no published record in the phases view and publish, and no reply in the other
-    // phases.
+    // In the phases view and publish one reply of the caller is in no published record; in the
+    // other phases each is in one.
     ensures replies { map unpublished_replies phases ≡ 0 ∷ 0 ∷ 1 ∷ 1 ∷ 0 ∷ [] }
-    // One view is in no published record in the phase publish, and no view in the other phases.
+    // In the phase publish one view of the caller is in no published record; in the other phases
+    // each is in one.
     ensures views { map unpublished_views phases ≡ 0 ∷ 0 ∷ 0 ∷ 1 ∷ 0 ∷ [] }
-    // One published record has no seen cut in the phase judge, and no record in the other phases.
+    // In the phase judge one published record of the caller has no seen cut; in the other phases
+    // each has one.
     ensures records { map unseen_records phases ≡ 0 ∷ 0 ∷ 0 ∷ 0 ∷ 1 ∷ [] }
 {}
 
-/// What the cut of a scan serves in each phase, by the scan's region, by whether the scan is the
-/// view's, and by whether a word is staged.
+/// What the cut of a scan becomes in each phase (the cut to embed in the row, the view, the seen
+/// cut, or nothing), by the scan's region, by whether it is the view's scan, and by whether a word
+/// of the row is staged.
 pub fn cuts_serve_by_phase()
-    // Where no word is staged, the cut of a scan of N that isn't the view's serves the row in the
-    // phase announce, and nothing in the other phases.
+    // Where no word is staged, the cut of a scan of N that isn't the view's becomes the cut to
+    // embed in the phase announce, and has no use in the other phases.
     ensures of_N { purposes [] N false
         ≡ For_row ∷ For_nothing ∷ For_nothing ∷ For_nothing ∷ For_nothing ∷ [] }
-    // Where no word is staged, the cut of a scan of M that isn't the view's serves the row in the
-    // phase publish and the seen cut in the phase judge, and nothing in the other phases.
+    // Where no word is staged, the cut of a scan of M becomes the cut to embed in the phase publish
+    // and the seen cut in the phase judge, and has no use in the other phases.
     ensures of_M { purposes [] M false
         ≡ For_nothing ∷ For_nothing ∷ For_nothing ∷ For_row ∷ For_seen ∷ [] }
-    // Where a word is staged, the cut of a scan of N that isn't the view's serves nothing in any
-    // phase.
+    // Where a word is staged, the cut of a scan of N that isn't the view's has no use in any phase.
     ensures late_of_N { purposes (staged_word 0 5 ∷ []) N false
         ≡ For_nothing ∷ For_nothing ∷ For_nothing ∷ For_nothing ∷ For_nothing ∷ [] }
-    // Where a word is staged, the cut of a scan of M that isn't the view's serves the seen cut in
-    // the phase judge, and nothing in the other phases.
+    // Where a word is staged, the cut of a scan of M becomes the seen cut in the phase judge, and
+    // has no use in the other phases.
     ensures late_of_M { purposes (staged_word 0 5 ∷ []) M false
         ≡ For_nothing ∷ For_nothing ∷ For_nothing ∷ For_nothing ∷ For_seen ∷ [] }
-    // Where no word is staged, the cut of the view's scan of N serves the row in the phase announce
-    // and the view in the phase view, and nothing in the other phases.
+    // Where no word is staged, the cut of the view's scan of N becomes the view in the phase view
+    // and the cut to embed in the phase announce, and has no use in the other phases.
     ensures view { purposes [] N true
         ≡ For_row ∷ For_nothing ∷ For_view ∷ For_nothing ∷ For_nothing ∷ [] }
-    // The cut of a scan of M serves no view, even where the scan is said to be the view's.
+    // The cut of a scan of M never becomes a view, even where the scan is said to be the view's.
     ensures view_of_M { purposes [] M true
         ≡ For_nothing ∷ For_nothing ∷ For_nothing ∷ For_row ∷ For_seen ∷ [] }
 {}
@@ -83,39 +85,40 @@ pub fn tests_tell_apart()
     ensures entries { map (λ part. is_view_entry part 1)
         (View_entry 1 ∷ View_entry 0 ∷ Embedded_entry M 1 ∷ Low ∷ [])
         ≡ true ∷ false ∷ false ∷ false ∷ [] }
-    // The look at caller 1 is what a scan needs that needs a look at caller 1, and not what a scan
-    // needs that needs a look at caller 0, that needs a peek, or that is done.
+    // The look at caller 1 is wanted by a scan that next needs a look at caller 1, and not by one
+    // that next needs a look at caller 0 or a peek, or that is done.
     ensures looks { map (is_look_wanted 1)
         (Wants_look 1 ∷ Wants_look 0 ∷ Wants_peek 1 0 0 ∷ Done [] ∷ [])
         ≡ true ∷ false ∷ false ∷ false ∷ [] }
-    // The peek at place 2 in N of the row numbered 3 of caller 1 is what a scan needs that needs
-    // the entry for caller 0 of the cut in that row, and not what a scan needs that needs a peek
-    // into a row of another caller, into another row or at another entry, or a look.
+    // The peek at place 2 in N of the fourth row of caller 1 is wanted by a scan that next needs
+    // the entry for caller 0 of the cut that this row embeds, and not by one that next needs an
+    // entry of another caller's row, of another row or for another caller, or a look.
     ensures peeks { map (is_peek_wanted 2 N 1 3 2) (Wants_peek 1 3 0 ∷ Wants_peek 0 3 0 ∷ Wants_peek
         1 2 0 ∷ Wants_peek 1 3 1 ∷ Wants_look 1 ∷ []) ≡ true ∷ false ∷ false ∷ false ∷ false ∷ [] }
-    // The peek at place 4 in M of a row of two callers is what a scan needs that needs the entry
-    // for caller 1 of the cut in that row, and not what a scan needs that needs another entry.
+    // The peek at place 4 in M of the fourth row of caller 1, with two callers, is wanted by a scan
+    // that next needs the entry for caller 1 of the cut that this row embeds, and not by one that
+    // needs another entry.
     ensures peeks_of_M { map (is_peek_wanted 2 M 1 3 4) (Wants_peek 1 3 1 ∷ Wants_peek 1 3 2 ∷ [])
         ≡ true ∷ false ∷ [] }
-    // A caller may peek a row that is below a count which an older look of it found.
+    // A caller may peek a row whose number is below a count that an older one of its looks found.
     ensures older_look { is_enabled pair 1 with_looks (Peek N 0 1 0 0) ≡ true }
-    // A caller may not peek a row that isn't below any count which its looks found.
+    // A caller may not peek a row whose number is below none of the counts that its looks found.
     ensures beyond_all_looks { is_enabled pair 1 with_looks (Peek N 0 2 0 0) ≡ false }
-    // A caller may peek a row of N that is below a count of an older cut, which a scan of N gave
-    // it.
+    // A caller may peek a row of N whose number is below a count of an older cut, which a scan of N
+    // gave it.
     ensures older_cut { is_enabled pair 1 with_cuts (Peek N 0 1 0 0) ≡ true }
-    // A caller may peek a row of M that is below a count of a later cut, which a scan of M gave it.
+    // A caller may peek a row of M whose number is below a count of a later cut, which a scan of M
+    // gave it.
     ensures later_cut { is_enabled pair 1 with_cuts (Peek M 1 0 0 0) ≡ true }
-    // A caller may not peek a row of M that is below a count of a cut of N alone.
+    // A caller may not peek a row of M whose number is below a count of a cut of N alone.
     ensures cut_of_another { is_enabled pair 1 with_cuts (Peek M 0 1 0 0) ≡ false }
     // A caller may not stage a word of its second row of M where the cap is 1.
     ensures no_row_of_M { is_enabled pair 0 rowless (Stage M 0 0) ≡ false }
 {}
 
-/// What events begin, and what they give up.
+/// Which events begin a scan, and which give up the scan that is under way.
 pub fn events_begin_and_give_up()
-    // The openings of a scan and of the view's scan begin a scan, and the opening of nothing
-    // doesn't.
+    // A look's opening `Begins_scan` or `Begins_view` begins a scan, and `Begins_none` doesn't.
     ensures openings { map is_opening (Begins_none ∷ Begins_scan ∷ Begins_view 7 ∷ [])
         ≡ false ∷ true ∷ true ∷ [] }
     // A look in N that begins a scan or the view's scan is the first look of a scan of N; a look in
@@ -123,8 +126,8 @@ pub fn events_begin_and_give_up()
     ensures first_looks { map (is_first_look N) (Look N 0 0 Begins_scan ∷ Look N 0 0 (Begins_view 7)
         ∷ Look M 0 0 Begins_scan ∷ Look N 0 0 Begins_none ∷ Peek N 0 0 0 0 ∷ Announce ∷ [])
         ≡ true ∷ true ∷ false ∷ false ∷ false ∷ false ∷ [] }
-    // A look of caller 1 that begins a scan begins a scan by caller 1; a look of caller 0, and a
-    // look of caller 1 that begins nothing, don't.
+    // A look of caller 1 that begins a scan counts as a scan begun by caller 1; a look of caller 0,
+    // and a look of caller 1 that begins nothing, don't.
     ensures by_whom { map (begins_scan 1 N) (by 1 (Look N 0 0 Begins_scan) ∷ by 0
         (Look N 0 0 Begins_scan) ∷ by 1 (Look N 0 0 Begins_none) ∷ []) ≡ true ∷ false ∷ false ∷ [] }
     // An announcement, a publication, and a look that begins a scan or the view's scan give up a
@@ -133,15 +136,15 @@ pub fn events_begin_and_give_up()
         (Announce ∷ Publish ∷ Look M 0 0 Begins_scan ∷ Look N 0 0 (Begins_view 7)
         ∷ Look N 0 0 Begins_none ∷ Stage N 0 0 ∷ Object (object_step 0 0 0) ∷ Peek N 0 0 0 0 ∷ [])
         ≡ true ∷ true ∷ true ∷ true ∷ false ∷ false ∷ false ∷ false ∷ [] }
-    // A scan of caller 1 is kept by the announcement of caller 0 and by a stage of caller 1, and
-    // not by an announcement of caller 1.
+    // A scan of caller 1 stays under way at an announcement of caller 0 and at a stage of caller 1,
+    // and is given up at an announcement of caller 1.
     ensures keeps { map (keeps_scan 1) (by 1 Announce ∷ by 0 Announce ∷ by 1 (Stage N 0 0) ∷ [])
         ≡ false ∷ true ∷ true ∷ [] }
 {}
 
-/// A scan gives a cut in a span where all parts of the definition hold: not in steps that are no
-/// run, not where the first step begins no scan, not where the scan is given up between, and no cut
-/// but its own.
+/// Where a scan does not give a cut in a span of steps: where the steps are no run, where the first
+/// step begins no scan, where the scan is given up before its end, and where the cut, or the number
+/// of looks before the scan, is another one.
 #[tactic(auto, using(crate::proofs::Spans::no_run, crate::proofs::Spans::not_begun, crate::proofs::Spans::not_kept, crate::proofs::Spans::other_cut, crate::proofs::Spans::other_time))]
 pub fn scans_give_cuts_in_spans()
     // Steps that are no run are no span in which a scan gives a cut.
@@ -152,14 +155,14 @@ pub fn scans_give_cuts_in_spans()
     ensures not_kept { ¬ GivesCut single 0 (given_since 3) span_given_up }
     // A scan that found the count 1 doesn't give the cut with the count 0.
     ensures other_cut { ¬ GivesCut single 0 (given_alone N 0) span_after_announcement }
-    // A scan before which its caller had looked at two counts doesn't give its cut as one before
-    // which the caller had looked at one count.
+    // A scan that began after two looks of its caller doesn't give its cut as one of a scan that
+    // began after one look.
     ensures other_time { ¬ GivesCut single 0 (given_since 1) span_after_announcement }
 {}
 
-/// Runs and the worlds that they reach: each step of a run is enabled in the world before it; a
-/// world in which no run ends isn't reachable; and as many locals are together as there are
-/// callers.
+/// Runs and the worlds that they reach: each step of a run is enabled in the world that the steps
+/// before it lead to; a world in which no run ends isn't reachable; and locals are together only
+/// where there is one for each caller.
 #[tactic(auto, using(crate::proofs::Together::first_impossible, crate::proofs::Together::later_impossible, crate::proofs::Together::not_reachable, crate::proofs::Together::one_local, crate::proofs::Together::both_locals, crate::proofs::Together::second_local, crate::proofs::Together::third_local))]
 pub fn worlds_are_reached_by_runs()
     // At the start of a world of two callers, with one row each and one object word, the 23 words
@@ -177,9 +180,11 @@ pub fn worlds_are_reached_by_runs()
     ensures one_local { ¬ AreTogether pair (fresh ∷ []) }
     // The locals at the end of the run of two whole calls are together.
     ensures both_locals { AreTogether pair (end_of pair two_calls).locals }
-    // The local of caller 1 at the end of the run of two whole calls is a local of caller 1.
+    // The local of caller 1 at the end of the run of two whole calls is one that caller 1 has in
+    // some reachable world.
     ensures second_local { IsLocalOf pair 1 (local_at two_calls 1) }
-    // The fresh local isn't a local of caller 2 in a world of two callers.
+    // The fresh local isn't one that caller 2 has in a reachable world of two callers, which has no
+    // caller 2.
     ensures third_local { ¬ IsLocalOf pair 2 fresh }
 {}
 
@@ -187,17 +192,15 @@ pub fn worlds_are_reached_by_runs()
 /// that this caller published, whatever it announced.
 #[tactic(auto, using(crate::proofs::Published::none_published, crate::proofs::Published::one_published, crate::proofs::Published::announced_alone, crate::proofs::Published::too_many, crate::proofs::Published::too_narrow))]
 pub fn cuts_are_published()
-    // After two announcements, and no publication, the cut 0 0 counts published records alone.
+    // After two announcements, and no publication, the cut 0 0 counts only what is published.
     ensures none { IsPublished (end_of pair announced_both).locals (0 ∷ 0 ∷ []) }
-    // After two calls the cut 1 0 counts published records alone.
+    // After two callers published one record each, the cut 1 0 counts only what is published.
     ensures below { IsPublished (end_of pair two_calls).locals (1 ∷ 0 ∷ []) }
-    // After two announcements, and no publication, the cut 1 0 doesn't count published records
-    // alone.
+    // After two announcements, and no publication, the cut 1 0 counts more than is published.
     ensures announced { ¬ IsPublished (end_of pair announced_both).locals (1 ∷ 0 ∷ []) }
-    // After two callers published one record each, the cut 1 2 doesn't count published records
-    // alone.
+    // After two callers published one record each, the cut 1 2 counts more than is published.
     ensures above { ¬ IsPublished (end_of pair two_calls).locals (1 ∷ 2 ∷ []) }
-    // A cut of one count isn't a cut of the published records of two callers.
+    // A cut of one count is no cut of the published records of two callers.
     ensures narrow { ¬ IsPublished (end_of pair two_calls).locals (1 ∷ []) }
 {}
 
@@ -247,56 +250,61 @@ pub fn books_are_gathered()
     ensures wide { ¬ IsGathered 1 (lacking_none 1) (1 ∷ []) book_too_wide }
 {}
 
-/// A local has the counts and the lengths of lists of its phase at moments of a run, and lacks them
-/// where one count or one list differs.
+/// The counts of a local and the lengths of its lists are those that its phase demands, at moments
+/// of a run. A local in which one count or one length differs doesn't have what its phase demands.
 #[tactic(auto, using(crate::proofs::Agreeing::no_announced, crate::proofs::Agreeing::no_operation, crate::proofs::Agreeing::no_reply, crate::proofs::Agreeing::no_view, crate::proofs::Agreeing::no_seen, crate::proofs::Agreeing::none_in_N, crate::proofs::Agreeing::none_in_M, crate::proofs::Agreeing::no_steps))]
 pub fn lists_have_lengths_by_phase()
-    // The fresh local has the counts and the lengths of its phase.
+    // The fresh local has the counts and the list lengths that its phase demands.
     ensures idle { HasPhase fresh }
-    // Right after an announcement a caller's local has the counts and the lengths of its phase.
+    // Right after an announcement a local has the counts and the list lengths that its phase
+    // demands.
     ensures asking { HasPhase as_announced }
-    // Right after its view a caller's local has the counts and the lengths of its phase.
+    // Right after a view is taken a local has the counts and the list lengths that its phase
+    // demands.
     ensures publishing { HasPhase as_viewed }
-    // Right after a publication a caller's local has the counts and the lengths of its phase.
+    // Right after a publication a local has the counts and the list lengths that its phase demands.
     ensures judging { HasPhase as_published }
-    // Right after its seen cut a caller's local has the counts and the lengths of its phase.
+    // Right after a seen cut a local has the counts and the list lengths that its phase demands.
     ensures judged { HasPhase as_judged }
     // A local in the phase announce with one announced call and no published record doesn't have
-    // the counts of its phase.
+    // the counts that its phase demands.
     ensures announced { ¬ HasPhase uncounted }
-    // The fresh local with an operation added doesn't have the lengths of its phase.
+    // The fresh local with an operation added doesn't have the list lengths that its phase demands.
     ensures operations { ¬ HasPhase (record fresh { operations = 5 ∷ [] }) }
-    // The fresh local with a reply added doesn't have the lengths of its phase.
+    // The fresh local with a reply added doesn't have the list lengths that its phase demands.
     ensures replies { ¬ HasPhase (record fresh { replies = 50 ∷ [] }) }
-    // The fresh local with a view added doesn't have the lengths of its phase.
+    // The fresh local with a view added doesn't have the list lengths that its phase demands.
     ensures views { ¬ HasPhase (record fresh { views = [] ∷ [] }) }
-    // The fresh local with a seen cut added doesn't have the lengths of its phase.
+    // The fresh local with a seen cut added doesn't have the list lengths that its phase demands.
     ensures seen { ¬ HasPhase (record fresh { seen = [] ∷ [] }) }
-    // The fresh local with a cut embedded in N added doesn't have the lengths of its phase.
+    // The fresh local with a cut embedded in N added doesn't have the list lengths that its phase
+    // demands.
     ensures embedded_in_N { ¬ HasPhase (record fresh { embedded_in_N = [] ∷ [] }) }
-    // The fresh local with a cut embedded in M added doesn't have the lengths of its phase.
+    // The fresh local with a cut embedded in M added doesn't have the list lengths that its phase
+    // demands.
     ensures embedded_in_M { ¬ HasPhase (record fresh { embedded_in_M = [] ∷ [] }) }
-    // The fresh local with a list of object steps added doesn't have the lengths of its phase.
+    // The fresh local with a list of object steps added doesn't have the list lengths that its
+    // phase demands.
     ensures object_steps { ¬ HasPhase (record fresh { object_steps = [] ∷ [] }) }
 {}
 
-/// What fits a phase: the view's scan is under way in the phase view alone, and words are staged,
-/// and a cut to embed is kept, in the phases announce and publish alone.
+/// What a caller may have in each phase: the view's scan under way in the phase view alone, and
+/// staged words and a cut to embed in the phases announce and publish alone.
 #[tactic(auto, using(crate::proofs::Agreeing::not_view_of_M, crate::proofs::Agreeing::not_view, crate::proofs::Agreeing::not_in_asking, crate::proofs::Agreeing::not_staged))]
 pub fn parts_fit_phases()
-    // The view's scan of N fits the phase view.
+    // In the phase view the view's scan of N may be under way.
     ensures view { FitsPhase Viewing (Some (scan_of N true)) }
-    // A scan of M that isn't the view's fits the phase ask.
+    // In the phase ask a scan of M that isn't the view's may be under way.
     ensures scan { FitsPhase Asking (Some (scan_of M false)) }
-    // A caller without a scan under way fits the phase ask.
+    // In the phase ask a caller may have no scan under way.
     ensures none { FitsPhase Asking None }
-    // A caller without a scan under way doesn't fit the phase view.
+    // In the phase view there is always a scan under way.
     ensures no_view { ¬ FitsPhase Viewing None }
-    // A scan of M that is said to be the view's doesn't fit the phase view.
+    // In the phase view no scan of M is under way, even one that is said to be the view's.
     ensures view_of_M { ¬ FitsPhase Viewing (Some (scan_of M true)) }
-    // A scan that isn't the view's doesn't fit the phase view.
+    // In the phase view no scan is under way that isn't the view's.
     ensures not_view { ¬ FitsPhase Viewing (Some (scan_of N false)) }
-    // The view's scan doesn't fit the phase ask.
+    // In the phase ask the view's scan isn't under way.
     ensures in_asking { ¬ FitsPhase Asking (Some (scan_of N true)) }
     // A word may be staged in the phase announce.
     ensures staged_in_announcing { IsStagedIn Announcing (staged_word 0 5 ∷ []) }
@@ -355,23 +363,25 @@ pub fn locals_agree_with_words()
     // A local with a cut to embed in the phase ask doesn't agree with words that have its counts
     // and rows.
     ensures kept_in { ¬ Agrees single (1 ∷ 0 ∷ 5 ∷ 0 ∷ 0 ∷ 0 ∷ 0 ∷ 0 ∷ []) 0 asking_embeds }
-    // A local without the lengths of its phase doesn't agree with words that have its counts.
+    // A local without the list lengths that its phase demands doesn't agree with words that have
+    // its counts.
     ensures phase { ¬ Agrees single no_words 0 (record fresh { replies = 50 ∷ [] }) }
     // A local with the view's scan under way in the phase ask doesn't agree with words that have
     // its counts and rows.
     ensures scan { ¬ Agrees single (1 ∷ 0 ∷ 5 ∷ 0 ∷ 0 ∷ 0 ∷ 0 ∷ 0 ∷ []) 0 asking_views }
-    // A word that was staged in a row beyond the cap isn't in its row.
+    // A staged word doesn't count as standing in its row where that row is beyond the cap.
     ensures row { ¬ IsInRow single no_words 0 staged_past N 0 }
-    // A word that was staged at a place that the region doesn't have isn't in its row.
+    // A staged word doesn't count as standing in its row where the region lacks its place.
     ensures place { ¬ IsInRow single no_words 0 staged_beside N 3 }
-    // A staged word isn't in its row where the table has another word there.
+    // A staged word doesn't count as standing in its row where the table has another word there.
     ensures stands { ¬ IsInRow single no_words 0 staged_low N 0 }
-    // A staged word that the table has isn't in its row where it doesn't belong there.
+    // A staged word doesn't count as standing in its row where it doesn't belong at its place,
+    // though the table has it there.
     ensures due { ¬ IsInRow single (0 ∷ 0 ∷ 0 ∷ 0 ∷ 5 ∷ 0 ∷ 0 ∷ 0 ∷ []) 0 staged_entry N 2 }
 {}
 
-/// What a scan keeps of its words, what it may need of which callers, and which words it may have
-/// taken.
+/// What a scan keeps of the words that it has taken; which looks, peeks and cuts a scan of some
+/// number of callers may come to; and which lists of words are steady, wanted and few.
 #[tactic(auto, using(crate::proofs::Steady::steady, crate::proofs::Steady::falls, crate::proofs::Steady::moves, crate::proofs::Steady::others_move, crate::proofs::Steady::wanted_all, crate::proofs::Steady::unwanted, crate::proofs::Steady::long))]
 pub fn scans_stand_by_their_words()
     // After three collects and one peek a scan of two callers keeps its first collect, its last
@@ -385,36 +395,37 @@ pub fn scans_stand_by_their_words()
       current = 7 ∷ [];
       course = Borrows 0 1;
     } }
-    // A scan that has made no whole collect keeps no first one.
+    // A scan that has made no whole collect keeps no first collect.
     ensures beginning { (standing 2 1 M (3 ∷ [])).first ≡ None }
-    // A look at caller 1 fits two callers.
+    // A look at caller 1 is one that a scan of two callers may need.
     ensures look { FitsCallers 2 (Wants_look 1) }
-    // A peek at the entry for caller 1 in a row of caller 1 fits two callers.
+    // A peek at the entry for caller 1 in a row of caller 1 is one that a scan of two callers may
+    // need.
     ensures peek { FitsCallers 2 (Wants_peek 1 5 1) }
-    // A cut of two counts fits two callers.
+    // A cut of two counts is one with which a scan of two callers may end.
     ensures done { FitsCallers 2 (Done (4 ∷ 5 ∷ [])) }
-    // A look at caller 2 doesn't fit two callers.
+    // A look at caller 2 isn't one that a scan of two callers may need.
     ensures no_look { ¬ FitsCallers 2 (Wants_look 2) }
-    // A peek into a row of caller 2 doesn't fit two callers.
+    // A peek into a row of caller 2 isn't one that a scan of two callers may need.
     ensures no_peek { ¬ FitsCallers 2 (Wants_peek 2 5 1) }
-    // A peek at an entry for caller 2 doesn't fit two callers.
+    // A peek at an entry for caller 2 isn't one that a scan of two callers may need.
     ensures no_entry { ¬ FitsCallers 2 (Wants_peek 1 5 2) }
-    // A cut of one count doesn't fit two callers.
+    // A cut of one count isn't one with which a scan of two callers may end.
     ensures narrow { ¬ FitsCallers 2 (Done (4 ∷ [])) }
-    // A scan has ended that has taken the words of a whole borrowed cut, and one that has taken
-    // three looks at two callers hasn't.
+    // A scan of two callers that has taken all words of a borrowed cut has ended, and one that has
+    // taken three looks hasn't.
     ensures ends { map (λ taken. has_ended (course 2 taken)) (lent_words ∷ (0 ∷ 0 ∷ 0 ∷ []) ∷ [])
         ≡ true ∷ false ∷ [] }
-    // Of a look, a peek and a finished cut, the finished cut alone says that a scan is done.
+    // A scan that is done is told from one that needs a look or a peek.
     ensures dones { map is_done (Wants_look 0 ∷ Wants_peek 0 0 0 ∷ Done [] ∷ [])
         ≡ false ∷ false ∷ true ∷ [] }
-    // Of a look, a peek and a finished cut, the look alone is a look.
+    // A scan that needs a look is told from one that needs a peek and from one that is done.
     ensures looks { map is_look (Wants_look 0 ∷ Wants_peek 0 0 0 ∷ Done [] ∷ [])
         ≡ true ∷ false ∷ false ∷ [] }
-    // Of a look, a peek and a finished cut, the peek alone is a peek.
+    // A scan that needs a peek is told from one that needs a look and from one that is done.
     ensures peeks { map is_peek (Wants_look 0 ∷ Wants_peek 0 0 0 ∷ Done [] ∷ [])
         ≡ false ∷ true ∷ false ∷ [] }
-    // Words with peeked entries that are less than the counts before them may be steady.
+    // Words of a scan may be steady though its peeked entries are less than the counts before them.
     ensures steady { IsSteady 2 1 lent_words }
     // Words of a scan by caller 0 in which the count of caller 1 falls aren't steady.
     ensures falls { ¬ IsSteady 2 0 (0 ∷ 1 ∷ 0 ∷ 0 ∷ []) }
@@ -426,6 +437,6 @@ pub fn scans_stand_by_their_words()
     ensures wanted { AreWanted 2 (0 ∷ 0 ∷ 0 ∷ 0 ∷ []) }
     // A word after two equal collects was taken by a scan that had ended.
     ensures unwanted { ¬ AreWanted 2 (0 ∷ 0 ∷ 0 ∷ 0 ∷ 0 ∷ []) }
-    // Three looks are more than a scan of one caller makes where its words are few.
+    // The words of a scan of one caller aren't few where three come of looks: the bound is two.
     ensures long { ¬ IsShort 1 (0 ∷ 1 ∷ 2 ∷ []) }
 {}

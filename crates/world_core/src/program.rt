@@ -14,11 +14,17 @@ pub trait Program: Copy {
 
     /// How many object words a world of `n` callers with `cap` rows each has: at most 65536.
     fn object_words(&self, n: u32, cap: u64) -> u64
+        // There is at least one caller.
         requires some_callers { 1 ≤ n }
+        // There are at most `MAX_CALLERS` callers.
         requires few_callers { n ≤ MAX_CALLERS }
+        // Each caller may make at least one call.
         requires some_calls { 1 ≤ cap }
+        // Each caller may make at most `MAX_CALLS` calls.
         requires few_calls { cap ≤ MAX_CALLS }
+        // The answer is the number of object words that the program's meaning says.
         ensures count { result ≡ (meaning self.now n cap).objects }
+        // There are at most 65536 object words.
         ensures few { result ≤ 65536 };
 }
 

@@ -15,9 +15,9 @@ use std::marker::Model;
 ///
 /// It makes collects, and compares each with the one before it: two equal ones end it. Where a
 /// caller has moved twice since the first collect, it ends with the cut that this caller's latest
-/// counted row embeds (Afek and others 1993). It keeps the first and the last whole round and the
-/// words of the round under way. Clauses see it as the state of a scan that has taken some list of
-/// words.
+/// counted row embeds (Afek and others 1993). A round is a collect, or the peeks at all entries of
+/// an embedded cut. The machine keeps the first and the last whole round and the words of the round
+/// under way. Clauses see it as the state of a scan that has taken some list of words.
 #[derive(Debug, Drop)]
 pub struct ScanCore {
     me: u32,
@@ -76,16 +76,15 @@ impl ScanCore {
 
     /// What the scan needs next.
     pub fn next(&self) -> Want
-        // The answer is what the scan needs next, by what it does now and by the words of the round
+        // What the scan needs next depends on what it does at present and on the words of its round
         // under way.
         ensures now { result ≡ wanted_by self.now.course self.now.current }
         // The answer is a cut exactly where the scan has ended.
         ensures ended { is_done result ≡ has_ended self.now.course }
-        // The answer names callers of the scan alone, and a cut in it has one count for each of
-        // them.
+        // Each caller that the answer names is one of the scan's callers, and a cut in the answer
+        // has one count for each of them.
         ensures fits { FitsCallers self.now.callers result }
-        // The answer is what a scan of n callers needs next after the words that this scan has
-        // taken.
+        // The answer is what a scan of n callers needs next after the words that it has taken.
         ensures wanted { (n me : ℕ) (region : Region) (taken : List ℕ)
             → self.now ≡ standing n me region taken → result ≡ wanted n taken }
     {
@@ -103,11 +102,12 @@ impl ScanCore {
     pub fn take(&mut self, word: u64)
         // The scan hasn't ended.
         requires { has_ended self.old.course ≡ false }
-        // The scan is now one that has taken this word after the words that it had taken.
+        // Afterwards the scan is one that has taken `word` after the words that it had taken.
         ensures taken { (n me : ℕ) (region : Region) (taken : List ℕ) → self.old
             ≡ standing n me region taken → self.new ≡ standing n me region (taken ++ word ∷ []) }
-        // Where the words with this one are steady, since counts never fall and the caller's own
-        // stays as it is, the scan has made at most n * (n + 1) looks and n peeks.
+        // Where the words that the scan has taken, `word` with them, are steady (no count falls,
+        // and the scanning caller's own count stays as it is), the scan has made at most
+        // n * (n + 1) looks and n peeks.
         ensures short { (n me : ℕ) (region : Region) (taken : List ℕ)
             → self.old ≡ standing n me region taken → IsSteady n me (taken ++ word ∷ [])
             → IsShort n (taken ++ word ∷ []) }
@@ -124,7 +124,8 @@ impl ScanCore {
     }
 }
 
-// What a scan does after a round, by what it did in the round.
+// What a scan does after a round, by what it did in that round, the first round, the round before,
+// if there is one, and the latest round.
 fn course_on(course: Course, first: &Cut, last: &Option<Cut>, latest: &Cut) -> Course
     requires first { length first.now ≡ length latest.now }
     requires last { FitsRound (length latest.now) last.now }
@@ -138,8 +139,8 @@ fn course_on(course: Course, first: &Cut, last: &Option<Cut>, latest: &Cut) -> C
     }
 }
 
-// What a scan does after a collect, by the first collect, the one before, if there is one, and the
-// latest.
+// What a scan does after a collect, given the first collect, the one before the latest, if there is
+// one, and the latest.
 fn course_by(first: &Cut, last: &Option<Cut>, latest: &Cut) -> Course
     requires first { length first.now ≡ length latest.now }
     requires last { FitsRound (length latest.now) last.now }
@@ -153,8 +154,8 @@ fn course_by(first: &Cut, last: &Option<Cut>, latest: &Cut) -> Course
     }
 }
 
-// What a scan does after two collects that differ: it borrows from the least caller that has moved
-// twice since the first collect, and collects again where no caller has.
+// What a scan does after two collects in a row that differ: it borrows from the caller of the least
+// number that has moved twice since the first collect, and collects again where no caller has.
 fn lent_by(first: &Cut, latest: &Cut) -> Course
     requires first { length first.now ≡ length latest.now }
     ensures course { result ≡ lent_by latest.now (mover first.now latest.now) }

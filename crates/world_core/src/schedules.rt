@@ -74,12 +74,12 @@ pub fn places_have_contents()
 pub fn two_whole_calls()
     // The steps of the two whole calls are a run.
     ensures run { IsRun pair two_calls }
-    // The first caller passes through the five phases, and is in the first one again at the end.
+    // Caller 0 passes through the five phases in order, and is in the phase announce at the end.
     ensures first_phases { phases_at two_calls 0
         (0 ∷ 1 ∷ 8 ∷ 9 ∷ 10 ∷ 23 ∷ 24 ∷ 35 ∷ 36 ∷ 39 ∷ 40 ∷ [])
         ≡ Announcing ∷ Announcing ∷ Announcing ∷ Asking ∷ Viewing ∷ Viewing ∷ Publishing
         ∷ Publishing ∷ Judging ∷ Judging ∷ Announcing ∷ [] }
-    // The second caller passes through the five phases, and is in the first one again at the end.
+    // Caller 1 passes through the five phases in order, and is in the phase announce at the end.
     ensures second_phases { phases_at two_calls 1 (19 ∷ 20 ∷ 25 ∷ 42 ∷ 52 ∷ 56 ∷ [])
         ≡ Announcing ∷ Asking ∷ Viewing ∷ Publishing ∷ Judging ∷ Announcing ∷ [] }
     // The words of the table at the end are the four counts and both rows.
@@ -90,19 +90,19 @@ pub fn two_whole_calls()
     // looked at four counts.
     ensures first_scan { GivesCut pair 0
         (record { region = N; cut = 1 ∷ 1 ∷ []; since = 4 }) view_span }
-    // The first caller has made one call, which has its record and its seen cut 1 0.
+    // After the two whole calls caller 0 has one call, with its record and its seen cut 1 0.
     ensures first_calls { calls_in (local_at two_calls 0) ≡ record {
       operation = 5;
       reached = Has_seen (record { reply = 50; view = 1 ∷ 1 ∷ [] }) (1 ∷ 0 ∷ []);
     } ∷ [] }
-    // The second caller has made one call, which has its record and its seen cut 1 1.
+    // After the two whole calls caller 1 has one call, with its record and its seen cut 1 1.
     ensures second_calls { calls_in (local_at two_calls 1) ≡ record {
       operation = 6;
       reached = Has_seen (record { reply = 60; view = 1 ∷ 1 ∷ [] }) (1 ∷ 1 ∷ []);
     } ∷ [] }
-    // The first caller is idle at the end.
+    // After the two whole calls caller 0 is idle.
     ensures first_idle { IsIdle (local_at two_calls 0) }
-    // The second caller is idle at the end.
+    // After the two whole calls caller 1 is idle.
     ensures second_idle { IsIdle (local_at two_calls 1) }
     // A caller that has staged a word isn't idle.
     ensures staged_is_busy { ¬ IsIdle (local_at (take 5 two_calls) 0) }
@@ -134,9 +134,9 @@ pub fn scans_are_given_up()
     // A scan of N doesn't take the word of a look in M.
     ensures unwanted { (local_at (take 4 scans_given_up) 0).scan
         ≡ Some (record { region = N; is_view = false; since = 2; taken = 0 ∷ [] }) }
-    // Right after its last look a scan is no longer under way.
+    // A scan ends at its last look: right after it no scan is under way.
     ensures ended { (local_at (take 7 scans_given_up) 0).scan ≡ None }
-    // The scan that has ended has given its cut, and the scan that was given up has given no cut.
+    // Of two scans the one that ended has given its cut, and the one given up has given none.
     ensures cut { (local_at (take 7 scans_given_up) 0).cuts
         ≡ record { region = N; cut = 0 ∷ 0 ∷ []; since = 2 } ∷ [] }
     // The cut of a scan of N in the phase announce is the one to embed.
@@ -148,7 +148,7 @@ pub fn scans_are_given_up()
     ensures by_an_announcement { (local_at scans_given_up 0).scan ≡ None }
     // The scan that an announcement gave up has given no cut: the caller was given one cut in all.
     ensures no_further_cut { length (local_at scans_given_up 0).cuts ≡ 1 }
-    // The announced row embeds the cut that was to be embedded.
+    // The row that an announcement counts embeds the cut that was to be embedded right before.
     ensures embedded { (local_at scans_given_up 0).embedded_in_N ≡ (0 ∷ 0 ∷ []) ∷ [] }
     // After an announcement there is no cut to embed.
     ensures embeds_no_more { (local_at scans_given_up 0).to_embed ≡ None }
@@ -161,7 +161,7 @@ pub fn scans_are_given_up()
     // After a publication the caller has no scan under way.
     ensures by_a_publication { (local_at (scans_given_up ++ reply_carried ++ published_in_a_scan)
         0).scan ≡ None }
-    // The published row embeds the cut that was to be embedded.
+    // The row that a publication counts embeds in M the cut that was to be embedded right before.
     ensures embedded_in_M { (local_at (scans_given_up ++ reply_carried ++ published_in_a_scan)
         0).embedded_in_M ≡ (0 ∷ 0 ∷ []) ∷ [] }
     // After a publication there is no cut to embed.
@@ -170,7 +170,7 @@ pub fn scans_are_given_up()
 {}
 
 /// The look that begins the view's scan carries the object's reply. A scan that begins in the phase
-/// ask without the reply gives a cut that serves nothing.
+/// ask without the reply gives a cut that becomes neither the view nor a cut to embed.
 pub fn a_look_carries_the_reply()
     // The steps of a scan without the reply, and then of a look that carries the reply, are a run.
     ensures run { IsRun pair (scans_given_up ++ scan_for_nothing ++ reply_carried) }
@@ -298,10 +298,10 @@ pub fn peeks_are_conditional()
     // A caller that peeked the reply of a record, and no entry of its view, may not peek a row of N
     // that only the view counts.
     ensures before_view { IsTrue (refuses reply_peeked (by 1 (Peek N 0 0 0 5) ∷ [])) }
-    // A caller that peeked an entry of a view may peek a row of N that is below this entry.
+    // A caller that peeked an entry of a view may peek a row of N whose number is below this entry.
     ensures by_view { IsTrue (allows entry_peeked (by 1 (Peek N 0 0 0 5) ∷ [])) }
-    // A caller that peeked the entry for caller 0 of a view may peek neither a row of N that isn't
-    // below this entry, nor a row of another caller.
+    // A caller that peeked the entry for caller 0 of a view may peek neither a row of N whose
+    // number isn't below this entry, nor a row of another caller.
     ensures refused_by_view { IsTrue (refuses entry_peeked refused_as_entry_peeked) }
     // A caller may not peek a row of a caller that the world doesn't have.
     ensures no_caller { is_enabled pair 0 looked_past (Peek N 2 0 0 0) ≡ false }
@@ -311,43 +311,46 @@ pub fn peeks_are_conditional()
 /// that a scan gave it, each of the row's own region, and in N from an entry of a view that it
 /// peeked.
 pub fn rows_are_known()
-    // A look at a count of N makes a row below this count known in N.
+    // A caller that found the count 1 of caller 0 in N may peek the first row of caller 0 in N.
     ensures count_of_N { is_enabled pair 1 looked_in_N (Peek N 0 0 0 5) ≡ true }
-    // A look at a count of N makes no row known that isn't below this count.
+    // A caller that found only the count 1 of caller 0 in N may not peek the second row of caller 0
+    // in N.
     ensures count_of_N_beyond { is_enabled pair 1 looked_in_N (Peek N 0 1 0 5) ≡ false }
-    // A look at a count of N makes no row of another caller known.
+    // A caller that found only the count 1 of caller 0 in N may not peek a row of caller 1.
     ensures count_of_N_beside { is_enabled pair 1 looked_in_N (Peek N 1 0 0 5) ≡ false }
-    // A look at a count of N makes no row of M known.
+    // A caller that found only a count of N may not peek a row of M.
     ensures count_of_N_alone { is_enabled pair 1 looked_in_N (Peek M 0 0 0 5) ≡ false }
-    // A look at a count of M makes a row below this count known in M.
+    // A caller that found the count 1 of caller 0 in M may peek the first row of caller 0 in M.
     ensures count_of_M { is_enabled pair 1 looked_in_M (Peek M 0 0 0 5) ≡ true }
-    // A look at a count of M makes no row of N known.
+    // A caller that found only a count of M may not peek a row of N.
     ensures count_of_M_alone { is_enabled pair 1 looked_in_M (Peek N 0 0 0 5) ≡ false }
-    // A cut of N makes a row below its count for the row's caller known in N.
+    // A caller that was given the cut 1 0 by a scan of N may peek the first row of caller 0 in N.
     ensures cut_of_N { is_enabled pair 1 cut_of_N (Peek N 0 0 0 5) ≡ true }
-    // A cut of N makes no row known that isn't below its count for the row's caller.
+    // A caller that was given only the cut 1 0 of N may not peek the second row of caller 0 in N.
     ensures cut_of_N_beyond { is_enabled pair 1 cut_of_N (Peek N 0 1 0 5) ≡ false }
-    // A cut of N makes no row of a caller known whose count in the cut is 0.
+    // A caller that was given only the cut 1 0 of N may not peek a row of caller 1 in N.
     ensures cut_of_N_beside { is_enabled pair 1 cut_of_N (Peek N 1 0 0 5) ≡ false }
-    // A cut of N makes no row of M known.
+    // A caller that was given only a cut of N may not peek a row of M.
     ensures cut_of_N_alone { is_enabled pair 1 cut_of_N (Peek M 0 0 0 5) ≡ false }
-    // A cut of M makes a row below its count for the row's caller known in M.
+    // A caller that was given the cut 1 0 by a scan of M may peek the first row of caller 0 in M.
     ensures cut_of_M { is_enabled pair 1 cut_of_M (Peek M 0 0 0 5) ≡ true }
-    // A cut of M makes no row of N known.
+    // A caller that was given only a cut of M may not peek a row of N.
     ensures cut_of_M_alone { is_enabled pair 1 cut_of_M (Peek N 0 0 0 5) ≡ false }
-    // A peeked entry of a view makes a row below it, of the caller that it is for, known in N.
+    // A caller that peeked the entry 1 for caller 0 of a view may peek the first row of caller 0 in
+    // N.
     ensures view { is_enabled pair 1 view_peeked (Peek N 0 0 0 5) ≡ true }
-    // A peeked entry of a view makes no row known that isn't below it.
+    // A caller that peeked only the entry 1 for caller 0 of a view may not peek the second row of
+    // caller 0.
     ensures view_beyond { is_enabled pair 1 view_peeked (Peek N 0 1 0 5) ≡ false }
-    // A peeked entry of a view makes no row known of another caller than the one that it is for.
+    // A caller that peeked only the entry for caller 0 of a view may not peek a row of caller 1.
     ensures view_beside { is_enabled pair 1 view_peeked (Peek N 1 0 0 5) ≡ false }
-    // A peeked entry of a view makes no row of M known.
+    // A caller that peeked only an entry of a view may not peek a row of M.
     ensures view_of_announcements { is_enabled pair 1 view_peeked (Peek M 0 0 0 5) ≡ false }
-    // A peeked word of an operation makes no row known.
+    // A caller that peeked only a word of an operation knows of no counted row.
     ensures announcement { is_enabled pair 1 announcement_peeked (Peek N 0 0 0 5) ≡ false }
-    // A peeked entry of an embedded cut, in a row of M, makes no row of N known.
+    // A caller that peeked only an entry of a cut embedded in M knows of no counted row of N.
     ensures embedded { is_enabled pair 1 embedded_peeked (Peek N 0 0 0 5) ≡ false }
-    // A peeked entry of an embedded cut, in a row of M, makes no row of M known.
+    // A caller that peeked only an entry of a cut embedded in M knows of no counted row of M.
     ensures embedded_in_M { is_enabled pair 1 embedded_peeked (Peek M 0 0 0 5) ≡ false }
 {}
 
@@ -374,7 +377,7 @@ pub fn scans_want()
     // A scan of one caller that is done after two equal looks has made no peek.
     ensures peeks_alone { peeks 1 (3 ∷ 3 ∷ []) ≡ 0 }
     // Where two callers have moved twice since the first collect, a scan needs the peek at the
-    // first entry of the cut in the latest row of the lesser one.
+    // first entry of the cut that the latest row of the one with the lower number embeds.
     ensures twice { wanted 3 (0 ∷ 0 ∷ 0 ∷ 2 ∷ 3 ∷ 0 ∷ []) ≡ Wants_peek 0 1 0 }
     // A scan borrows from caller 1 where caller 0 has moved once since the first collect, and
     // caller 1 has moved three times.
@@ -395,29 +398,31 @@ pub fn scans_want()
 pub fn a_cut_is_borrowed()
     // The steps of the run in which caller 2 borrows a cut are a run.
     ensures run { IsRun trio borrowing }
-    // After nine words, which are three collects, the scan needs a fourth collect.
+    // A scan of three callers that borrows after four collects needs the fourth after nine words.
     ensures fourth { wanted 3 (take 9 borrowed_words) ≡ Wants_look 0 }
-    // After twelve words the scan needs the peek at the first entry of the cut in the latest row of
-    // caller 0.
+    // A scan of three callers that borrows after four collects needs, after twelve words, the peek
+    // at the first entry of the cut in the latest row of caller 0.
     ensures borrows { wanted 3 (take 12 borrowed_words) ≡ Wants_peek 0 1 0 }
-    // After fourteen words the scan needs the peek at the last entry of the cut in that row.
+    // A scan of three callers that borrows after four collects needs, after fourteen words, the
+    // peek at the last entry of the cut in the latest row of caller 0.
     ensures last { wanted 3 (take 14 borrowed_words) ≡ Wants_peek 0 1 2 }
-    // After fifteen words the scan is done with the cut 1 1 0.
+    // A scan of three callers that borrows after four collects is done after fifteen words, with
+    // the borrowed cut 1 1 0.
     ensures done { wanted 3 borrowed_words ≡ Done (1 ∷ 1 ∷ 0 ∷ []) }
-    // The scan has made twelve looks.
+    // A scan of three callers that borrows after four collects has made twelve looks.
     ensures twelve_looks { looks 3 borrowed_words ≡ 12 }
-    // The scan has made three peeks.
+    // A scan of three callers that borrows after four collects has made three peeks.
     ensures three_peeks { peeks 3 borrowed_words ≡ 3 }
-    // The scan gives the borrowed cut 1 1 0 in its span.
+    // The scan of caller 2 gives the borrowed cut 1 1 0 in its span.
     ensures gives { GivesCut trio 2
         (record { region = N; cut = 1 ∷ 1 ∷ 0 ∷ []; since = 0 }) borrowing_span }
     // The borrowed cut was the counts of N at one moment within the scan.
     ensures instantaneous { IsInstantaneous trio
         (record { region = N; cut = 1 ∷ 1 ∷ 0 ∷ []; since = 0 }) borrowing_span }
-    // The caller was given the borrowed cut, and no other one.
+    // Caller 2 was given the borrowed cut, and no other one.
     ensures cuts { (local_after_all trio borrowing 2).cuts
         ≡ record { region = N; cut = 1 ∷ 1 ∷ 0 ∷ []; since = 0 } ∷ [] }
-    // Since the caller is in the phase announce and has staged no word, the borrowed cut is the one
+    // Since caller 2 is in the phase announce and has staged no word, the borrowed cut is the one
     // to embed.
     ensures to_embed { (local_after_all trio borrowing 2).to_embed ≡ Some (1 ∷ 1 ∷ 0 ∷ []) }
 {}
@@ -452,8 +457,8 @@ pub fn a_caller_alone_scans()
         ≡ record { region = N; cut = 0 ∷ []; since = 0 } ∷ [] }
 {}
 
-/// A cut is instantaneous where it was the counts of its region at a moment within the scan: not
-/// where it was so before the scan alone, and not where it was so in the other region alone.
+/// A cut is instantaneous where it was the counts of its region at a moment within the scan. It
+/// isn't where the region had these counts only before the scan, or only the other region had them.
 #[tactic(auto, using(crate::proofs::Moments::instantaneous_alone, crate::proofs::Moments::not_before, crate::proofs::Moments::not_of_answers))]
 pub fn moments_lie_within_scans()
     // The scan of N after the announcement gives the cut with the count 1 in its span.
@@ -472,7 +477,7 @@ pub fn moments_lie_within_scans()
 pub fn object_steps_are_conditional()
     // The announcements of two callers and their steps on an object word are a run.
     ensures run { IsRun scrap_pair object_steps_made }
-    // The object word is 9 after these steps.
+    // The object word is 9 after three object steps of the two callers.
     ensures word { object_word scrap_pair (end_of scrap_pair object_steps_made) 0 ≡ 9 }
     // The first caller has made two object steps in its one call.
     ensures first_steps { (local_after_all scrap_pair object_steps_made 0).object_steps

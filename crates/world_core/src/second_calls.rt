@@ -20,25 +20,25 @@ ghost use Rattle.world_core.specs.SecondCalls.{twice, two_by_one, first_operatio
 pub fn a_caller_makes_two_calls()
     // The announcement of one caller and the two whole calls of the other are a run.
     ensures run { IsRun twice two_by_one }
-    // The caller has both operations, in their order.
+    // After both calls the caller's local has their operations, in order.
     ensures operations { as_judged.operations ≡ first_operation ∷ second_operation ∷ [] }
-    // The caller has announced two calls.
+    // After both calls the caller has announced two calls.
     ensures announced { as_judged.announced ≡ 2 }
-    // The caller has published two records.
+    // After both calls the caller has published two records.
     ensures published { as_judged.published ≡ 2 }
-    // The caller has both replies, in their order.
+    // After both calls the caller's local has their replies, in order.
     ensures replies { as_judged.replies ≡ 50 ∷ 60 ∷ [] }
-    // The caller has both views, in their order.
+    // After both calls the caller's local has their views, in order.
     ensures views { as_judged.views ≡ (1 ∷ 1 ∷ []) ∷ (2 ∷ 1 ∷ []) ∷ [] }
-    // The caller has both seen cuts, in their order.
+    // After both calls the caller's local has their seen cuts, in order.
     ensures seen { as_judged.seen ≡ (1 ∷ 0 ∷ []) ∷ (2 ∷ 0 ∷ []) ∷ [] }
-    // The caller has both cuts that its rows embed in N, in their order.
+    // After both calls the caller's local has the cuts that its two rows embed in N, in order.
     ensures embedded_in_N { as_judged.embedded_in_N ≡ (0 ∷ 1 ∷ []) ∷ (1 ∷ 1 ∷ []) ∷ [] }
-    // The caller has both cuts that its rows embed in M, in their order.
+    // After both calls the caller's local has the cuts that its two rows embed in M, in order.
     ensures embedded_in_M { as_judged.embedded_in_M ≡ (0 ∷ 0 ∷ []) ∷ (1 ∷ 0 ∷ []) ∷ [] }
-    // The caller has no object step in either call.
+    // After both calls the caller's local has an empty list of object steps for each of them.
     ensures object_steps { as_judged.object_steps ≡ [] ∷ [] ∷ [] }
-    // The caller has all cuts that its scans gave, in their order.
+    // After both calls the caller's local has all eight cuts that its scans gave, in order.
     ensures cuts { as_judged.cuts
         ≡ record { region = N; cut = 0 ∷ 1 ∷ []; since = 0 }
         ∷ record { region = N; cut = 1 ∷ 1 ∷ []; since = 4 }
@@ -64,8 +64,8 @@ pub fn a_caller_makes_two_calls()
     ensures row_of_N { row_word twice (end_of twice two_by_one) N 0 1 1 ≡ 8 }
     // The second row of caller 0 has 60, its second reply, at place 0 in M.
     ensures row_of_M { row_word twice (end_of twice two_by_one) M 0 1 0 ≡ 60 }
-    // The history has the invocation of caller 1, and then invocation and return of the first call
-    // of caller 0, and those of its second.
+    // The history has the invocation of caller 1's call, then invocation and return of the first
+    // call of caller 0, and then those of its second call.
     ensures history { history_of twice two_by_one
         ≡ Invoked (call_of 1 0) 9
         ∷ Invoked (call_of 0 0) first_operation
@@ -77,29 +77,29 @@ pub fn a_caller_makes_two_calls()
     ensures call { call_of 3 2 ≡ record { caller = 3; number = 2 } }
 {}
 
-/// How far the second call of a caller has come at moments of the run, and what belongs at the
-/// places of its row and of the row before.
+/// How far the two calls of a caller have come at four moments of a run, and which words belong at
+/// the places of its two rows.
 pub fn second_calls_have_their_own()
     // Right after the second announcement the first call has its record and its seen cut, and the
     // second is announced.
     ensures announced { calls_in as_announced ≡ made first_operation
         (Has_seen first_record (1 ∷ 0 ∷ [])) ∷ made second_operation Is_announced ∷ [] }
-    // Right after the second view the second call has its record.
+    // Right after the view of the second call is taken, the second call has its record.
     ensures viewed { calls_in as_viewed ≡ made first_operation (Has_seen first_record (1 ∷ 0 ∷ []))
         ∷ made second_operation (Has_record second_record) ∷ [] }
     // Right after the second publication the second call has its record, and no seen cut yet.
     ensures published { calls_in as_published
         ≡ made first_operation (Has_seen first_record (1 ∷ 0 ∷ []))
         ∷ made second_operation (Has_record second_record) ∷ [] }
-    // Right after the second seen cut the second call has it, with its record.
+    // Right after the second seen cut the second call has its record and this seen cut.
     ensures judged { calls_in as_judged ≡ made first_operation (Has_seen first_record (1 ∷ 0 ∷ []))
         ∷ made second_operation (Has_seen second_record (2 ∷ 0 ∷ [])) ∷ [] }
     // The book at the end has both calls of caller 0 with their records, and the call of caller 1.
     ensures book { book_in (end_of twice two_by_one).locals ≡ book_of_two }
-    // The words that belong at the places of the first row are those of the first call.
+    // The words that belong at the places of the caller's first row are those of its first call.
     ensures first_words { map (word_of as_judged 0) contents
         ≡ 5 ∷ 7 ∷ 0 ∷ 1 ∷ 50 ∷ 1 ∷ 1 ∷ 0 ∷ 0 ∷ [] }
-    // The words that belong at the places of the second row are those of the second call.
+    // The words that belong at the places of the caller's second row are those of its second call.
     ensures second_words { map (word_of as_judged 1) contents
         ≡ 6 ∷ 8 ∷ 1 ∷ 1 ∷ 60 ∷ 2 ∷ 1 ∷ 1 ∷ 0 ∷ [] }
     // The caller's own count in N is 2 after the second announcement.
@@ -123,10 +123,10 @@ pub fn second_calls_have_their_own()
 pub fn object_steps_belong_to_calls()
     // The three steps on two object words, in two calls, are a run with the rest of these calls.
     ensures run { IsRun two_words steps_by_call }
-    // The object steps of each call are those that the caller made in it.
+    // For each call the caller's local has the object steps that the caller made in it, in order.
     ensures by_call { (local_after_all two_words steps_by_call 0).object_steps
         ≡ (object_step 1 0 3 ∷ object_step 0 0 4 ∷ []) ∷ (object_step 1 3 8 ∷ []) ∷ [] }
-    // The object steps of the call under way are those of the second call alone.
+    // The object steps of the call under way, the second one, are that call's alone.
     ensures now { steps_now (local_after_all two_words steps_by_call 0) ≡ object_step 1 3 8 ∷ [] }
     // The operation of the call under way is that of the second call, 6.
     ensures operation { operation_now (local_after_all two_words steps_by_call 0) ≡ 6 }
@@ -200,22 +200,26 @@ pub fn peeks_are_kept()
         0 1 4 9).scan ≡ (local_after_all trio (moved_twice ++ take 3 borrowed) 2).scan }
 {}
 
-/// Which histories of one caller are linearizable: its second call comes after its first, though
-/// both have one operation; no call is in the order twice, or before itself; and the replies depend
-/// on the first list.
+/// Which histories of one caller are linearizable for an object that replies the number of
+/// operations before. The caller's second call comes after its first, though both have one
+/// operation. No call is in the order twice, or returns before it is invoked. Which replies are
+/// right depends on the list that the object begins with.
 #[tactic(auto, using(crate::proofs::OneCaller::in_turn_linearizable, crate::proofs::OneCaller::caller_forbids, crate::proofs::OneCaller::one_forbids, crate::proofs::OneCaller::list_allows, crate::proofs::OneCaller::list_forbids, crate::proofs::OneCaller::before_forbids))]
 pub fn histories_of_one_caller_are_linearizable()
-    // A history of two calls of one caller that return 0 and 1, one after the other, is
-    // linearizable.
+    // A history of two calls of one caller, one after the other, that return 0 and 1 is
+    // linearizable for an object that replies the number of operations before.
     ensures in_turn { IsLinearizable numbering in_turn }
-    // A history of two calls of one caller that return 1 and 0, one after the other, isn't
-    // linearizable.
+    // A history of two calls of one caller, one after the other, that return 1 and 0 isn't
+    // linearizable for an object that replies the number of operations before.
     ensures by_caller { ¬ IsLinearizable numbering out_of_turn }
-    // A history of one call, which returns 1, isn't linearizable from the empty list.
+    // A history of one call, which returns 1, isn't linearizable for an object that replies the
+    // length of its list and begins with the empty list.
     ensures once { ¬ IsLinearizable numbering returns_one }
-    // A history of one call, which returns 1, is linearizable from a list of one operation.
+    // A history of one call, which returns 1, is linearizable for an object that replies the length
+    // of its list and begins with a list of one operation.
     ensures from_a_list { IsLinearizable (record numbering { init = 7 ∷ [] }) returns_one }
-    // A history of one call, which returns 0, isn't linearizable from a list of one operation.
+    // A history of one call, which returns 0, isn't linearizable for an object that replies the
+    // length of its list and begins with a list of one operation.
     ensures from_that_list { ¬ IsLinearizable (record numbering { init = 7 ∷ [] }) returns_none }
     // A history in which a call returns before it is invoked isn't linearizable.
     ensures before_itself { ¬ IsLinearizable numbering returns_before }

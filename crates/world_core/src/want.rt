@@ -5,8 +5,8 @@ use book_base::Cut;
 pub enum Want {
     /// A look at the count word of this caller in the scan's region.
     Look(u32),
-    /// A peek into a row of a caller in the scan's region: the caller, the row, and the caller
-    /// whose entry of the embedded cut is needed.
+    /// A peek at an entry of the cut that a row embeds in the scan's region: the row's caller, the
+    /// row's number, and the caller that the entry is for.
     Peek(u32, u64, u32),
     /// Nothing, since the scan has ended with this cut.
     Done(Cut),

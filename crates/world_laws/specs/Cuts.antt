@@ -100,9 +100,9 @@ CutsRise =
     → slice_get (local_at locals i).cuts p ≡ Some a → slice_get (local_at locals i).cuts q ≡ Some b
     → a.region ≡ b.region → IsWithin a.cut b.cut
 
--- A cut of a region contains each count of that region that its caller had looked at before the
--- cut's scan began. Looked counts are listed newest first, so these are the last ones, as many as
--- the field `since` of the cut says.
+-- A count that a caller looked at before its scan of the same region began is at most the entry of
+-- that scan's cut for the caller whose count it is. The field `since` of the cut says how many
+-- counts had been looked at by then: the last ones of the list, which has the newest first.
 abbrev pub CutsHoldLooked : Type 0
 CutsHoldLooked =
     (s : Shape) (locals : List Local) (i p q : ℕ) (look : Looked) (given : Given)

@@ -12,8 +12,8 @@ use Rattle.world_core.specs.World.{Step, local_of, count_of, row_word, IsRun, en
 use Rattle.world_core.specs.Agreement.{HasPhase}
 use Rattle.world_core.specs.Calls.{AreTogether, IsPublished, HasPeeked, local_at}
 
--- There is one local for each caller, and each is of its phase, with counts that are at most the
--- cap.
+-- In every reachable world there is one local for each caller. The counts and the list lengths of
+-- each local are those that its phase demands, and its counts are at most the cap.
 abbrev pub LocalsHavePhases : Type 0
 LocalsHavePhases =
     (s : Shape) (locals : List Local) → AreTogether s locals
@@ -26,14 +26,16 @@ abbrev pub IsCountedRow : Shape → List Local → Region → ℕ → ℕ → Ty
 IsCountedRow s locals region j k = (j < s.callers) × (k < s.cap)
     × (k < own_count (local_at locals j) region)
 
--- A row that a caller knows of is counted.
+-- In the locals of a reachable world a row that counts by what a caller has found (a count, a cut,
+-- or in N an entry of a view) is counted.
 abbrev pub KnownRowsAreCounted : Type 0
 KnownRowsAreCounted =
     (s : Shape) (locals : List Local) (i j k : ℕ) (region : Region) → AreTogether s locals
     → i < s.callers
     → IsTrue (knows_row s.callers (local_at locals i) region j k) → IsCountedRow s locals region j k
 
--- A word that a caller peeked is the word of its owner's call, in a row that is counted.
+-- A word that a caller peeked in a row is the word of the row's call that belongs at this place,
+-- and the row is counted.
 abbrev pub PeekedWordsAreWords : Type 0
 PeekedWordsAreWords =
     (s : Shape) (locals : List Local) (i : ℕ) (region : Region) (call : Call) (place x : ℕ)
@@ -42,7 +44,8 @@ PeekedWordsAreWords =
     → IsCountedRow s locals region call.caller call.number × (place < places s.callers region)
     × (x ≡ word_of (local_at locals call.caller) call.number (content s.callers region place))
 
--- A count that a caller looked at is one of a caller, and is at most that caller's own count.
+-- A count that a caller looked at is the count of a caller of the world, and is at most that
+-- caller's own count.
 abbrev pub LookedCountsAreLow : Type 0
 LookedCountsAreLow =
     (s : Shape) (locals : List Local) (i p : ℕ) (look : Looked) → AreTogether s locals
@@ -59,7 +62,7 @@ GivenCutsAreLow =
     → (length given.cut ≡ s.callers) × ((j : ℕ) → j < s.callers
     → slice_index given.cut j ≤ own_count (local_at locals j) given.region)
 
--- A cut of M that a scan gave is one of what was published.
+-- A cut of M that a scan gave counts published records alone.
 abbrev pub GivenCutsArePublished : Type 0
 GivenCutsArePublished =
     (s : Shape) (locals : List Local) (i p : ℕ) (given : Given) → AreTogether s locals
@@ -67,14 +70,15 @@ GivenCutsArePublished =
     → slice_get (local_at locals i).cuts p ≡ Some given → given.region ≡ M
     → IsPublished locals given.cut
 
--- A row that a caller knows of at the end of a run is counted.
+-- At the end of a run a row that counts by what a caller has found (a count, a cut, or in N an
+-- entry of a view) is counted.
 abbrev pub KnownRowsAreCountedInRuns : Type 0
 KnownRowsAreCountedInRuns =
     (s : Shape) (steps : List Step) (i j k : ℕ) (region : Region) → IsRun s steps → i < s.callers
     → IsTrue (knows_row s.callers (local_of (end_of s steps) i) region j k) → (j < s.callers)
     × (k < s.cap) × (k < count_of s (end_of s steps) region j)
 
--- A word that a caller has peeked at the end of a run is the word of its row, which is counted.
+-- A word that a caller has peeked in a run stands at its place in a counted row at the run's end.
 abbrev pub PeekedWordsStand : Type 0
 PeekedWordsStand =
     (s : Shape) (steps : List Step) (i : ℕ) (region : Region) (call : Call) (place x : ℕ)

@@ -1,5 +1,5 @@
--- What the cuts of a caller say of itself and of the others: its views, its seen cuts, and the cuts
--- that its rows embed.
+-- How many of a caller's own calls and rows its views, its seen cuts and its embedded cuts count,
+-- and at most how many of another caller's.
 use Rattle.std.specs.Prelude.{◌≡◌, ℕ, ◌+◌, ◌<◌, ◌≤◌, List, [], length, slice_index, slice_index_or}
 use Rattle.world_core.specs.declared.region.Region.{Region}
 use Rattle.world_core.specs.declared.region.Region.TheVariants.{N, M}
@@ -7,8 +7,8 @@ use Rattle.world_core.specs.Shape.{Shape}
 use Rattle.world_core.specs.Local.{Local, own_count, embedded_in}
 use Rattle.world_core.specs.Calls.{AreTogether, local_at}
 
--- A cut has one count for each caller, none above that caller's own count in a region, and this one
--- for caller i.
+-- A cut has one count for each caller, none above that caller's own count in a region; and for
+-- caller i it has the given count.
 pub record IsCutOf (locals : List Local) (region : Region) (i count : ℕ)
     (cut : List ℕ) : Type 0 where
   pub wide : length cut ≡ length locals
@@ -16,22 +16,23 @@ pub record IsCutOf (locals : List Local) (region : Region) (i count : ℕ)
       → slice_index cut j ≤ own_count (local_at locals j) region
   pub own : slice_index cut i ≡ count
 
--- View k of a caller counts announced calls, k + 1 of them its own.
+-- View k of a caller counts announced calls alone, k + 1 of them its own.
 abbrev pub ViewsCountTheirCall : Type 0
 ViewsCountTheirCall =
     (s : Shape) (locals : List Local) (i k : ℕ) → AreTogether s locals → i < s.callers
     → k < length (local_at locals i).views
     → IsCutOf locals N i (k + 1) (slice_index_or (local_at locals i).views k [])
 
--- Seen cut k of a caller counts published records, k + 1 of them its own: so it belongs to call k.
+-- Seen cut k of a caller counts published records alone, k + 1 of them its own: of the caller's
+-- calls it holds call k as the last.
 abbrev pub SeenCutsCountTheirCall : Type 0
 SeenCutsCountTheirCall =
     (s : Shape) (locals : List Local) (i k : ℕ) → AreTogether s locals → i < s.callers
     → k < length (local_at locals i).seen
     → IsCutOf locals M i (k + 1) (slice_index_or (local_at locals i).seen k [])
 
--- The cut that row k of a caller embeds in a region counts rows of that region, k of them the
--- caller's own.
+-- The cut that row k of a caller embeds in a region counts counted rows of that region alone, k of
+-- them the caller's own.
 abbrev pub EmbeddedCutsCountTheirRow : Type 0
 EmbeddedCutsCountTheirRow =
     (s : Shape) (locals : List Local) (i k : ℕ) (region : Region) → AreTogether s locals

@@ -23,7 +23,7 @@ abbrev pub plain : List Step → List Step
 plain [] = []
 plain (step ∷ steps) = if is_object step.event then plain steps else step ∷ plain steps
 
--- The local with no object step in any of its calls. Its scan, its cuts and its calls are the same.
+-- The local with an empty list of object steps for each of its calls, and otherwise as it was.
 abbrev pub without_steps : Local → Local
 without_steps l = record l { object_steps = map (λ (steps : List Object_step). []) l.object_steps }
 
@@ -32,9 +32,9 @@ pub record IsPlain (s : Shape) (w v : World) : Type 0 where
   pub words : v.words ≡ take (row_words s.callers s.cap) w.words
   pub locals : v.locals ≡ map without_steps w.locals
 
--- A run of any program, without its object steps, is a run for the outside program. It ends in the
--- same words but the object words, and in the same locals but their object steps, and it has the
--- same object history.
+-- A run of any program, without its object steps, is a run for the program whose object is outside
+-- the world. It ends in the same words but for the object words, and in the same locals but for
+-- their object steps, and it has the same object history.
 abbrev pub RunsProject : Type 0
 RunsProject =
     (s : Shape) (steps : List Step) → IsRun s steps
@@ -42,8 +42,8 @@ RunsProject =
     × IsPlain s (end_of s steps) (end_of (outside_of s) (plain steps))
     × (history_of (outside_of s) (plain steps) ≡ history_of s steps)
 
--- A prefix of a run projects to a prefix of the projected run, so a run projects at each of its
--- moments.
+-- A prefix of some steps, without its object steps, is a prefix of these steps without their object
+-- steps. So what `RunsProject` says of the end of a run holds at each of its moments.
 abbrev pub BeginningsProject : Type 0
 BeginningsProject = (before later : List Step)
     → plain (before ++ later) ≡ plain before ++ plain later

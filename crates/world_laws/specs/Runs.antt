@@ -7,7 +7,7 @@ use Rattle.world_core.specs.Shape.{Shape}
 use Rattle.world_core.specs.World.{World, Step, start, local_of, count_of, row_word, after, is_possible, IsRun, end_of, IsReachable}
 use Rattle.world_core.specs.Agreement.{Agrees}
 
--- None of these steps is one of this caller.
+-- Whether none of these steps is made by caller i.
 abbrev pub are_of_others : ℕ → List Step → Bool
 are_of_others i steps = list_all (λ (step : Step). not (step.who == i)) steps
 
@@ -27,7 +27,8 @@ CountsNeverFall =
     → i < s.callers
     → count_of s (end_of s before) region i ≤ count_of s (end_of s (before ++ later)) region i
 
--- A row below its count never changes.
+-- A counted row never changes: once a row's number is below its caller's count in a region, the
+-- row's words of that region stay as they are.
 abbrev pub CountedRowsStay : Type 0
 CountedRowsStay =
     (s : Shape) (before later : List Step) (region : Region) (i k place : ℕ)
@@ -59,7 +60,7 @@ LocalsAreOwn =
     → IsTrue (are_of_others i later)
     → local_of (end_of s (before ++ later)) i ≡ local_of (end_of s before) i
 
--- The local of each caller agrees with the words of the table.
+-- At the end of every run the local of each caller agrees with the words of the table.
 abbrev pub LocalsAgree : Type 0
 LocalsAgree = (s : Shape) (steps : List Step) (i : ℕ) → IsRun s steps → i < s.callers
     → Agrees s (end_of s steps).words i (local_of (end_of s steps) i)

@@ -25,28 +25,28 @@ CutsHoldNoLater =
     → j < s.callers
     → slice_index given.cut j ≤ count_of s (end_of s (through_last r)) given.region j
 
--- The entry of a scan's cut for the scan's own caller is that caller's count.
+-- The entry of a scan's cut for the scanning caller is that caller's count as the scan ends.
 abbrev pub CutsHoldOwn : Type 0
 CutsHoldOwn =
     (s : Shape) (who : ℕ) (given : Given) (r : ScanSpan) → GivesCut s who given r
     → slice_index given.cut who ≡ count_of s (end_of s (through_last r)) given.region who
 
--- The field since of a cut is the number of counts that its caller had looked at before the cut's
+-- The field `since` of a cut is the number of counts that its caller had looked at before the cut's
 -- scan began.
 abbrev pub CutsTellSince : Type 0
 CutsTellSince =
     (s : Shape) (who : ℕ) (given : Given) (r : ScanSpan) → GivesCut s who given r
     → given.since ≡ length (local_of (end_of s r.before) who).looked
 
--- A scan by a caller gave this cut in the run, in this span of it.
+-- A scan by caller `who` gave this cut in a span with which the run begins.
 pub record IsGivenBy (s : Shape) (steps : List Step) (who : ℕ) (given : Given) : Type 0 where
   pub span : ScanSpan
   pub later : List Step
   pub parts : steps ≡ through_last span ++ later
   pub gives : GivesCut s who given span
 
--- Each cut that a caller has was given by a scan of its own, in a span of the run; so the laws on
--- spans hold of each such cut.
+-- Each cut that a caller was given came of a scan by this caller in some span of the run; so the
+-- laws on the cut of a span hold of it too.
 abbrev pub CutsHaveSpans : Type 0
 CutsHaveSpans =
     (s : Shape) (steps : List Step) (i p : ℕ) (given : Given) → IsRun s steps → i < s.callers

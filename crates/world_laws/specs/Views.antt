@@ -1,12 +1,12 @@
--- What a view holds, by the order of a run.
+-- Which calls a view holds, by the order of the events of a run.
 use Rattle.std.specs.Prelude.{◌≡◌, ℕ, ◌<◌, ◌≤◌, List, [], ◌∷◌, ◌++◌, length, slice_index, slice_index_or}
 use Rattle.world_core.specs.declared.region.Region.TheVariants.{N}
 use Rattle.world_core.specs.Shape.{Shape}
 use Rattle.world_core.specs.Event.{Look, Begins_view}
 use Rattle.world_core.specs.World.{Step, local_of, count_of, IsRun, end_of}
 
--- The look that begins the view's scan: the caller's call returns there, with the reply that it
--- carries.
+-- The step at which the call of a caller returns with a reply: the first look of its view's scan,
+-- which finds the count x and carries the reply.
 abbrev pub return_of : ℕ → ℕ → ℕ → Step
 return_of who x reply = record { who = who; event = Look N 0 x (Begins_view reply) }
 

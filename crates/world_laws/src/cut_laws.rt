@@ -40,33 +40,35 @@ pub fn cuts_are_instantaneous()
 {}
 
 /// The cut of a scan holds what was counted before the scan began, and nothing that was counted
-/// after it ended; and its own entry is its caller's count.
+/// after it ended; and its entry for the scanning caller is that caller's own count.
 pub fn cuts_hold_by_time()
     // The cut of a scan holds all that was counted before the scan began.
     ensures earlier { CutsHoldEarlier }
     // The cut of a scan holds nothing that was counted after the scan ended.
     ensures no_later { CutsHoldNoLater }
-    // The entry of a scan's cut for its own caller is that caller's count.
+    // The entry of a scan's cut for the scanning caller is that caller's count as the scan ends.
     ensures own { CutsHoldOwn }
-    // The field since of a cut is the number of counts that its caller had looked at before the
+    // The field `since` of a cut is the number of counts that its caller had looked at before the
     // cut's scan began.
     ensures since { CutsTellSince }
 {}
 
-/// Each cut that a caller has was given by a scan of its own in a span of the run, so that the laws
-/// on spans hold of each of them.
+/// Each cut that a caller was given came of a scan by this caller in some span of the run; so the
+/// laws on the cut of a span hold of it too.
 pub fn cuts_have_spans()
     ensures { CutsHaveSpans }
 {}
 
-/// A cut that a caller was given contains each earlier one of the region, and each count of it that
-/// the caller had looked at before the scan began.
+/// A cut that a caller was given contains each cut of the same region that the caller was given
+/// before; and no count of that region that the caller had looked at before the cut's scan began is
+/// above the cut's entry.
 pub fn cuts_rise()
     // A cut of a region contains each cut of that region that its caller was given before.
     ensures cuts { CutsRise }
-    // A cut contains each count of its region that its caller had looked at before the scan began.
+    // A count that a caller looked at before its scan of the same region began is at most the entry
+    // of that scan's cut for the caller whose count it is.
     ensures looked { CutsHoldLooked }
-    // The field since of a cut is at most the number of counts that its caller has looked at.
+    // The field `since` of a cut is at most the number of counts that its caller has looked at.
     ensures since { CutsHaveSince }
 {}
 

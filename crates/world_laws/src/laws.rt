@@ -2,13 +2,13 @@
 
 ghost use Rattle.world_laws.specs.Runs.{StartIsReachable, StepsReach, CountsNeverFall, CountedRowsStay, CountsAreOwn, RowsAreOwn, LocalsAreOwn, LocalsAgree};
 
-/// The worlds that runs reach are the start, and the world after each possible step of such a
-/// world.
+/// The world at the start is reachable, and so is the world after each step that is enabled in a
+/// reachable world.
 #[tactic(auto, using(crate::proofs::Running::start_is_reachable, crate::proofs::Running::steps_reach))]
 pub fn runs_go_on()
     // The world at the start is reachable.
     ensures start { StartIsReachable }
-    // The world after a possible step of a reachable world is reachable.
+    // The world after a step that is enabled in a reachable world is reachable.
     ensures step { StepsReach }
 {}
 
@@ -18,7 +18,8 @@ pub fn counts_never_fall()
     ensures { CountsNeverFall }
 {}
 
-/// A row below its count never changes.
+/// A counted row never changes: once a row's number is below its caller's count in a region, the
+/// row's words of that region stay as they are.
 #[tactic(auto, using(crate::proofs::Running::counted_rows_stay))]
 pub fn counted_rows_stay()
     ensures { CountedRowsStay }
@@ -35,9 +36,10 @@ pub fn own_events_alone()
     ensures local { LocalsAreOwn }
 {}
 
-/// The phase, the counts and the lists of a local agree with each other and with the words. The own
-/// counts are the count words. Each announced operation, each published record and each embedded
-/// cut is in its row, and each staged word is in the row under way.
+/// In every reachable world the phase, the counts and the lists of a local agree with each other
+/// and with the words of the table. The caller's own counts are its count words. Each announced
+/// operation, each published record and each embedded cut is in its row, and each staged word is in
+/// the row under way.
 #[tactic(auto, using(crate::proofs::Running::locals_agree))]
 pub fn locals_agree()
     ensures { LocalsAgree }

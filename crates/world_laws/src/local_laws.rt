@@ -3,43 +3,48 @@
 
 ghost use Rattle.world_laws.specs.Locals.{LocalsHavePhases, KnownRowsAreCounted, PeekedWordsAreWords, LookedCountsAreLow, GivenCutsAreLow, GivenCutsArePublished, KnownRowsAreCountedInRuns, PeekedWordsStand, LookedCountsAreLowInRuns, AnnouncementsGiveUpScans, PublicationsGiveUpScans};
 
-/// There is one local for each caller, and each is of its phase.
+/// In every reachable world there is one local for each caller. The counts and the list lengths of
+/// each local are those that its phase demands, and its counts are at most the cap.
 pub fn locals_have_phases()
     ensures { LocalsHavePhases }
 {}
 
-/// A row that a caller knows of is below the cap and counted.
+/// A row that counts by what a caller has found (a count that it looked at, a cut that its scan
+/// gave, or, in N, an entry of a view that it peeked) is counted, and its number is below the cap.
 #[tactic(auto, using(crate::proofs::Locals::known_rows_are_counted, crate::proofs::Locals::known_rows_are_counted_in_runs))]
 pub fn known_rows_are_counted()
-    // A row that a caller knows of, by its local in a reachable world, is below the cap and
-    // counted.
+    // In the locals of a reachable world a row that counts by what a caller has found is below the
+    // cap, and below the own count of the row's caller.
     ensures locals { KnownRowsAreCounted }
-    // A row that a caller knows of at the end of a run is below the cap and counted.
+    // At the end of a run a row that counts by what a caller has found is below the cap, and below
+    // the count word of the row's caller.
     ensures runs { KnownRowsAreCountedInRuns }
 {}
 
-/// A peeked word is the word of its owner's call, and the word of its row.
+/// A word that a caller peeked is the word that belongs at its place in a counted row, and it still
+/// stands there.
 pub fn peeked_words_are_words()
-    // A word that a caller peeked is the word of its owner's call, in a row that is counted.
+    // A word that a caller peeked in a row is the word of the row's call that belongs at this
+    // place, and the row is counted.
     ensures locals { PeekedWordsAreWords }
-    // A word that a caller peeked is the word of its row at the end of the run.
+    // A word that a caller peeked in a run stands at its place in a counted row at the run's end.
     ensures runs { PeekedWordsStand }
 {}
 
-/// A count that a caller looked at is at most the own count of the caller that it is of.
+/// A count that a caller looked at is at most the own count of the caller whose count it is.
 pub fn looked_counts_are_low()
-    // A count that a caller looked at is at most the own count of the caller that it is of.
+    // A count that a caller looked at is at most the own count of the caller whose count it is.
     ensures locals { LookedCountsAreLow }
     // A count that a caller looked at is at most what the same count word is at the end of the run.
     ensures runs { LookedCountsAreLowInRuns }
 {}
 
-/// A cut that a scan gave is never above the counts, so that one of the region of answers is a cut
-/// of what was published.
+/// No entry of a cut that a scan gave is above the own count of the caller that it is for; so a cut
+/// of M counts published records alone.
 pub fn given_cuts_are_low()
     // A cut that a scan gave has one count for each caller, none above that caller's own count.
     ensures low { GivenCutsAreLow }
-    // A cut of M that a scan gave is one of what was published.
+    // A cut of M that a scan gave counts published records alone.
     ensures published { GivenCutsArePublished }
 {}
 

@@ -1,4 +1,4 @@
-//! What a view holds, by the order of a run.
+//! Which calls a view holds, by the order of the events of a run.
 
 ghost use Rattle.world_laws.specs.Views.{ViewsHoldEarlier, ViewsHoldNoLater};
 
