@@ -1,5 +1,5 @@
-//! A book judged by sets of calls, where the object serves one call at a time: a legal order of
-//! sets is then a legal order, so the verdict is the same.
+//! A book judged by sets of one call each, for an object that serves one call at a time. A legal
+//! order of such sets is a legal order, so the verdict is that of a search for one.
 
 use anyhow::{Result, anyhow};
 use book_text::read_book;
@@ -11,7 +11,7 @@ use std::alloc::Global;
 const MOST_CALLERS: u32 = 3;
 
 /// Whether the verdict by sets of one call each on the book with this text is the expected one. A
-/// book of many callers isn't tried.
+/// book of more than `MOST_CALLERS` callers isn't tried, and the answer is true.
 pub fn agrees(alloc: Global, text: &[u8], is_legal: bool) -> Result<bool> {
     let (kind, book) = read_book(alloc, text).map_err(|_| anyhow!("the book can't be read"))?;
     if book.callers() > MOST_CALLERS {

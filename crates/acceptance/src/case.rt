@@ -47,7 +47,8 @@ impl CaseOutcome {
         })
     }
 
-    // The outcome of a case that is known by its name, with the fault that was found.
+    // The outcome of the case with this name: it passed where no fault was found, and else its
+    // report tells the fault.
     fn of(alloc: Global, name: &str, found: Result<()>) -> Result<CaseOutcome> {
         match found {
             Ok(()) => CaseOutcome::good(alloc),
@@ -58,8 +59,7 @@ impl CaseOutcome {
         }
     }
 
-    // The outcome of a trial, with the number of the call that failed in the attempt that didn't
-    // pass.
+    // The outcome of an attempt, with a report that also tells which read or write of it fails.
     fn at(self, alloc: Global, call: &str, number: u64) -> Result<CaseOutcome> {
         let report = format!(in alloc; "{}, where {call} {number} fails", self.report)?;
         Ok(CaseOutcome {
@@ -89,9 +89,9 @@ impl Case {
         })
     }
 
-    /// Runs the case, and tries its book in two further ways: by sets of calls that stand alone,
-    /// which have to give the same verdict, and, where the book is to be legal, at its smaller
-    /// cuts.
+    /// Runs the case. Where it passes and expects a verdict of `verify`, its book is judged in two
+    /// further ways: by sets of one call each, which have to give the same verdict, and, where the
+    /// book is to be legal, at its smaller cuts.
     pub fn run_with_cuts<R: AllocGlobal + Threads + Sync>(&self, rt: &R) -> Result<CaseOutcome> {
         let outcome = self.run(rt)?;
         if !outcome.passed || self.trial != Trial::Once {
@@ -107,7 +107,7 @@ impl Case {
         )
     }
 
-    // Tries the book by sets, and at its smaller cuts.
+    // Judges the book by sets of one call each, and a legal book at its smaller cuts as well.
     fn try_further(&self, alloc: Global, is_legal: bool) -> Result<()> {
         if !agrees(alloc, &self.input, is_legal)? {
             return Err(anyhow!("by sets of single calls the verdict is another"));
@@ -174,8 +174,8 @@ impl Case {
         self.run_on(rt, &attempt)
     }
 
-    // Runs a case with each prefix of the input that isn't whole, which has to be refused as a text
-    // that is cut.
+    // Runs a case with each prefix of the input, but not the whole input, which has to be refused
+    // as a text that is cut.
     fn run_prefixes<R: AllocGlobal + Threads + Sync>(&self, rt: &R) -> Result<CaseOutcome> {
         for count in 0..self.input.len() {
             let prefix = &self.input[..count];
@@ -197,8 +197,8 @@ impl Case {
         CaseOutcome::good(rt.alloc())
     }
 
-    // Runs a case whose source gives one byte a read, so that the last read finds the end. Each of
-    // these reads fails in turn, and then the read after the last, which isn't made.
+    // Runs a case whose source gives one byte a read, once for each read up to the one that finds
+    // the end, where this read fails; and once more, where the read that is to fail isn't made.
     fn run_failing_reads<R: AllocGlobal + Threads + Sync>(&self, rt: &R) -> Result<CaseOutcome> {
         let last = (self.input.len() as u64).saturating_add(1);
         for failing in 1..=last.saturating_add(1) {
@@ -220,8 +220,8 @@ impl Case {
         CaseOutcome::good(rt.alloc())
     }
 
-    // Runs a case whose sink takes one byte a write. Each write of the expected output fails in
-    // turn, and then the write after the last, which isn't made.
+    // Runs a case whose sink takes one byte a write, once for each write of the expected output,
+    // where this write fails; and once more, where the write that is to fail isn't made.
     fn run_failing_writes<R: AllocGlobal + Threads + Sync>(&self, rt: &R) -> Result<CaseOutcome> {
         for taken in 0..=self.wanted.len() {
             let failing = (taken as u64).saturating_add(1);
@@ -246,7 +246,8 @@ impl Case {
         CaseOutcome::good(rt.alloc())
     }
 
-    // A sink with the case's capacity, in which these writes fail.
+    // A sink with the case's capacity. The writes whose numbers are in `fails` fail, and a write
+    // takes at most `most` bytes.
     fn sink(&self, alloc: Global, fails: &[u64], most: usize) -> Result<MemorySink> {
         let fails = fails.to_vec(alloc)?;
         MemorySink::new(alloc, self.sink_room, fails, most.max(1)).map_err(|_| anyhow!(
@@ -280,8 +281,8 @@ impl Case {
         Ok(CaseOutcome { passed, report })
     }
 
-    // Calls the top call, and tests its status, and how many bytes the source has left, where the
-    // case says this.
+    // Makes the top call, and answers its status and, where the case says how many bytes the source
+    // is to have left, how many it has.
     fn answer<R: AllocGlobal + Threads + Sync, S: Source, K: Sink>(
         &self,
         rt: &R,

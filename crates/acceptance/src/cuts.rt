@@ -1,5 +1,5 @@
-//! The books at the smaller cuts of a legal book: each of them is legal too, since an error is
-//! final, and the order that the search gives is one that a judge without a search accepts.
+//! The books at the smaller cuts of a legal book. Each has a legal order too, since a book without
+//! one has none after it has grown. The order that the search finds is accepted without a search.
 ghost use Rattle.std.specs.Prelude.{◌≡◌, ℕ, length, IsTrue};
 ghost use Rattle.book_base.specs.Cut.{IsWithin};
 ghost use Rattle.book_base.specs.Book.{answered};
@@ -31,8 +31,8 @@ pub fn try_cuts(alloc: Global, text: &[u8]) -> Result<u64> {
     Ok(MOST)
 }
 
-// Whether the book at a cut has a legal order. A cut that isn't within the record counts has no
-// book.
+// Whether the book at a cut has a legal order, by a search whose order is accepted. A cut that
+// isn't within the record counts of the book is an error.
 fn is_legal_at(alloc: Global, kind: Kind, book: &Book, cut: &Cut) -> Result<bool> {
     if cut.n() != book.callers() || !is_within_records(book, cut) {
         return Err(anyhow!("the cut is outside of the records"));
@@ -46,7 +46,7 @@ fn is_legal_at(alloc: Global, kind: Kind, book: &Book, cut: &Cut) -> Result<bool
     }
 }
 
-// Whether a given order of a book is accepted.
+// Whether the check of orders, which makes no search, accepts an order of a book.
 fn is_accepted(alloc: Global, kind: Kind, book: &Book, order: &[Place]) -> Result<bool> {
     let judged = check_order(alloc, &kind, book, order);
     Ok(

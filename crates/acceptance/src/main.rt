@@ -14,19 +14,19 @@
 //! | `in-turns CALLER COUNT` | the line of a script's turns, with this many turns of the caller |
 //! | `in-each CALLERS COUNT OP, ..` | the lines of a script from `callers` to its last call: each caller has COUNT calls, which take the operations in turn; a `*` in an operation is a number that no other call has |
 //! | `in-rounds CALLERS COUNT TURNS` | the line of a script's turns: COUNT rounds, in each of which each caller has TURNS turns in a row |
-//! | `in-answered CALLER COUNT OP REPLY` | this many such lines, each with the reply, and a view of the caller's calls up to this one |
-//! | `prefixes` | each prefix of the input that isn't whole is tried in its place: it is refused as a text that is cut |
+//! | `in-answered CALLER COUNT OP REPLY` | COUNT lines of the input: the caller, a number that counts from 0, the operation, the reply, and a view of the caller's calls up to that one |
+//! | `fronts` | each prefix of the input, but not the whole input, is tried in its place: it has to be refused as a text that is cut |
 //! | `each-read-fails` | the source gives one byte a read; each read fails in turn, up to the one that finds the end: status 4 and nothing written; and then none fails |
 //! | `each-write-fails` | the sink takes one byte a write; each write fails in turn, up to the last: status 5 and the bytes before it; and then none fails |
 //! | `delivered COUNT` | the output, which the schedule decides, is the text of a report of COUNT calls, all of them delivered |
-//! | `overlapping COUNT` | as for `delivered`; and some call was made amid those of another caller: its view holds some of them, and not all |
+//! | `overlapping COUNT` | the output, which the schedule decides, is the text of a report of COUNT calls, all of them delivered, and some view holds some calls of another caller, but not all |
 //! | `certified` | the output, which the schedule decides, is a certificate: `order` calls it legal, `verify` calls its book legal, and `sketch` writes the history of that book |
 //! | `source-fails K ..` | the reads that fail, counted from 1 |
 //! | `source-most N` | the most bytes that a read gives |
 //! | `source-steady` | the input comes from the source that never fails |
 //! | `sink-fails K ..` | the writes that fail, counted from 1 |
 //! | `sink-most N` | the most bytes that a write takes |
-//! | `sink-room N` | the room of the sink |
+//! | `sink-room N` | the capacity of the sink, in bytes |
 //! | `out LINE` | a line of the wanted output, with its line feed |
 //! | `out-cut TEXT` | a piece of the wanted output without a line feed |
 //! | `out-each CALLERS COUNT OP, ..` | lines of the wanted output, as those of `in-each` |
@@ -34,9 +34,10 @@
 //! | `left N` | how many bytes the source is to have left |
 //! | `status N` | the wanted status |
 //!
-//! A book that `verify` is to call legal is also tried at each of its smaller cuts, where it must
-//! be legal too, by an order that is accepted without a search. And the book of few callers of each
-//! verdict is judged by sets of calls that stand alone, where the verdict must be the same.
+//! A book that `verify` is to call legal is also tried at its smaller cuts, at most 20,000 of them:
+//! the book at each has to be legal too, by an order that is accepted without a search. A book of
+//! at most three callers that `verify` is to judge is also judged by sets of one call each, which
+//! has to give the same verdict.
 //!
 //! Empty lines and lines that begin with `#` are passed over. A line is printed for each case that
 //! fails, with what was answered instead of what was wanted, and `N passed, M failed` last.

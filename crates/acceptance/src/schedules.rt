@@ -25,7 +25,8 @@ pub fn try_told<R: AllocGlobal + Threads + Sync>(rt: &R, told: Told, output: &[u
     }
 }
 
-// The report with this text, of this many calls that were all delivered.
+// The report with this text. A text that isn't that of a report of this many calls, all of them
+// delivered, is an error.
 fn read_delivered(alloc: Global, text: &[u8], calls: u64) -> Result<Report> {
     let report = read_report(alloc, text).map_err(|_| anyhow!("the report can't be read"))?;
     let counts = report.counts();
@@ -78,7 +79,8 @@ fn is_amid_others(report: &Report, caller: u32, view: &Cut) -> bool {
     false
 }
 
-// Tries a certificate. Where its order or its book isn't found legal, that is an error.
+// Tries a certificate. It is an error where its order or its book isn't found legal, or where no
+// sketch of its book is written.
 fn try_certificate<R: AllocGlobal + Threads + Sync>(rt: &R, certificate: &[u8]) -> Result<()> {
     let text = str::from_utf8(certificate).context("a text")?;
     let (book, _) = text.split_once("order 2\n").context("an order")?;

@@ -4,7 +4,7 @@ use anyhow::{Context, Result, anyhow};
 use std::alloc::Global;
 use std::io::Write;
 
-/// Takes a line of the table into its case.
+/// Adds to a case what a line of the table of cases says.
 pub fn take_line(alloc: Global, case: &mut Case, line: &str) -> Result<()> {
     if line.is_empty() || line.starts_with('#') {
         return Ok(());
@@ -138,7 +138,7 @@ fn take_operations(bytes: &mut Vec<u8>, caller: u64, count: u64, operations: &st
     Ok(())
 }
 
-// Appends the line of a call.
+// Appends the line of a call, with a number of its own in place of a `*` in the operation.
 fn take_operation(bytes: &mut Vec<u8>, caller: u64, number: u64, operation: &str) -> Result<()> {
     let own = caller.saturating_mul(256).saturating_add(number);
     match operation.split_once('*') {

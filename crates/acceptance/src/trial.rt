@@ -3,7 +3,7 @@
 pub enum Trial {
     /// The case as it is, once.
     Once,
-    /// Each prefix of the input that isn't whole.
+    /// The case with each prefix of its input, but not the whole input, in place of the input.
     Prefixes,
     /// Bytes come one at a time, and each read fails in turn.
     Reads,

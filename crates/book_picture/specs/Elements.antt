@@ -18,35 +18,37 @@ use Rattle.book_picture.specs.Values.{values_after, class_of_call}
 abbrev pub IsBar : List ℕ → Type 0
 IsBar text = (is_plain text ≡ true) × ((rest : List ℕ) × (text ≡ codes "<path class=\"bar" ++ rest))
 
--- A text is the part of an interval in a row: a bar where the interval has a part in the row, and
--- else nothing.
+-- A text draws an interval in a row: it is a bar where a place of the interval is in the row, and
+-- else it is empty.
 abbrev pub IsPartIn : Row → Interval → List ℕ → Type 0
 IsPartIn row interval text =
     MatchBool (has_part row.first (length row.edges.items - 1) interval) (IsBar text) (text ≡ [])
 
--- A text is the parts of an interval in these rows, in their order.
+-- A text draws an interval in each of some rows, row after row: one bar for each row that has a
+-- place of the interval.
 abbrev pub ArePartsIn : List Row → Interval → List ℕ → Type 0
 ArePartsIn [] interval text = text ≡ []
 ArePartsIn (row ∷ rows) interval text = (first rest : List ℕ) × IsPartIn row interval first
     × ArePartsIn rows interval rest × (text ≡ first ++ rest)
 
--- A text has grown by a bar.
+-- The text `after` is `before` with a bar appended.
 abbrev pub GrowsByBar : List ℕ → List ℕ → Type 0
 GrowsByBar before after = (text : List ℕ) × IsBar text × (after ≡ before ++ text)
 
--- A text has grown by the part of an interval in a row, which has no tag of a group.
+-- The text `after` is `before` with a text appended that draws an interval in a row, without a tag
+-- of a group.
 abbrev pub GrowsByPart : Row → Interval → List ℕ → List ℕ → Type 0
 GrowsByPart row interval before after = (text : List ℕ) × (is_plain text ≡ true)
     × IsPartIn row interval text × (after ≡ before ++ text)
 
--- A text has grown by the parts of an interval in these rows, in their order, which have no tag of
--- a group.
+-- The text `after` is `before` with a text appended that draws an interval in each of some rows,
+-- without a tag of a group.
 abbrev pub GrowsByParts : List Row → Interval → List ℕ → List ℕ → Type 0
 GrowsByParts rows interval before after = (text : List ℕ) × (is_plain text ≡ true)
     × ArePartsIn rows interval text × (after ≡ before ++ text)
 
--- A text is an element that names the call of an interval, with the call's classes, and has the
--- parts of the interval in these rows inside, and no other element of a call.
+-- A text is the element of an interval's call: a group with the call's caller and number and its
+-- classes, which holds the bars of the interval in the rows, and no further group.
 abbrev pub IsElementOf : (Call → List ℕ) → List Row → Interval → List ℕ → Type 0
 IsElementOf class rows interval text = (inside : List ℕ) × HasNoGroup inside
     × ArePartsIn rows interval inside
@@ -55,14 +57,16 @@ IsElementOf class rows interval text = (inside : List ℕ) × HasNoGroup inside
     ++ (codes "\" class=\""
     ++ (class interval.call ++ (codes "\">\n" ++ (inside ++ codes "</g>\n"))))))))
 
--- A text is one element for each of these intervals, in their order, and nothing else.
+-- A text is the elements of the calls of a lane's intervals, one for each, in their order, and
+-- nothing else.
 abbrev pub AreElementsOf : (Call → List ℕ) → List Row → List Interval → List ℕ → Type 0
 AreElementsOf class rows [] text = text ≡ []
 AreElementsOf class rows (interval ∷ lane) text =
     (first rest : List ℕ) × IsElementOf class rows interval first
     × AreElementsOf class rows lane rest × (text ≡ first ++ rest)
 
--- A text is one element for each interval of these lanes, in their order, and nothing else.
+-- A text is the elements of the calls of all lanes, lane after lane, one for each interval, and
+-- nothing else.
 abbrev pub AreLanesElements : (Call → List ℕ) → List Row → List (List Interval) → List ℕ → Type 0
 AreLanesElements class rows [] text = text ≡ []
 AreLanesElements class rows (lane ∷ lanes) text =

@@ -1,12 +1,13 @@
 -- Groups in a text of SVG: where a tag opens or closes one.
 use Rattle.std.specs.Prelude.{◌≡◌, ◌≢◌, ℕ, Bool, true, false, not, ◌&&◌, ◌||◌, ◌==◌, List, [], ◌∷◌, ◌++◌, codes}
 
--- No group is opened in the text, and none is closed.
+-- The text has neither `<g`, which opens a group of SVG, nor `</g`, which closes one.
 pub record HasNoGroup (text : List ℕ) : Type 0 where
   pub opened : (prefix rest : List ℕ) → text ≢ prefix ++ (codes "<g" ++ rest)
   pub closed : (prefix rest : List ℕ) → text ≢ prefix ++ (codes "</g" ++ rest)
 
--- Whether the bytes after a '<' begin with neither 'g' nor '/g', whatever bytes follow them.
+-- Whether a '<' with these bytes after it begins neither `<g` nor `</g`, whatever bytes are
+-- appended to them.
 abbrev pub is_of_no_group : List ℕ → Bool
 is_of_no_group [] = false
 is_of_no_group (x ∷ []) = not (x == 103) && not (x == 47)
@@ -17,6 +18,6 @@ abbrev pub is_plain : List ℕ → Bool
 is_plain [] = true
 is_plain (x ∷ rest) = (not (x == 60) || is_of_no_group rest) && is_plain rest
 
--- A text has grown by a text that has no group.
+-- The text `after` is `before` with a text appended that has no tag of a group.
 abbrev pub GrowsPlain : List ℕ → List ℕ → Type 0
 GrowsPlain before after = (text : List ℕ) × (is_plain text ≡ true) × (after ≡ before ++ text)

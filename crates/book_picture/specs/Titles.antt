@@ -9,34 +9,35 @@ use Rattle.book_picture.specs.declared.sheet.TheConstants.{STYLE}
 use Rattle.book_picture.specs.Escape.{escaped}
 use Rattle.book_picture.specs.Groups.{is_plain}
 
--- A line of text in a class of the style, at a place.
+-- The SVG element of a line of text, with its class in the style sheet and its coordinates in
+-- pixels.
 abbrev pub line_text : List ℕ → ℕ → ℕ → List ℕ → List ℕ
 line_text class x y text =
     codes "<text class=\"" ++ (class ++ (codes "\" x=\"" ++ (decimal x
     ++ (codes "\" y=\"" ++ (decimal y ++ (codes "\">" ++ (escaped text ++ codes "</text>\n")))))))
 
--- Whether there is a legal order.
+-- Whether a verdict is that a book has a legal order.
 abbrev pub is_legal : Verdict → Bool
 is_legal (Legal order) = true
 is_legal Illegal = false
 
--- What the title says of the verdict.
+-- What the title of a picture says of the book: that it is legal, or illegal.
 abbrev pub verdict_text : Bool → List ℕ
 verdict_text true = codes "legal: the numbers give an order of the calls that explains all replies"
 verdict_text false = codes "illegal: no order explains these replies"
 
--- What the title says of the marks.
+-- What the title of a picture says of its marked calls, or of why none are marked.
 abbrev pub marks_text : MarkedCalls → List ℕ
 marks_text Unasked = []
 marks_text (Smaller numbers) = codes ", nor those of the marked calls alone"
 marks_text TooLarge = codes " (so many calls: none are marked)"
 marks_text NoMemory = codes " (no memory: none are marked)"
 
--- The title of a picture.
+-- The title of a picture: whether the book is legal, and then what is said of marked calls.
 abbrev pub title : Bool → MarkedCalls → List ℕ
 title legal marks = verdict_text legal ++ marks_text marks
 
--- What a picture says of the first error line of a run, which is that of this call.
+-- What a picture says of the first error line of a run, where this line is that of the call `call`.
 abbrev pub error_text : Call → List ℕ
 error_text call = codes "the first error line of the run is that of call "
     ++ (decimal call.number ++ (codes " of caller " ++ decimal call.caller))
@@ -46,29 +47,33 @@ abbrev pub error_line : Option Call → List ℕ
 error_line None = []
 error_line (Some call) = line_text (codes "note") 12 80 (error_text call)
 
--- The first lines of a picture: its title, and which error line was the first.
+-- The first lines of a picture: its title, and a line on the first error line of a run, where there
+-- is one.
 abbrev pub first_lines : Bool → MarkedCalls → Option Call → List ℕ
 first_lines legal marks error =
     line_text (codes "title") 12 24 (title legal marks) ++ error_line error
 
--- What comes before the first line of text in a picture.
+-- The text of a picture before its first line of text, for a width and a height in pixels: the
+-- opening tag, the style and the background.
 abbrev pub opening : ℕ → ℕ → List ℕ
 opening width height =
     codes "<svg xmlns=\"http://www.w3.org/2000/svg\" width=\""
     ++ (decimal width ++ (codes "\" height=\"" ++ (decimal height ++ (codes "\">\n"
     ++ (STYLE.now ++ codes "<rect width=\"100%\" height=\"100%\" fill=\"#ffffff\"/>\n")))))
 
--- A text is what comes before the first line of text in a picture of some size.
+-- A text is what comes before the first line of text in a picture, for some width and height below
+-- 2 ^ 64.
 abbrev pub IsOpening : List ℕ → Type 0
 IsOpening text = (width : ℕ) × (height : ℕ) × (width < 2 ^ 64) × (height < 2 ^ 64)
     × (text ≡ opening width height)
 
--- A text has grown by these lines, and then by a text that has no group.
+-- The text `after` is `before`, then the text `lines`, and then a text without a tag of a group.
 abbrev pub GrowsByLines : List ℕ → List ℕ → List ℕ → Type 0
 GrowsByLines lines before after = (rest : List ℕ) × (is_plain rest ≡ true)
     × (after ≡ before ++ (lines ++ rest))
 
--- The text of a picture begins with what comes before its first line of text, and with these lines.
+-- The text of a picture has, for some width and height, what comes before the first line of text,
+-- and right after it the text `lines`.
 pub record SaysFirst (lines text : List ℕ) : Type 0 where
   pub width : ℕ
   pub height : ℕ

@@ -55,37 +55,38 @@ abbrev pub value_of_call : Kind → List Page → Call → Option ℕ
 value_of_call kind book call = value_of_step kind (unwrap_or (operation_of book call) 0)
     (option_map (λ r. r.reply) (record_of book call))
 
--- The values so far, with this one at the end where it is none of them.
+-- A list of values with a further value appended, where there is one and the list lacks it.
 abbrev pub with_value : List ℕ → Option ℕ → List ℕ
 with_value values None = values
 with_value values (Some value) =
     if list_any (λ x. x == value) values then values else values ++ value ∷ []
 
--- The values so far after an event: where this invokes a call that shows a new value, the value
--- comes after the others.
+-- A list of values after an event: where the event invokes a call that shows a value which the list
+-- lacks, this value is appended.
 abbrev pub with_event : Kind → List Page → List ℕ → Event → List ℕ
 with_event kind book values (Invoke call) = with_value values (value_of_call kind book call)
 with_event kind book values (Return call) = values
 
--- The values so far after these events: after the values before them come the new ones that invoked
--- calls show, each once, in the order of the invocations.
+-- A list of values after some events: the values that the invoked calls show are appended, each
+-- where the list lacks it, in the order of the invocations.
 abbrev pub values_after : Kind → List Page → List ℕ → List Event → List ℕ
 values_after kind book values [] = values
 values_after kind book values (event ∷ events) =
     values_after kind book (with_event kind book values event) events
 
--- Each value that a call shows appears, if the call is invoked.
+-- Where an event of a list invokes a call that shows a value, this value is among the values of
+-- the events.
 abbrev pub EachValueAppears : Type 0
 EachValueAppears = (kind : Kind) (book : List Page) (events : List Event) (call : Call) (value : ℕ)
     → StandsIn events (Invoke call)
     → value_of_call kind book call ≡ Some value → Contains (values_after kind book [] events) value
 
--- The place of a value among these.
+-- The index of the first item of a list that is this value, or 0 where none is.
 abbrev pub place_among : List ℕ → ℕ → ℕ
 place_among values value = unwrap_or (position (λ x. x == value) values) 0
 
--- The colour of a value: its place among the values, where the colours begin again after the last
--- one.
+-- The colour of a value: its index in the list of values, modulo the number of colours; `None` for
+-- no value.
 abbrev pub colour_of : List ℕ → Option ℕ → Option ℕ
 colour_of values None = None
 colour_of values (Some value) = Some (place_among values value % COLOURS)
@@ -96,12 +97,12 @@ FewValuesAreToldApart = (values : List ℕ) (v w : ℕ) → length values ≤ CO
     → Contains values w
     → colour_of values (Some v) ≡ colour_of values (Some w) → v ≡ w
 
--- The class of a colour.
+-- The class of a call's element by its colour: `value-N` for the colour N, and `plain` for none.
 abbrev pub colour_class : Option ℕ → List ℕ
 colour_class None = codes "plain"
 colour_class (Some colour) = codes "value-" ++ decimal colour
 
--- The class of what is marked.
+-- The class of a marked call's element beside its colour; empty for a call that isn't marked.
 abbrev pub mark_class : Bool → List ℕ
 mark_class true = codes " marked"
 mark_class false = []

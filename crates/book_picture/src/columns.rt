@@ -37,7 +37,8 @@ pub(crate) fn column_edges(
     Ok(edges)
 }
 
-// The edge that comes after these edges, the last of which is this one.
+// The next edge of a row's columns, in pixels. It is at least one least width after `last`, and not
+// left of the end of any bar that ends at it.
 fn next_edge(
     alloc: Global,
     kind: Kind,
@@ -56,7 +57,8 @@ fn next_edge(
     Ok(edge)
 }
 
-// How far the bars of a lane reach that end at the next edge after these.
+// How far to the right the bars of a lane reach that end at the edge after `edges`, in pixels; 0
+// where none ends at it.
 fn lane_edge(
     alloc: Global,
     kind: Kind,
@@ -79,7 +81,7 @@ fn lane_edge(
     Ok(edge)
 }
 
-// How far a bar that begins at this edge reaches.
+// Where a bar ends that begins at `left` and is as wide as its label needs, in pixels.
 fn bar_end(
     alloc: Global,
     kind: Kind,

@@ -39,7 +39,7 @@ pub fn draw_book(
     error: Option<Call>,
 ) -> Result<String, NoMemory>
     // The picture shows each call of the book by one element on its caller's lane, with its class
-    // and its place.
+    // and a bar in each row in which it has a place.
     ensures calls { IfOk result (λ text.
         ShowsEachCall kind book.now marks.now (string_bytes text)) }
     // The picture's first lines say whether the book is legal, whether calls are marked, and of
@@ -75,7 +75,7 @@ fn top_of(error: Option<Call>) -> usize {
     }
 }
 
-// The order that a verdict carries.
+// The legal order that a verdict carries, where it carries one.
 fn order_of(verdict: &Verdict) -> Option<&[Place]>
     ensures { is_some result ≡ is_legal verdict.now }
 {

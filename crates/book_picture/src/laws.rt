@@ -6,7 +6,7 @@ ghost use Rattle.book_picture.specs.declared.values.TheConstants.{COLOURS};
 ghost use Rattle.book_picture.specs.Rows.{ADozenStayOnOneRow};
 ghost use Rattle.book_picture.specs.Values.{ArgumentsAreOfTheTable, EachValueAppears, FewValuesAreToldApart};
 
-/// The sizes: how many places a row has at most, and how many colours there are.
+/// The sizes of pictures: how many places a row has at most, and how many colours there are.
 pub fn sizes()
     // A row has at most 24 places.
     ensures row { ROW_PLACES ≡ 24 }
@@ -25,7 +25,7 @@ pub fn arguments_are_of_the_table()
     ensures { ArgumentsAreOfTheTable }
 {}
 
-/// Each value that an invoked call shows is among those that appear.
+/// The list of the values that events show has the value of each call that the events invoke.
 pub fn each_value_appears()
     ensures { EachValueAppears }
 {}

@@ -12,7 +12,7 @@ pub enum MarkedCalls {
     /// The calls of a smaller book that has no legal order either are marked: for each caller,
     /// their numbers.
     Smaller(Vec<Vec<u64>>),
-    /// No calls are marked, since no smaller book is sought of a book with this many calls.
+    /// No calls are marked, since the book has too many calls for a smaller book to be sought.
     TooLarge,
     /// No calls are marked, since there was no memory for a smaller book.
     NoMemory,
@@ -44,7 +44,8 @@ impl MarkedCalls {
     }
 }
 
-// Whether a call is one of those with these numbers, by caller.
+// Whether the number of a call is in the list of its caller, where `numbers` has a list for each
+// caller.
 fn is_named(numbers: &[Vec<u64>], call: Call) -> bool
     ensures { result ≡ is_named (numbers_in numbers.now) call }
 {

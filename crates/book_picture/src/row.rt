@@ -24,8 +24,8 @@ pub(crate) struct Row {
     pub edges: Vec<usize>,
 }
 
-/// The part of an interval in a row: the edges at which it begins and ends, and whether the
-/// interval begins and ends at them too.
+/// The part of an interval in a row: the indices of the edges at which the part begins and ends,
+/// and whether the interval itself begins and ends at these edges.
 #[derive(Clone, Copy, Debug)]
 pub(crate) struct IntervalPart {
     pub begin: usize,
@@ -35,7 +35,8 @@ pub(crate) struct IntervalPart {
 }
 
 impl Stretch {
-    /// The part of an interval on these places, if it has one.
+    /// The part of an interval that is on the places of the row, or `None` where no place of the
+    /// interval is.
     pub fn part_of(self, interval: &Interval) -> Option<IntervalPart>
         ensures some { is_some result ≡ has_part self.first self.places interval.now }
         ensures place { IfSome result (λ part. (part.begin < part.end) × (part.end ≤ self.places)) }

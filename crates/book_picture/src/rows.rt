@@ -18,7 +18,8 @@ pub(crate) const LANE: usize = 56;
 /// The distance from the lanes of a row to those of the next, in pixels.
 const BETWEEN: usize = 20;
 
-/// The rows of this many places, of which the first begins at this height, in pixels.
+/// The rows into which the `places` places of a sketch are folded. The first row begins at the
+/// height `top`, in pixels.
 pub(crate) fn folded(
     alloc: Global,
     kind: Kind,

@@ -30,8 +30,8 @@ const MARGIN: usize = 12;
 /// The least width of a sheet, in pixels: that of its legend.
 const LEAST_WIDTH: usize = 712;
 
-/// Eight colours on which dark text is read well, one for each value, and a further one for calls
-/// that show no value.
+/// The style sheet of a picture. It has eight colours for values, on which dark text is read well,
+/// and a further one for calls that show no value.
 const STYLE: &str = "<style>\n\
     text { font: 13px monospace; fill: #1b1b1b; }\n\
     .title { font-weight: bold; }\n\
@@ -54,8 +54,9 @@ const STYLE: &str = "<style>\n\
     .number { fill: #ffffff; font-size: 10px; font-weight: bold; text-anchor: middle; }\n\
     </style>\n";
 
-/// A sheet for the picture of a book: the rows that its places are folded into, and what is said of
-/// it.
+/// What a picture of a book is drawn from: the book, a legal order of it where there is one, the
+/// rows that its places are folded into, the values that calls show, the marked calls, and the call
+/// of a run's first error line, where there is one.
 #[derive(Drop)]
 pub(crate) struct PictureSheet<'a> {
     pub alloc: Global,
@@ -68,8 +69,8 @@ pub(crate) struct PictureSheet<'a> {
     pub error: Option<Call>,
 }
 
-/// The place of a bar, in pixels, and which of its edges are drawn: the left one where its call is
-/// invoked, and the right one where the call returns.
+/// The place of a bar, in pixels, and which of its edges are drawn: the left one where the call's
+/// invocation is in the bar's row, and the right one where its return is.
 #[derive(Clone, Copy)]
 struct Bar {
     left: usize,
@@ -97,7 +98,8 @@ impl PictureSheet<'_> {
         Ok(out)
     }
 
-    // The text before the legend of a sheet of this size: the style, and the background.
+    // The text of a picture before its legend: the opening tag with the picture's width and height
+    // in pixels, the style and the background.
     fn opening(&self, width: usize, height: usize) -> Result<String, NoMemory>
         ensures { IfOk result (λ text. IsOpening (string_bytes text)) }
     {
@@ -111,7 +113,7 @@ impl PictureSheet<'_> {
         Ok(out)
     }
 
-    // Appends what the picture says of the book, and how a picture is read.
+    // Appends the legend: what the picture says of the book, and how a picture is read.
     fn put_legend(&self, out: &mut String) -> Result<(), NoMemory>
         ensures { OnOk result (GrowsByLines
             (first_lines (is_some self.now.order) self.now.marks.now self.now.error)
@@ -134,7 +136,7 @@ impl PictureSheet<'_> {
         Ok(text)
     }
 
-    // The title's words on the verdict.
+    // What the title of the picture says of the book: that it is legal, or illegal.
     fn verdict(&self) -> &'static str
         ensures { result.now ≡ verdict_text (is_some self.now.order) }
     {
@@ -144,7 +146,7 @@ impl PictureSheet<'_> {
         }
     }
 
-    // Appends which error line of a run was the first, where that is known.
+    // Appends the line of text on the first error line of a run, where there is one.
     fn put_error(&self, out: &mut String) -> Result<(), NoMemory>
         ensures { OnOk result (string_bytes out.new
             ≡ string_bytes out.old ++ error_line self.now.error) }
@@ -155,7 +157,7 @@ impl PictureSheet<'_> {
         }
     }
 
-    /// The element of a call.
+    /// The SVG element of the call of an interval, a group.
     pub fn element(&self, interval: &Interval) -> Result<String, NoMemory>
         requires { IsDrawable self.now.book.now interval.now }
         ensures { IfOk result (λ text. IsElementOf
@@ -198,7 +200,7 @@ impl PictureSheet<'_> {
         Ok(out)
     }
 
-    // The number of a call in the order, where the call is in it.
+    // The number of a call in the legal order, counted from 1, where there is an order that has it.
     fn number(&self, call: Call) -> Option<usize> {
         match self.order {
             Some(order) => number_in(order, call),
@@ -208,8 +210,8 @@ impl PictureSheet<'_> {
 }
 
 impl Bar {
-    // The further class of the bar's outline, where it has one. That of a part that continues from
-    // the row before into the next one isn't drawn, and that of an unanswered call is dashed.
+    // The further class of a bar's outline, where it has one: `through`, undrawn, where neither of
+    // the bar's edges is drawn, and else `open`, dashed, where the call is unanswered.
     fn class(self) -> &'static str
         ensures { is_plain result.now ≡ true }
     {
@@ -222,8 +224,8 @@ impl Bar {
         }
     }
 
-    // The edge at which the bar's outline begins and ends: the right one, where only this isn't
-    // drawn.
+    // The x coordinate at which a bar's outline begins and ends: that of the right edge where only
+    // the left one is drawn, and else that of the left edge.
     fn start(self) -> usize {
         if self.begins && !self.ends {
             self.right
@@ -232,7 +234,8 @@ impl Bar {
         }
     }
 
-    // The edge at which the bar's outline turns, which is the other one.
+    // The x coordinate of the edge that a bar's outline runs down: the left edge where only this is
+    // drawn, and else the right one.
     fn turn(self) -> usize {
         if self.begins && !self.ends {
             self.left
@@ -241,7 +244,8 @@ impl Bar {
         }
     }
 
-    // The command that closes the bar's outline, where both edges are drawn or neither is.
+    // The path command that closes a bar's outline where both of the bar's edges are drawn or
+    // neither is; else nothing.
     fn close(self) -> &'static str
         ensures { is_plain result.now ≡ true }
     {
@@ -249,7 +253,7 @@ impl Bar {
     }
 }
 
-// The width of a sheet with these rows, in pixels.
+// The width of a sheet with the given rows, in pixels.
 fn width_of(rows: &[Row]) -> usize {
     let mut width = LEAST_WIDTH;
     for row in rows {
@@ -259,7 +263,7 @@ fn width_of(rows: &[Row]) -> usize {
     width
 }
 
-// The height of a sheet with these rows of this many lanes, in pixels.
+// The height of a sheet with the given rows, each with a lane for each caller, in pixels.
 fn height_of(rows: &[Row], callers: u32) -> usize {
     let mut height = 0;
     for row in rows {
@@ -268,12 +272,12 @@ fn height_of(rows: &[Row], callers: u32) -> usize {
     height
 }
 
-// The height at which the lane of a caller begins, in pixels, in a row that begins at this height.
+// The height at which the lane of a caller begins in a row that begins at `top`, in pixels.
 fn lane_top(top: usize, caller: u32) -> usize {
     (caller as usize).saturating_mul(LANE).saturating_add(top)
 }
 
-// Appends which error line of a run was the first: that of this call.
+// Appends the line of text that says that a run's first error line is that of the call `call`.
 fn put_error_line(alloc: Global, out: &mut String, call: Call) -> Result<(), NoMemory>
     ensures { OnOk result (string_bytes out.new
         ≡ string_bytes out.old ++ line_text (codes "note") 12 80 (error_text call)) }
@@ -285,7 +289,7 @@ fn put_error_line(alloc: Global, out: &mut String, call: Call) -> Result<(), NoM
     put_line(out, "note", MARGIN, 80, text.as_bytes())
 }
 
-// Appends how a picture of an object of this kind is read.
+// Appends the two lines of text that say how a picture is read, with the name of the kind.
 fn put_notes(out: &mut String, kind: Kind) -> Result<(), NoMemory>
     ensures { OnOk result (GrowsPlain (string_bytes out.old) (string_bytes out.new)) }
 {
@@ -300,7 +304,7 @@ fn put_notes(out: &mut String, kind: Kind) -> Result<(), NoMemory>
     Ok(())
 }
 
-// Appends the lanes of this many callers in each row.
+// Appends the lanes of all callers in each row.
 fn put_rows(out: &mut String, rows: &[Row], callers: u32, right: usize) -> Result<(), NoMemory>
     ensures { OnOk result (GrowsPlain (string_bytes out.old) (string_bytes out.new)) }
 {
@@ -310,7 +314,7 @@ fn put_rows(out: &mut String, rows: &[Row], callers: u32, right: usize) -> Resul
     Ok(())
 }
 
-// Appends the lanes of this many callers, in a row that begins at this height.
+// Appends the lanes of all callers in the row that begins at the height `top`, in pixels.
 fn put_lanes(out: &mut String, top: usize, callers: u32, right: usize) -> Result<(), NoMemory>
     ensures { OnOk result (GrowsPlain (string_bytes out.old) (string_bytes out.new)) }
 {
@@ -320,7 +324,7 @@ fn put_lanes(out: &mut String, top: usize, callers: u32, right: usize) -> Result
     Ok(())
 }
 
-// Appends the line and the name of a lane.
+// Appends a lane: its line, and the number of its caller.
 fn put_lane(out: &mut String, top: usize, caller: u32, right: usize) -> Result<(), NoMemory>
     ensures { OnOk result (GrowsPlain (string_bytes out.old) (string_bytes out.new)) }
 {
@@ -337,7 +341,7 @@ fn put_lane(out: &mut String, top: usize, caller: u32, right: usize) -> Result<(
     Ok(())
 }
 
-// Appends the parts of an interval in these rows.
+// Appends the bars of an interval, one for each row that has a place of it.
 fn put_parts(
     out: &mut String,
     rows: &[Row],
@@ -354,7 +358,7 @@ fn put_parts(
     Ok(())
 }
 
-// Appends the part of an interval in a row: its bar, if it has a part in the row.
+// Appends the bar of an interval in a row, if the row has a place of the interval.
 fn put_part(
     out: &mut String,
     row: &Row,
@@ -371,7 +375,7 @@ fn put_part(
     }
 }
 
-// The bar of a part in a row.
+// The bar that draws the part of an interval in a row.
 fn bar_of(row: &Row, interval: &Interval, part: IntervalPart) -> Bar
     requires begin { part.begin < length row.now.edges.items }
     requires end { part.end < length row.now.edges.items }
@@ -386,7 +390,7 @@ fn bar_of(row: &Row, interval: &Interval, part: IntervalPart) -> Bar
     }
 }
 
-// Appends a bar, with its label and the number of its call in the order, where the call is in it.
+// Appends a bar, with its label and, where the legal order has its call, the number in the order.
 fn put_bar(out: &mut String, bar: Bar, label: &Label, number: Option<usize>) -> Result<(), NoMemory>
     ensures { OnOk result (GrowsByBar (string_bytes out.old) (string_bytes out.new)) }
 {
@@ -412,7 +416,7 @@ fn put_outline(out: &mut String, bar: Bar) -> Result<(), NoMemory>
     Ok(())
 }
 
-// Appends the operation and the reply of a bar.
+// Appends the label of a bar: the operation, and below it the reply.
 fn put_label(out: &mut String, bar: Bar, label: &Label) -> Result<(), NoMemory>
     ensures { OnOk result (GrowsPlain (string_bytes out.old) (string_bytes out.new)) }
 {
@@ -421,7 +425,7 @@ fn put_label(out: &mut String, bar: Bar, label: &Label) -> Result<(), NoMemory>
     put_line(out, "call", x, bar.top.saturating_add(36), &label.reply)
 }
 
-// Appends the number of a call in the order, where the call is in it.
+// Appends the call's number in the legal order to its bar, where it has one.
 fn put_number(out: &mut String, bar: Bar, number: Option<usize>) -> Result<(), NoMemory>
     ensures { OnOk result (GrowsPlain (string_bytes out.old) (string_bytes out.new)) }
 {
@@ -438,7 +442,7 @@ fn put_number(out: &mut String, bar: Bar, number: Option<usize>) -> Result<(), N
     Ok(())
 }
 
-// Appends a line of text.
+// Appends the SVG element of a line of text, escaped, with its class and its coordinates in pixels.
 fn put_line(out: &mut String, class: &str, x: usize, y: usize, text: &[u8]) -> Result<(), NoMemory>
     ensures { OnOk result (string_bytes out.new
         ≡ string_bytes out.old ++ line_text class.now x y text.now) }

@@ -12,17 +12,17 @@ use seq_objects::Kind;
 use sketch::Event;
 use std::alloc::Global;
 
-/// How many colours there are.
+/// How many colours for values there are.
 const COLOURS: usize = 8;
 
-/// How many values there are: a value is below this number.
+/// Each value that a call shows is below this number.
 const VALUES: u64 = 1 << 32;
 
 /// The high word of a reply word that shows a value.
 const VALUE_TAG: u64 = 2;
 
-/// The values that the calls of these events show, each once, in the order in which calls that show
-/// them are invoked.
+/// The values that the invoked calls of a list of events show, each once, in the order in which
+/// they are first shown.
 pub(crate) fn values_of(
     alloc: Global,
     kind: Kind,
@@ -39,8 +39,8 @@ pub(crate) fn values_of(
     Ok(values)
 }
 
-// Appends the value of the call that is invoked, where the call shows a value that isn't in the
-// list.
+// Appends the value that the call of an invocation shows, where it shows one that the list lacks. A
+// return appends nothing.
 fn add_event(values: &mut Vec<u64>, kind: Kind, book: &Book, event: Event) -> Result<(), NoMemory>
     requires { IsEventOf book.now event }
     ensures { OnOk result (values.new.items ≡ with_event kind book.now values.old.items event) }
@@ -51,7 +51,7 @@ fn add_event(values: &mut Vec<u64>, kind: Kind, book: &Book, event: Event) -> Re
     }
 }
 
-// Appends a value where it isn't in the list.
+// Appends a value, where there is one and the list lacks it.
 fn add_value(values: &mut Vec<u64>, value: Option<u64>) -> Result<(), NoMemory>
     ensures { OnOk result (values.new.items ≡ with_value values.old.items value) }
 {
@@ -124,7 +124,7 @@ fn has_argument(kind: Kind, code: u64) -> bool
     }
 }
 
-// The value that a reply shows.
+// The value that a reply shows, where there is a reply and it shows one.
 fn value_in_reply(reply: Option<u64>) -> Option<u64>
     ensures { result ≡ value_in_reply reply }
 {
@@ -136,7 +136,7 @@ fn value_in_reply(reply: Option<u64>) -> Option<u64>
     }
 }
 
-/// The colour of a value, where these are all values in the order in which they appear.
+/// The number of a value's colour: the value's index in `values`, modulo the number of colours.
 pub(crate) fn colour_of(values: &[u64], value: Option<u64>) -> Option<usize>
     ensures { result ≡ colour_of values.now value }
 {
@@ -144,21 +144,21 @@ pub(crate) fn colour_of(values: &[u64], value: Option<u64>) -> Option<usize>
     Some(place_among(values, value) % COLOURS)
 }
 
-// The place of a value among these.
+// The index of a value in a list, or 0 where the list lacks it.
 fn place_among(values: &[u64], value: u64) -> usize
     ensures { result ≡ place_among values.now value }
 {
     place_of(values, value).unwrap_or(0)
 }
 
-// The first place of a value among these, if it is one of them.
+// The first index of a value in a list, where the list has it.
 fn place_of(values: &[u64], value: u64) -> Option<usize>
     ensures { result ≡ position (λ x. x == value) values.now }
 {
     values.iter().position(|&x| x == value)
 }
 
-/// The classes of an element with this colour, marked or not.
+/// The classes of a call's element, by its colour and by whether the call is marked.
 pub(crate) fn class_of(
     alloc: Global,
     colour: Option<usize>,
@@ -173,7 +173,8 @@ pub(crate) fn class_of(
     Ok(class)
 }
 
-// Appends the class of a colour.
+// Appends the class of a call's element for a colour: `value-N` for the colour N, and `plain` for
+// none.
 fn put_colour(class: &mut String, colour: Option<usize>) -> Result<(), NoMemory>
     ensures { OnOk result (string_bytes class.new ≡ string_bytes class.old ++ colour_class colour) }
 {
@@ -184,7 +185,7 @@ fn put_colour(class: &mut String, colour: Option<usize>) -> Result<(), NoMemory>
     Ok(())
 }
 
-// The class of an element that is marked, or of one that isn't.
+// The class of a marked call's element beside its colour; empty for a call that isn't marked.
 fn mark_of(is_marked: bool) -> &'static str
     ensures { result.now ≡ mark_class is_marked }
 {

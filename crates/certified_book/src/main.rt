@@ -13,7 +13,7 @@ use byte_streams::{ProgramAnswer, StdSink, StdSource, TextProgram, run_program};
 use std::alloc::Global;
 use std::process::ExitCode;
 
-/// Answers a certificate of the book that it reads, or that the book has none.
+/// Answers a certificate of the book that it reads, or that the book is illegal.
 #[derive(Clone, Copy)]
 struct Certifier;
 

@@ -9,7 +9,7 @@ use Rattle.given_book.specs.Given.{IsGiven}
 use Rattle.seq_objects.specs.declared.kind.Kind.{Kind}
 use Rattle.seq_objects.specs.Objects.{kind_spec}
 
--- The bytes give a book that breaks none of the rules.
+-- The bytes give a book that breaks none of the rules of its kind.
 pub record BreaksNone (bytes : List ℕ) : Type 0 where
   pub kind : Kind
   pub book : List Page
@@ -27,6 +27,6 @@ pub record IsExplained (bytes text : List ℕ) : Type 0 where
   pub illegal : ¬ (HasLegalOrder (kind_spec kind) book)
   pub written : text ≡ broken_text kind book broken
 
--- The bytes give a book that breaks none of the rules, and the text says so.
+-- The bytes give a book that breaks none of the rules of its kind, and the text says so.
 abbrev pub SaysNoneBroken : List ℕ → List ℕ → Type 0
 SaysNoneBroken bytes text = BreaksNone bytes × (text ≡ codes "no rule of these is broken\n")

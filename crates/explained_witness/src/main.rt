@@ -12,7 +12,7 @@ use given_book::read_given;
 use std::alloc::Global;
 use std::process::ExitCode;
 
-/// Answers the line of a rule that the book that it reads breaks, or that the book breaks none.
+/// Answers, in one line, which rule of its kind the given book breaks, or that it breaks none.
 #[derive(Clone, Copy)]
 struct Explainer;
 

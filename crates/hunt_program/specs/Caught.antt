@@ -57,9 +57,9 @@ IsShown kind catch Smaller text = IsSmallerText kind catch.witness text
 IsShown kind catch Report text = IsReportShown kind catch text
 IsShown kind catch Picture text = IsSmallerPicture kind catch.witness text
 
--- The output of a hunt that made this many runs is this text, with this status: `Found`, and what
--- is shown of the catch of the last run; or `Fine`, and that no run had an error, where the hunt
--- made all the runs that it may make, and all were quiet.
+-- A text with a status is the output of a hunt that made `runs` runs. With `Found` the last run is
+-- the first with an error, and the text is what is shown of its catch. With `Fine` the hunt made
+-- all the runs that it may make, all were quiet, and the text says that no run had an error.
 abbrev pub IsHuntOutput : {T : Type 0} → (T → ℕ) → (T → Option (List (ℕ × ℕ))) → Settings → Shown
     → ℕ → Status → List ℕ → Type 0
 IsHuntOutput made told settings shown runs Found text =
@@ -70,9 +70,9 @@ IsHuntOutput made told settings shown runs Fine text =
     × (text ≡ codes "no run had an error\n")
 IsHuntOutput made told settings shown runs status text = ⊥
 
--- A hunt has ended with a status after some number of runs. It wrote its output for these runs, as
--- far as the status has it, after the bytes that the sink had taken; and unless memory was lacking,
--- the onlooker was told the seed of each run, in order.
+-- A hunt has ended with a status after some number of runs. Its output for these runs was appended
+-- to the bytes that the sink had taken; with `WriteFault` some first bytes of it, with `NoMemory`
+-- nothing. Unless the status is `NoMemory`, the onlooker was told the seed of each run, in order.
 pub record EndsHunt {T : Type 0} (made : T → ℕ) (told : T → Option (List (ℕ × ℕ)))
     (settings : Settings) (shown : Shown) (status : Status) (taken taken' : Option (List ℕ))
     (heard heard' : Option (List ℕ)) : Type 0 where

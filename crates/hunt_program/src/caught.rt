@@ -17,7 +17,7 @@ use seq_objects::Kind;
 use smaller_book::shrink;
 use std::alloc::Global;
 
-/// What is shown of a catch over an object of this kind.
+/// The text of a catch over an object of this kind, in the form in which it is to be shown.
 pub(crate) fn caught_text(
     alloc: Global,
     kind: Kind,
@@ -44,7 +44,7 @@ fn report_and_witness(alloc: Global, kind: Kind, catch: &Catch) -> Result<Vec<u8
     Ok(text)
 }
 
-/// A witness made small.
+/// The smaller book of a witness: a part of it without a legal order.
 fn smaller(alloc: Global, kind: Kind, witness: &Book) -> Result<Book, NoMemory>
     requires { ¬ HasLegalOrder (kind_spec kind) witness.now }
     ensures { IfOk result (IsSmallerWitness kind witness.now) }
@@ -55,7 +55,7 @@ fn smaller(alloc: Global, kind: Kind, witness: &Book) -> Result<Book, NoMemory>
     }
 }
 
-/// The text of a witness made small.
+/// The text of the smaller book of a witness.
 fn smaller_text(alloc: Global, kind: Kind, witness: &Book) -> Result<Vec<u8>, NoMemory>
     requires { ¬ HasLegalOrder (kind_spec kind) witness.now }
     ensures { IfOk result (λ text. IsSmallerText kind witness.now text.items) }
@@ -65,7 +65,7 @@ fn smaller_text(alloc: Global, kind: Kind, witness: &Book) -> Result<Vec<u8>, No
     Ok(text)
 }
 
-/// The picture of a witness made small.
+/// The picture of the smaller book of a witness.
 fn picture(alloc: Global, kind: Kind, witness: &Book) -> Result<Vec<u8>, NoMemory>
     requires { ¬ HasLegalOrder (kind_spec kind) witness.now }
     ensures { IfOk result (λ text. IsSmallerPicture kind witness.now text.items) }

@@ -48,15 +48,15 @@ where
     // The settings' workload fits the texts of scripts, and has a value and an operation to draw.
     requires { IsWorkload settings.now.workload }
 
-    // What was written, by the status: what is shown of the catch of the last run that was made, of
-    // which the witness has no legal order, or that no run had an error, where all were made. At
-    // most as many runs were made as the settings say, and whoever looks on was told of each, in
-    // order, unless memory was wanted.
+    // With `Found` the last run is the first that has an error, and what is shown of its catch was
+    // written; its witness has no legal order. With `Fine` all runs of the settings were made, and
+    // it was written that none has an error. At most as many runs were made as the settings say.
+    // The onlooker was told of each run, in order, unless memory was wanted.
     ensures ends { EndsHunt B.Pass.made B.Pass.told settings.now shown result
         (K.taken sink.old) (K.taken sink.new) (W.heard watch.old) (W.heard watch.new) }
 
-    // The status is `WriteFault` only where the sink's count of faults rose in this call, and
-    // another one only where that count stayed; with `NoMemory` the sink is as it was.
+    // With `WriteFault` the sink's count of faults rose in this call, and with each other status
+    // it stayed. With `NoMemory` the sink is as it was.
     ensures faults { LeavesSink K.faults result sink.old sink.new }
 {
     match hunted_output(rt, alloc, maker, settings, shown, watch) {

@@ -18,7 +18,7 @@ use std::thread::Threads;
 /// The code that the program ends with where the system doesn't hand over the command words.
 const NO_WORDS: u8 = 7;
 
-/// The output for words that ask for nothing that can be shown.
+/// The output for command words that ask for nothing that can be shown.
 const USAGE: &[u8] = b"usage: [report | picture]\n";
 
 // How many runs were made, and the seed of the last one.
@@ -37,10 +37,10 @@ impl Onlooker for RunCount {
     }
 }
 
-/// Hunts over the objects that a maker makes, and writes the catch to standard output: its witness
-/// made small, or by the command word `report` the report of its run with the whole witness after
-/// it, or by `picture` the picture of the small one. It writes to standard error how many runs were
-/// made.
+/// Hunts over the objects that a maker makes, and writes the catch to standard output: the smaller
+/// book of its witness; with the command word `report` the report of its run, and the whole witness
+/// after it; with `picture` the picture of the smaller book. How many runs were made is written to
+/// standard error.
 pub fn run_hunt<
     R: Env + Print + Eprint + AllocGlobal + Threads + Sync,
     B: BlackBox + Sync + Drop,
@@ -57,7 +57,7 @@ where
     })
 }
 
-// Makes a hunt, and writes what the words say is to be shown.
+// Makes a hunt, and writes its catch in the form that the command words ask for.
 fn hunt_by_words<
     R: Print + Eprint + AllocGlobal + Threads + Sync,
     B: BlackBox + Sync + Drop,

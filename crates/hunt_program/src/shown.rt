@@ -1,26 +1,27 @@
-//! What is to be shown of a catch.
+//! The forms in which a catch is shown.
 
 ghost use Rattle.std.specs.Prelude.{◌≡◌, ◌≢◌, map, string_bytes, IfSome, IfNone};
 ghost use Rattle.hunt_program.specs.declared.shown.Shown.{Shown as TheShown};
 ghost use Rattle.hunt_program.specs.Words.{words_of};
 
-/// What is written of a catch.
+/// The form in which a catch is shown.
 #[derive(Clone, Copy, Debug, PartialEq, Eq)]
 pub enum Shown {
-    /// The text of the catch's witness made small.
+    /// The text of the smaller book of the catch's witness.
     Smaller,
     /// The text of the catch's report, and after it that of its witness.
     Report,
-    /// The picture of the catch's witness made small.
+    /// The picture of the smaller book of the catch's witness.
     Picture,
 }
 
 impl Shown {
-    /// What the words of a program say is to be shown: the smaller book where there are no words.
+    /// The form of a catch that command words ask for: the smaller book where there are no words;
+    /// `None` where they ask for nothing that can be shown.
     pub(crate) fn from_words(words: &[String]) -> Option<Shown>
-        // The words are those for what is answered.
+        // The words are the command words that ask for the answered form.
         ensures shown { IfSome result (λ shown. map string_bytes words.now ≡ words_of shown) }
-        // Where nothing is answered, the words aren't those for anything that can be shown.
+        // With `None` the words ask for no form that can be shown.
         ensures none { IfNone result ((shown : TheShown)
             → map string_bytes words.now ≢ words_of shown) }
     {

@@ -31,7 +31,7 @@ const FEW: u64 = 5;
 // The noise of short hunts.
 const LOUDNESS: Loudness = Loudness { share: 32, most: 2 };
 
-// How large a hunt is by its words.
+// The size of a hunt, by the command words after the object's name.
 fn size_of(words: &[String]) -> Result<Size> {
     let [seed, runs, callers, calls, share, most] = words else {
         bail!("the words are OBJECT SEED RUNS CALLERS CALLS SHARE MOST");
@@ -53,7 +53,8 @@ fn size_of(words: &[String]) -> Result<Size> {
     })
 }
 
-// Makes one hunt, as its words say.
+// Makes one hunt over the object with this name, of the size that the words say, and prints a line
+// of it.
 fn hunt_by_words<R: Print + AllocGlobal + Threads + Sync>(
     rt: &R,
     name: &str,

@@ -13,8 +13,8 @@ use std::sync::Mutex;
 
 /// A queue over places: an enqueue fills the place at the tail and moves the tail forward, a
 /// dequeue takes from the place at the head and moves the head forward. Each does both under a
-/// lock, or, where the ring is torn, without one. There is a place for each call, so no place is
-/// filled twice.
+/// lock, or, where the ring is torn, without one. There are as many places as calls, so an enqueue
+/// always has a place to fill.
 #[derive(Drop)]
 pub(crate) struct Ring {
     torn: bool,

@@ -28,14 +28,14 @@ pub(crate) struct Size {
     ghost within: { calls ≤ TEXT_CALLS },
 }
 
-/// The findings of a hunt.
+/// How many runs a hunt made, and how many calls the witness has that it caught, if any.
 #[derive(Clone, Copy)]
 pub(crate) struct HuntFindings {
     runs: u64,
     caught: Option<Calls>,
 }
 
-/// How many calls a witness has, and how many of them are left where the witness is made small.
+/// How many calls a witness has, and how many calls the smaller book has that is made of it.
 #[derive(Clone, Copy)]
 struct Calls {
     witness: u64,
@@ -121,7 +121,8 @@ where
     })
 }
 
-// How many calls an illegal book has, and how many are left where it is made small.
+// How many calls an illegal book has, and how many are left where it is made small; `None` for a
+// legal book.
 fn calls_in(alloc: Global, kind: Kind, witness: &Book) -> Result<Option<Calls>, NoMemory> {
     Ok(match shrink(alloc, kind, witness)? {
         Some(smaller) => Some(Calls {

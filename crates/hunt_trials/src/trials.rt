@@ -1,4 +1,4 @@
-//! The objects by name.
+//! The objects that are hunted over, by their names.
 
 use crate::counter::Counters;
 use crate::locked::LockedObjects;
@@ -75,7 +75,7 @@ pub(crate) fn hunt_over<R: Threads + Sync>(
     Ok(Some(found))
 }
 
-// The kind of the object with this name, which is behind a lock.
+// The kind of the object behind a lock that has this name, if there is one.
 fn kind_behind_a_lock(name: &str) -> Option<Kind> {
     match name {
         "queue_behind_a_lock" => Some(Kind::Queue),

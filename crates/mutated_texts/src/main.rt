@@ -53,7 +53,8 @@ fn no_texts(alloc: Global) -> Result<Vec<ReadingCounts>> {
     Ok(all_counts)
 }
 
-// Lets each reader read a text, and prints the text where a reader doesn't write it back.
+// Lets each reader read a text, and prints the text where a reader doesn't write it back. The
+// answer is whether each reader refuses the text or writes it back.
 fn try_text<R: Print + AllocGlobal>(
     rt: &R,
     all_counts: &mut Vec<ReadingCounts>,

@@ -16,7 +16,7 @@ pub fn pick<R: Rng>(rng: &mut R, bound: usize) -> usize
     (rng.next_u64() % bound as u64) as usize
 }
 
-/// A text like this one, with one change or some: of bytes, words or lines.
+/// A copy of a text with one to three random changes: of bytes, words or lines.
 pub fn mutate<R: Rng>(alloc: Global, rng: &mut R, text: &[u8]) -> Result<Vec<u8>, AllocError> {
     let mut bytes = text.to_vec(alloc)?;
     let more = pick(rng, MOST_CHANGES) * pick(rng, 2);
@@ -26,7 +26,7 @@ pub fn mutate<R: Rng>(alloc: Global, rng: &mut R, text: &[u8]) -> Result<Vec<u8>
     Ok(bytes)
 }
 
-// Makes one change. Empty bytes stay empty.
+// Makes one random change of a text. An empty text stays empty.
 fn change<R: Rng>(alloc: Global, rng: &mut R, mut bytes: Vec<u8>) -> Result<Vec<u8>, AllocError> {
     if bytes.is_empty() {
         return Ok(bytes);
@@ -103,8 +103,8 @@ fn change_pieces<R: Rng>(
     join(alloc, &pieces)
 }
 
-// Removes what is between a place of a piece and its last byte: the first space from a random byte
-// on, or that byte, where there is none.
+// Cuts a piece short before its first space at or after a random byte, or before that byte where no
+// such space is, and keeps the piece's last byte.
 fn cut_short<R: Rng>(rng: &mut R, piece: &mut Vec<u8>) -> Result<(), AllocError> {
     if piece.is_empty() {
         return Ok(());

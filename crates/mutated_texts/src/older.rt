@@ -1,5 +1,5 @@
-//! Texts that the library reads and doesn't write: those of version 1, and set books. They are
-//! written here, to be compared.
+//! Texts that the library reads but doesn't write: those of version 1, and set books. This module
+//! writes them, so that what was read can be compared with the text.
 
 ghost use Rattle.std.specs.Prelude.{◌<◌, length};
 ghost use Rattle.book_base.specs.Book.{IsCall};
@@ -98,8 +98,8 @@ fn put_call(out: &mut Vec<u8>, words: Words, book: &Book, call: Call) -> Result<
 }
 
 impl Words {
-    // Appends the words of an operation. One that is no join is written as a counter writes it: the
-    // one operation that a counter knows is a join, so the words are those of an unknown operation.
+    // Appends the words of an operation. In a set book an operation that is no join is written as a
+    // counter writes an unknown one: the one operation word that a counter knows is a join's.
     fn put_op(self, out: &mut Vec<u8>, op: OpWord) -> Result<(), NoMemory> {
         match self {
             Words::First(kind) => kind.put_op(out, op),

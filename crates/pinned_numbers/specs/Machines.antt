@@ -35,8 +35,8 @@ log_of calls = map (λ call. entry call.0 (word_of call.1.code call.2 0)) calls
 abbrev pub late_text : List (ℕ × words.OperationEntry × ℕ) → List ℕ
 late_text calls = reply_word (late_reply (kind_spec Queue) (log_of calls))
 
--- The text of an inventing counter's reply to the last increment of a log, of which these are the
--- callers.
+-- The text of an inventing counter's reply to the last of some increments, whose callers are listed
+-- in the order of the increments.
 abbrev pub invented_text : List ℕ → List ℕ
 invented_text callers = reply_word (invent_reply (kind_spec Counter)
     (map (λ i. entry i (word_of words.inc.code 0 0)) callers))

@@ -1,4 +1,4 @@
-//! The laws, each the contract of a function with nothing in it.
+//! Laws on numbers and on worked logs, each the contract of a function with an empty body.
 
 ghost use Rattle.std.specs.Prelude.{◌≡◌, ℕ, ◌+◌, ◌*◌, ◌^◌, ◌<◌, true, false, [], ◌∷◌, codes, None};
 ghost use Rattle.book_base.specs.declared.TheConstants.{MAX_CALLERS, MAX_CALLS, MAX_ROOM, BAD};
@@ -45,7 +45,8 @@ pub fn phases_of_a_call()
     ensures number { PHASES ≡ 5 }
     // A caller without a stop is given five phases for each of its calls.
     ensures allotted { (calls : ℕ) → phases_for None calls ≡ PHASES * calls }
-    // After five phases for each of some calls, and fewer than five more, these calls are judged.
+    // After five phases for each of `calls` calls, and fewer than five phases more, `calls` calls
+    // are judged.
     ensures made { (calls more : ℕ) → more < PHASES → judged (PHASES * calls + more) ≡ calls }
 {}
 
@@ -108,21 +109,22 @@ pub fn late_puts_wait()
         ∷ (1, words.deq, 0) ∷ []) ≡ codes "=8" }
 {}
 
-/// An inventing counter: the third call of each caller is answered 99, and no other one.
+/// An inventing counter answers 99 to the third call of each caller, and each other call as a right
+/// counter does.
 pub fn third_calls_are_answered_99()
-    // The second call of a caller is answered 1.
+    // The second call of a lone caller is answered 1.
     ensures second { invented_text (0 ∷ 0 ∷ []) ≡ codes "=1" }
     // The third call of a caller is answered 99.
     ensures third { invented_text (0 ∷ 0 ∷ 0 ∷ []) ≡ codes "=99" }
-    // The fourth call of a caller is answered 3.
+    // The fourth call of a lone caller is answered 3.
     ensures fourth { invented_text (0 ∷ 0 ∷ 0 ∷ 0 ∷ []) ≡ codes "=3" }
-    // The first call of another caller is answered 2 after two calls.
+    // A caller's first call is answered 2 after two calls of another caller.
     ensures of_another { invented_text (0 ∷ 0 ∷ 1 ∷ []) ≡ codes "=2" }
-    // The third call of another caller is answered 99.
+    // A caller's third call is answered 99 where calls of another caller come between.
     ensures third_of_another { invented_text (1 ∷ 0 ∷ 1 ∷ 0 ∷ 1 ∷ []) ≡ codes "=99" }
 {}
 
-/// How often a caller of a meeting loads the other caller's flag at most.
+/// A caller of a meeting loads the other caller's flag at most 100,000,000 times.
 pub fn loads_of_a_meeting()
     ensures { most_loads ≡ 100000000 }
 {}

@@ -1,7 +1,7 @@
 use std::fmt;
 use std::fmt::{Display, Formatter, Write};
 
-/// The outcome of a work.
+/// The outcome of a piece of work.
 #[derive(Clone, Copy, Debug, PartialEq, Eq)]
 pub enum Came {
     /// The work wasn't done.

@@ -10,7 +10,7 @@ use std::thread::Threads;
 /// The capacity of a sink, which each output fits in.
 const CAPACITY: usize = 1 << 16;
 
-/// A queue's two calls: 5 is enqueued, and then dequeued.
+/// The book of two calls of a queue: 5 is enqueued, and then dequeued.
 const BOOK: &[u8] = b"book 2\n\
       object queue\n\
       callers 2\n\
@@ -19,7 +19,7 @@ const BOOK: &[u8] = b"book 2\n\
       1 0 deq =5 view 0:1 1:1\n\
       end\n";
 
-/// The two calls of a queue, 5 enqueued and then dequeued, in version 1.
+/// The book of two calls of a queue, 5 enqueued and then dequeued, as a text of version 1.
 const OLD_BOOK: &[u8] = b"book 1\n\
       object queue\n\
       callers 2\n\
@@ -55,7 +55,7 @@ const SET_BOOK: &[u8] = b"setbook 2\n\
       1 0 join 1 =3 view 0:1 1:1\n\
       end\n";
 
-/// Two callers of a queue: one enqueues 5, and the other dequeues.
+/// The script of two callers of a queue: one enqueues 5, and the other dequeues.
 pub const SCRIPT: &[u8] = b"script 2\n\
       object queue\n\
       callers 2\n\
@@ -65,7 +65,7 @@ pub const SCRIPT: &[u8] = b"script 2\n\
       turns 0 0 0 0 0 1 1 1 1 1\n\
       end\n";
 
-/// One caller of a queue that loses each second item.
+/// The script of one caller of a queue that loses each second item.
 const LOST: &[u8] = b"script 2\n\
       object queue\n\
       callers 1\n\
@@ -131,7 +131,8 @@ const REPLAYED: &[u8] = b"report 2\n\
       1 0 deq =5 view 0:1 1:1 ok seen 0:1 1:1\n\
       end\n";
 
-/// The report of two callers of the object that puts late, and its witness.
+/// The report of two callers of a queue where a put waits for its caller's next call, and the
+/// witness of this report.
 const REPLAYED_LATE: &[u8] = b"report 2\n\
       object queue\n\
       callers 2\n\
@@ -147,7 +148,7 @@ const REPLAYED_LATE: &[u8] = b"report 2\n\
       1 0 deq none view 0:1 1:1\n\
       end\n";
 
-/// One caller of a queue.
+/// The script of one caller of a queue, which enqueues 5 and dequeues.
 const CALLS_OF_ONE: &[u8] = b"script 2\n\
       object queue\n\
       callers 1\n\
@@ -206,7 +207,8 @@ impl TriedCommand {
         })
     }
 
-    /// The worked command of this name.
+    /// The command that is tried under this name, with its input and its expected output, if there
+    /// is one.
     pub fn of_name(alloc: Global, name: &str) -> Result<Option<TriedCommand>> {
         let (words, input, wanted): (&[&str], &[u8], Wanted) = match name {
             "run" => (&["run", "lawful"], SCRIPT, Wanted::TwoDelivered),
@@ -311,7 +313,7 @@ fn tells_two_delivered(alloc: Global, text: &[u8]) -> bool {
     }
 }
 
-/// Whether a report has these counts where each of two calls is delivered.
+/// Whether the counts of a report are those of two calls that are both delivered.
 pub fn is_two_delivered(counts: Counts) -> bool {
     counts.calls == 2 && counts.delivered == 2 && counts.errors == 0
 }

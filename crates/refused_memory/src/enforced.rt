@@ -17,7 +17,7 @@ pub struct Enforced {
     found: Option<Result<Calls, NoMemory>>,
 }
 
-/// The expected findings of one of the two calls.
+/// The expected findings of one of two calls of a queue.
 #[derive(Clone, Copy)]
 struct Wanted {
     caller: u32,
@@ -59,7 +59,7 @@ const DEQUEUE_FIRST: [Wanted; 2] = [
 ];
 
 impl Enforced {
-    /// The calls that are made in these turns, before they are made.
+    /// Two calls that are to be made in these turns, and aren't made yet.
     pub fn new(turns: Turns) -> Enforced {
         Enforced { turns, found: None }
     }
@@ -91,8 +91,8 @@ impl Enforced {
 }
 
 impl Wanted {
-    // Whether the findings of a call are the expected ones: its reply is delivered with this order,
-    // or the call wasn't judged.
+    // Whether the findings of a call are the expected ones: its reply is delivered with the order
+    // `order`, or the call wasn't judged.
     fn is_found(&self, found: &CallFindings, order: &[Place]) -> bool {
         let is_ended = match &found.end {
             End::Delivered(places) => found.live && places.as_slice() == order,

@@ -4,17 +4,17 @@ use anyhow::Result;
 use std::alloc::Global;
 use std::io::Write;
 
-/// The callers of both books, as many as a book may have.
+/// The number of callers of a generated book, the most that a book may have.
 const CALLERS: u32 = 16;
 
-/// The calls of each caller in the greatest book, as many as a book may have.
+/// The number of calls of each caller in the greatest book, the most that a caller may have.
 const MOST_CALLS: u64 = 256;
 
-/// The calls of each caller in the book of rounds.
+/// The number of calls of each caller in the book of rounds, one in each round.
 const ROUNDS: u64 = 8;
 
-/// The greatest book: all callers of a queue put values in, and only the last caller's calls have
-/// replies.
+/// The book with the most callers and calls: all callers of a queue put values in, and only the
+/// last caller's calls have replies.
 pub fn great_book(alloc: Global) -> Result<Vec<u8>> {
     let mut text = Vec::new(alloc);
     write_head(&mut text, MOST_CALLS)?;

@@ -1,5 +1,5 @@
-//! Works that take memory, and what comes where some allocation is refused: by itself it refuses
-//! none, and whoever runs it says which one the system is to refuse.
+//! Pieces of work that take memory, and their outcomes where one allocation is refused. The program
+//! itself refuses none: whoever runs it says which one the system is to refuse.
 //!
 //! Each line of standard input names a work, how many allocations are used up before it, and `do`
 //! or `leave`, which only prepares it. After the work allocations are used up until one is refused,
@@ -11,8 +11,9 @@
 //! | `WORK: CAME, and N behind it` | the work had all memory that it wanted, and N more allocations were had before one was refused |
 //! | `WORK: refused before` | an allocation before the work was refused |
 //!
-//! CAME is the ordinary answer, want of memory with nothing written, or a call without a judgement,
-//! which leaves its record; and what is none of these is `WRONG`, and the status is then 1.
+//! CAME is the ordinary answer, want of memory with nothing written, a call without a judgement,
+//! which leaves its record, or that the work wasn't done. Any other outcome is `WRONG`, and the
+//! status is then 1.
 #![tactic(auto)]
 
 mod came;
@@ -31,7 +32,8 @@ use std::thread::Threads;
 use work::MemoryWork;
 
 // Prepares the work that a line names, does it where the line says so, and answers whether its
-// outcome isn't wrong. Where memory was used up before, nothing is done.
+// outcome isn't wrong. Where an allocation before the work is refused, the work isn't done, and the
+// answer is true.
 fn try_line<R: Print + AllocGlobal + Threads + Sync>(rt: &R, line: &str) -> Result<bool> {
     let (name, rest) = line.split_once(' ').context("a number")?;
     let (before, deed) = rest.split_once(' ').context("a deed")?;

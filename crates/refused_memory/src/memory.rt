@@ -13,8 +13,8 @@ pub fn use_up(alloc: Global, count: u64) -> bool {
     true
 }
 
-/// Uses up allocations until one is refused, and answers how many were had before; the answer is
-/// none where `MOST` were had.
+/// Uses up allocations until one is refused, and answers how many were had before; `None` where
+/// `MOST` were had.
 pub fn use_up_all(alloc: Global) -> Option<u64> {
     (0..MOST).find(|number| !use_up_one(alloc, *number))
 }

@@ -23,7 +23,7 @@ pub struct Ran {
 }
 
 impl Ran {
-    /// The worked script, before its run.
+    /// The script of an enqueue and a dequeue by two callers, before its run.
     pub fn new(alloc: Global) -> Result<Ran> {
         let script = read_script(alloc, SCRIPT).map_err(|_| anyhow!("the script can't be read"))?;
         Ok(Ran {
@@ -55,7 +55,7 @@ fn run_box<R: Threads + Sync>(rt: &R, alloc: Global, script: &Script) -> Result<
 }
 
 // Runs a script over an object, and answers the outcome, which is wrong where a caller isn't back
-// on the bench or a pass isn't in its place.
+// on the bench or a pass isn't at its caller's place in the list.
 fn run_beside<R: Threads + Sync, B: BlackBox + Sync>(
     rt: &R,
     alloc: Global,

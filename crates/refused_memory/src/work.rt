@@ -7,7 +7,7 @@ use std::alloc::Global;
 use std::thread::Threads;
 use whole_calls::Turns;
 
-/// A work that takes memory.
+/// A piece of work that takes memory.
 #[derive(Drop)]
 pub enum MemoryWork {
     /// A command, made by the top call.

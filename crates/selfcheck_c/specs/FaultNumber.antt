@@ -3,7 +3,7 @@ use Rattle.std.specs.Prelude.{ℕ}
 use Rattle.book_base.specs.declared.fault.What.{What}
 use Rattle.book_base.specs.declared.fault.What.TheVariants.{Long, Cut, Head, Object, Callers, Calls, Place, Op, Gap, Reply, View, ViewOutside, ViewLacksOwn, ViewHasLater, ViewsCross, Mark, Seen, Last, Stop, Turns, End, Rest}
 
--- The number of what is wrong with a text.
+-- The number by which programs in other languages are told what is wrong with a text.
 abbrev pub fault_number : What → ℕ
 fault_number Long = 0
 fault_number Cut = 1

@@ -8,12 +8,11 @@ use Rattle.text_fields.specs.declared.version.Version.TheVariants.{Second}
 use Rattle.selfcheck_c.specs.declared.refusal.Refusal.{Refusal}
 use Rattle.selfcheck_c.specs.FaultNumber.{fault_number}
 
--- The refusal tells this fault.
+-- A refusal tells a fault of a text: the fault's line, and the number of what is wrong in it.
 abbrev pub TellsFault : TextFault → Refusal → Type 0
 TellsFault fault refusal = (refusal.line ≡ fault.line) × (refusal.what ≡ fault_number fault.what)
 
--- The bytes are no text of a form whose first faults these are, and the refusal tells their first
--- fault.
+-- A refusal tells the first fault of some bytes, which is a fault for which `IsFirst` holds.
 abbrev pub IsRefusalOf : (TextFault → Type 0) → Refusal → Type 0
 IsRefusalOf IsFirst refusal = (fault : TextFault) × IsFirst fault × TellsFault fault refusal
 

@@ -1,6 +1,7 @@
 use call_handles::Handle;
 
-// A slot may go to another thread, since the box at its pointer may.
+// Compiles only where values of the type may go to another thread. A slot may go to another thread,
+// since the handle in its box may.
 fn crosses<T: Send>() {}
 
 pub(crate) fn handles_cross() {

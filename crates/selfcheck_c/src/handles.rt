@@ -226,9 +226,9 @@ pub extern "C" fn selfcheck_witness(
     ensures text { result ≡ DONE → Witnesses (handle_in slot.old) (take written.new buffer.new) }
     // With `DONE` the bytes of the buffer after the first `written` are as they were.
     ensures rest { result ≡ DONE → drop written.new buffer.new ≡ drop written.new buffer.old }
-    // With `NO_ROOM` the length written is greater than the buffer's.
+    // With `NO_ROOM` the count `written` is greater than the length of the buffer.
     ensures no_room { result ≡ NO_ROOM → length buffer.old < written.new }
-    // With `NO_ROOM` there is a text of the book of the error that has the length written.
+    // With `NO_ROOM` there is a text, `written` bytes long, of the book of the error.
     ensures unheld { result ≡ NO_ROOM → (wanted : List ℕ) × Witnesses (handle_in slot.old) wanted
         × (length wanted ≡ written.new) }
     // With `UNFIT` the slot has neither a caller whose last call was an error nor a monitor that
@@ -236,7 +236,7 @@ pub extern "C" fn selfcheck_witness(
     ensures unfit { result ≡ UNFIT → ¬ HasWitness (handle_in slot.old) }
     // With each status but `DONE` the buffer is as it was.
     ensures unwritten { ¬ (result ≡ DONE) → buffer.new ≡ buffer.old }
-    // With each status but `DONE` and `NO_ROOM` the length written is as it was.
+    // With each status but `DONE` and `NO_ROOM` the count `written` is as it was.
     ensures uncounted { ¬ (result ≡ DONE) → ¬ (result ≡ NO_ROOM) → written.new ≡ written.old }
     // The slot's handle is as it was.
     ensures kept { handle_in slot.new ≡ handle_in slot.old }

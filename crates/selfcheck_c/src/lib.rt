@@ -32,7 +32,7 @@ pub const ILLEGAL: u32 = 1;
 pub const REFUSED: u32 = 3;
 /// Memory was wanted.
 pub const NO_MEMORY: u32 = 6;
-/// There is such a text as the call writes, but the buffer can't hold it.
+/// The buffer is too short for the text that the call would write.
 pub const NO_ROOM: u32 = 8;
 
 /// Judges the book that the bytes are the text of. Where the text is refused, `refusal` says why;
@@ -131,9 +131,9 @@ pub extern "C" fn selfcheck_certify(
     // With `REFUSED` the bytes are no book's text, and the refusal has the line and the number of
     // their first fault.
     ensures refused { result ≡ REFUSED → IsBookRefusal text.now refusal.new }
-    // With `NO_ROOM` the length written is greater than the buffer's.
+    // With `NO_ROOM` the count `written` is greater than the length of the buffer.
     ensures no_room { result ≡ NO_ROOM → length buffer.old < written.new }
-    // With `NO_ROOM` there is a certificate of the book that has the length written.
+    // With `NO_ROOM` there is a certificate, `written` bytes long, of the book.
     ensures unheld { result ≡ NO_ROOM → (wanted : List ℕ) × Certifies text.now wanted
         × (length wanted ≡ written.new) }
     // The status is `LEGAL`, `ILLEGAL`, `REFUSED`, `NO_MEMORY` or `NO_ROOM`.
@@ -143,7 +143,7 @@ pub extern "C" fn selfcheck_certify(
     ensures unwritten { ¬ (result ≡ LEGAL) → buffer.new ≡ buffer.old }
     // With each status but `REFUSED` the refusal is as it was.
     ensures kept { ¬ (result ≡ REFUSED) → refusal.new ≡ refusal.old }
-    // With each status but `LEGAL` and `NO_ROOM` the length written is as it was.
+    // With each status but `LEGAL` and `NO_ROOM` the count `written` is as it was.
     ensures uncounted { ¬ (result ≡ LEGAL) → ¬ (result ≡ NO_ROOM) → written.new ≡ written.old }
     // The text of a book with a legal order has the status `LEGAL` or `NO_ROOM`, unless memory runs
     // out.

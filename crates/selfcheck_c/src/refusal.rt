@@ -24,7 +24,7 @@ impl From<TextFault> for Refusal {
     }
 }
 
-/// The number of what is wrong with a text.
+/// The number by which programs in other languages are told what is wrong with a text.
 fn number_of(what: What) -> u32
     ensures { result ≡ fault_number what }
 {

@@ -41,10 +41,10 @@ pub extern "C" fn selfcheck_smaller(
     // With `REFUSED` the bytes give no book, and the refusal has the line and the number of their
     // first fault.
     ensures refused { result ≡ REFUSED → IsGivenRefusal text.now refusal.new }
-    // With `NO_ROOM` the length written is greater than the buffer's.
+    // With `NO_ROOM` the count `written` is greater than the length of the buffer.
     ensures no_room { result ≡ NO_ROOM → length buffer.old < written.new }
     // With `NO_ROOM` there is a text of a part of the book that has no legal order and that no rule
-    // makes smaller, and it has the length written.
+    // makes smaller, and it is `written` bytes long.
     ensures unheld { result ≡ NO_ROOM → (wanted : List ℕ) × IsSmallerWitness text.now wanted
         × (length wanted ≡ written.new) }
     // The status is `LEGAL`, `ILLEGAL`, `REFUSED`, `NO_MEMORY` or `NO_ROOM`.
@@ -54,7 +54,7 @@ pub extern "C" fn selfcheck_smaller(
     ensures unwritten { ¬ (result ≡ ILLEGAL) → buffer.new ≡ buffer.old }
     // With each status but `REFUSED` the refusal is as it was.
     ensures kept { ¬ (result ≡ REFUSED) → refusal.new ≡ refusal.old }
-    // With each status but `ILLEGAL` and `NO_ROOM` the length written is as it was.
+    // With each status but `ILLEGAL` and `NO_ROOM` the count `written` is as it was.
     ensures uncounted { ¬ (result ≡ ILLEGAL) → ¬ (result ≡ NO_ROOM) → written.new ≡ written.old }
     // Bytes that give a book with a legal order have the status `LEGAL`, unless memory runs out.
     ensures legal_told { IsLegalGiven text.now → (result ≡ LEGAL) ⊎ (result ≡ NO_MEMORY) }
@@ -84,9 +84,10 @@ pub extern "C" fn selfcheck_smaller(
     }
 }
 
-/// Writes into a buffer the picture, as SVG, of the book that the bytes give, as
-/// `selfcheck_smaller` reads them. `written` is the picture's length, even where the buffer can't
-/// hold it and nothing is written. Where the bytes are refused, `refusal` says why.
+/// Writes into a buffer the picture, as SVG, of the book that the bytes give. The bytes are a
+/// book's text in either version, or what a run or monitors have written with its witness.
+/// `written` is the picture's length, even where the buffer can't hold it and nothing is written.
+/// Where the bytes are refused, `refusal` says why.
 #[unsafe(no_mangle)]
 pub extern "C" fn selfcheck_picture(
     alloc: Global,
@@ -105,9 +106,9 @@ pub extern "C" fn selfcheck_picture(
     // With `REFUSED` the bytes give no book, and the refusal has the line and the number of their
     // first fault.
     ensures refused { result ≡ REFUSED → IsGivenRefusal text.now refusal.new }
-    // With `NO_ROOM` the length written is greater than the buffer's.
+    // With `NO_ROOM` the count `written` is greater than the length of the buffer.
     ensures no_room { result ≡ NO_ROOM → length buffer.old < written.new }
-    // With `NO_ROOM` there is a picture of the book that has the length written.
+    // With `NO_ROOM` there is a picture, `written` bytes long, of the book.
     ensures unheld { result ≡ NO_ROOM → (wanted : List ℕ) × IsPictureOf text.now wanted
         × (length wanted ≡ written.new) }
     // The status is `DONE`, `REFUSED`, `NO_MEMORY` or `NO_ROOM`.
@@ -117,7 +118,7 @@ pub extern "C" fn selfcheck_picture(
     ensures unwritten { ¬ (result ≡ DONE) → buffer.new ≡ buffer.old }
     // With each status but `REFUSED` the refusal is as it was.
     ensures kept { ¬ (result ≡ REFUSED) → refusal.new ≡ refusal.old }
-    // With each status but `DONE` and `NO_ROOM` the length written is as it was.
+    // With each status but `DONE` and `NO_ROOM` the count `written` is as it was.
     ensures uncounted { ¬ (result ≡ DONE) → ¬ (result ≡ NO_ROOM) → written.new ≡ written.old }
     // Bytes that give a book have the status `DONE` or `NO_ROOM`, unless memory runs out.
     ensures drawn_told { (kind : Kind) (book : List Page) → IsGiven text.now kind book →

@@ -9,7 +9,7 @@ use crate::runs::RunSearch;
 use crate::search::{LevelSearch, LevelsFound};
 use crate::stack_book::StackBook;
 use crate::table::LevelTable;
-use book_base::{Book, Decision, NoMemory, SeqObject, Sight};
+use book_base::{Book, Decision, NoMemory, SeqObject};
 use container_counts::refute_by_counts;
 use container_pruning::Reader;
 use next_calls::has_one_open;
@@ -23,10 +23,6 @@ use value_pruning::sight_of_values;
 ///
 /// Counts of puts and takes are compared first: where they contradict one another, the book has no
 /// legal order, and there is no search.
-///
-/// Levels are worth their cost where values are put in more than once, so that many lists end
-/// alike. Where all values differ, no decision is made: a search of orders then has few lists at
-/// each cut.
 ///
 /// The search isn't trusted: an order that it finds is judged, and isn't delivered where it isn't
 /// legal; and a table of pairs from which it finds no order is checked once more. No clause says
@@ -53,9 +49,6 @@ pub fn decide_stack<S: SeqObject + Reader>(
         return Ok(Decision::Unsaid);
     }
     let sight = sight_of_values(alloc, stack, book)?;
-    if !has_equal_puts(&sight) {
-        return Ok(Decision::Unsaid);
-    }
     let calls = Table::of(alloc, stack, book)?;
     if refute_by_counts(alloc, &calls)? {
         return Ok(Decision::NoOrder);
@@ -67,6 +60,7 @@ pub fn decide_stack<S: SeqObject + Reader>(
     };
     let runs = RunSearch {
         levels: LevelSearch { alloc, on: &on },
+        calls: &calls,
     };
     if let LevelsFound::Whole(table, place) = runs.run()? {
         return order_of(alloc, stack, book, &table, place);
@@ -86,16 +80,6 @@ pub fn decide_stack<S: SeqObject + Reader>(
         }
         LevelsFound::Unsaid => Ok(Decision::Unsaid),
     }
-}
-
-// Whether some value is put in more than once.
-fn has_equal_puts(sight: &Sight) -> bool {
-    for labelled in &sight.labelled {
-        if labelled.puts.len() > 1 {
-            return true;
-        }
-    }
-    false
 }
 
 // The decision with the calls that lead from the start to a node, in order, where this order is

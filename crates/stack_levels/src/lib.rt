@@ -7,6 +7,7 @@
 pub mod cases;
 mod closure;
 mod decide;
+mod lasting;
 pub mod laws;
 mod order;
 mod runs;

@@ -2,13 +2,15 @@ ghost use Rattle.std.specs.Prelude.{◌≡◌, length};
 ghost use Rattle.book_base.specs.Pruning.{HasOneOpen};
 ghost use Rattle.value_pruning.specs.Sights.{ListsValues};
 
-use crate::search::{LINKS, LevelSearch, LevelStep, LevelsFound, NODES, Turn, more};
+use crate::lasting::{lasts, moment_before_take};
+use crate::search::{LINKS, LevelSearch, LevelsFound, NODES, Turn, more};
 use crate::stack_book::NextCallers;
 use crate::table::{Beginning, FirstReached, Level, LevelEnd, LevelTable, NodeKey, Origin};
 use book_base::{Call, Cut, MAX_CALLERS, NoMemory};
 use container_pruning::{Reader, Role};
 use indexmap::IndexSet;
 use next_calls::least_open;
+use queue_pairs::Table;
 use stack_pruning::Top;
 use std::cmp::Reverse;
 
@@ -25,8 +27,14 @@ use std::cmp::Reverse;
 ///   taken: it could as well stand before that put.
 /// - Nor does such a take take the item of that put, where an item of the same value lies right
 ///   below: it could as well take that one before.
+///
+/// By these rules an item stays on the list for a while: that of a run past the view of its put,
+/// and the last item of a list past each take of its value that may come next, where a put comes
+/// next. Meanwhile takes find what was put in meanwhile. So counts of puts and takes of each value
+/// tell of some puts that they needn't be tried.
 pub struct RunSearch<'a, R> {
     pub levels: LevelSearch<'a, R>,
+    pub calls: &'a Table,
 }
 
 /// A beginning of a level, and the caller of the put that begins it, where this is a put of a run.
@@ -51,7 +59,28 @@ struct Way {
 struct RunSteps {
     forced: Call,
     at_once: bool,
-    steps: Vec<LevelStep>,
+    steps: Vec<RunStep>,
+}
+
+/// A call that is to be tried, the number of the cut that it leads to, and where it puts in a value,
+/// whether some answered call takes this value, and whether the put is one of a run.
+#[derive(Clone, Copy)]
+struct RunStep {
+    call: Call,
+    cut: usize,
+    is_taken: bool,
+    in_run: bool,
+}
+
+/// A cut and what is known of a list after it, with what is to be tried there: the forced call, the
+/// moment of its view, and whether one call suffices.
+#[derive(Clone, Copy)]
+struct RunLook {
+    counts: [u16; MAX_CALLERS],
+    top: Top,
+    forced: Call,
+    moment: u64,
+    at_once: bool,
 }
 
 /// The levels that were found, with what began each and how it was laid on its parents; the nodes
@@ -85,7 +114,10 @@ struct RunHere {
 
 impl<R> Drop for RunSearch<'_, R> {
     fn drop(self) {
-        let RunSearch { levels: _ } = self;
+        let RunSearch {
+            levels: _,
+            calls: _,
+        } = self;
     }
 }
 
@@ -218,19 +250,113 @@ impl<R: Reader> RunSearch<'_, R> {
             Some(_) => self.puts(&look, at.at.top)?,
             None => self.levels.turns(&look, at.at.top)?,
         };
+        let looked_at = RunLook {
+            counts,
+            top: at.at.top,
+            forced,
+            moment: self.moment_of(forced),
+            at_once: at.run.is_none() && self.marks_one(&look),
+        };
+        let may_put = at.run.is_some() || self.may_put(looked_at)?;
         let mut steps = Vec::new(self.levels.alloc);
         for turn in &turns {
-            let call = turn.call;
-            let (cut, _is_new) = progress.table.cuts.insert_full(more(&counts, call.caller))?;
-            steps.push(LevelStep { call, cut })?;
+            if let Some(step) = self.step(progress, looked_at, turn.call, may_put)? {
+                steps.push(step)?;
+            }
         }
         progress.steps.push(RunSteps {
             forced,
-            at_once: at.run.is_none() && self.marks_one(&look),
+            at_once: looked_at.at_once,
             steps,
         })?;
         let (looked, _is_new) = progress.looked.insert_full(at)?;
         Ok(Some(looked))
+    }
+
+    // Whether a put has to be tried, where several calls have to be: where the next call is a put,
+    // each take of the last word that may come next was tried, so that the last item is taken by
+    // another one. Up to then each take finds what is put in outside the cut.
+    fn may_put(&self, at: RunLook) -> Result<bool, NoMemory> {
+        let Some(last) = at.top.last else {
+            return Ok(true);
+        };
+        if at.at_once {
+            return Ok(true);
+        }
+        let until = moment_before_take(self.calls, &at.counts, last, at.moment);
+        lasts(self.levels.alloc, self.calls, &at.counts, None, until)
+    }
+
+    // A call that is to be tried, with what it leads to; or none where it needn't be tried.
+    fn step(
+        &self,
+        progress: &mut RunState,
+        at: RunLook,
+        call: Call,
+        may_put: bool,
+    ) -> Result<Option<RunStep>, NoMemory>
+        requires sight { ListsValues (R.reading self.now.levels.on.now.reader.now)
+            self.now.levels.on.now.book.now self.now.levels.on.now.sight.now }
+    {
+        let mut is_taken = false;
+        let mut in_run = false;
+        if let Some(value) = self.value_put(call) {
+            is_taken = self.levels.on.is_taken(value);
+            in_run = is_taken
+                && !at.at_once
+                && self.is_put(at.forced)
+                && !self.is_forced(at, call);
+            if !may_put || (in_run && !self.may_stay(at, call, value)?) {
+                return Ok(None);
+            }
+        }
+        let more = more(&at.counts, call.caller);
+        let (cut, _is_new) = progress.table.cuts.insert_full(more)?;
+        Ok(Some(RunStep {
+            call,
+            cut,
+            is_taken,
+            in_run,
+        }))
+    }
+
+    // Whether a put of a run has to be tried: its item isn't taken within its view, nor by a take
+    // that the forced call's view holds. Up to then each take finds what is put in outside the cut
+    // by other calls. No unanswered put is one of a run.
+    fn may_stay(&self, at: RunLook, put: Call, value: u64) -> Result<bool, NoMemory> {
+        if self.view_of(put).is_none() {
+            return Ok(false);
+        }
+        let until = moment_before_take(self.calls, &at.counts, value, at.moment);
+        let until = until.max(self.moment_of(put));
+        lasts(self.levels.alloc, self.calls, &at.counts, Some(put), until)
+    }
+
+    // How many calls the view of a call counts, or 0 where the call has none.
+    fn moment_of(&self, call: Call) -> u64 {
+        match self.calls.at(call.caller as usize, call.number as usize) {
+            Some(timed) if timed.is_answered() => timed.span.last,
+            _ => 0,
+        }
+    }
+
+    // The value that a call of the book puts in.
+    fn value_put(&self, call: Call) -> Option<u64> {
+        if !self.levels.is_call(call) {
+            return None;
+        }
+        match self.levels.on.reader.role(self.levels.on.book.op(call)) {
+            Role::Put(value) => Some(value),
+            Role::Take | Role::Other => None,
+        }
+    }
+
+    // Whether a call is the forced one, or serves for it: then both have the same view.
+    fn is_forced(&self, at: RunLook, call: Call) -> bool {
+        call == at.forced
+            || (self.levels.is_call(call)
+                && self.levels.is_call(at.forced)
+                && self.levels.on.serves(at.top.last, call, at.forced))
     }
 
     // Whether the next call of one caller alone has to be tried.
@@ -264,11 +390,7 @@ impl<R: Reader> RunSearch<'_, R> {
 
     // Whether a call is one of the book's and puts in a value.
     fn is_put(&self, call: Call) -> bool {
-        self.levels.is_call(call)
-            && match self.levels.on.reader.role(self.levels.on.book.op(call)) {
-                Role::Put(_) => true,
-                Role::Take | Role::Other => false,
-            }
+        self.value_put(call).is_some()
     }
 
     // The view of a call, where it is one of the book's and answered.
@@ -286,12 +408,9 @@ impl<R: Reader> RunSearch<'_, R> {
         &self,
         progress: &mut RunState,
         here: RunHere,
-        step: LevelStep,
-    ) -> Result<(), NoMemory>
-        requires sight { ListsValues (R.reading self.now.levels.on.now.reader.now)
-            self.now.levels.on.now.book.now self.now.levels.on.now.sight.now }
-    {
-        let LevelStep { call, cut } = step;
+        step: RunStep,
+    ) -> Result<(), NoMemory> {
+        let RunStep { call, cut, .. } = step;
         if !self.levels.is_call(call) {
             return Ok(());
         }
@@ -331,34 +450,27 @@ impl<R: Reader> RunSearch<'_, R> {
 
     // Follows a put, which leads to the level that it shares with all puts of its value that lead
     // to the same cut, with the same answer to whether the list is kept, and whether the put is one
-    // of a run. No unanswered put is one of a run.
+    // of a run.
     fn begin(
         &self,
         progress: &mut RunState,
         here: RunHere,
         value: u64,
-        step: LevelStep,
-    ) -> Result<(), NoMemory>
-        requires sight { ListsValues (R.reading self.now.levels.on.now.reader.now)
-            self.now.levels.on.now.book.now self.now.levels.on.now.sight.now }
-    {
-        let taken = self.levels.on.is_taken(value);
-        let in_run = taken
-            && !here.at_once
-            && self.is_put(here.forced)
-            && !self.is_forced(here, step.call);
-        if in_run && self.view_of(step.call).is_none() {
-            return Ok(());
-        }
+        step: RunStep,
+    ) -> Result<(), NoMemory> {
         let begins = RunBeginning {
             at: Beginning {
                 cut: step.cut,
                 top: Top {
                     last: Some(value),
-                    kept: here.top.kept && !taken,
+                    kept: here.top.kept && !step.is_taken,
                 },
             },
-            run: if in_run { Some(step.call.caller) } else { None },
+            run: if step.in_run {
+                Some(step.call.caller)
+            } else {
+                None
+            },
         };
         let (level, is_new) = progress.begins.insert_full(begins)?;
         if is_new {
@@ -387,14 +499,6 @@ impl<R: Reader> RunSearch<'_, R> {
             cut: step.cut,
         };
         self.reach(progress, node, None, FirstReached::Begins)
-    }
-
-    // Whether a call is the forced one, or serves for it: then both have the same view.
-    fn is_forced(&self, here: RunHere, call: Call) -> bool {
-        call == here.forced
-            || (self.levels.is_call(call)
-                && self.levels.is_call(here.forced)
-                && self.levels.on.serves(here.top.last, call, here.forced))
     }
 
     // Adds a level to those that may lie right below another one, with a put that leads from it:
@@ -557,7 +661,7 @@ impl<R: Reader> RunSearch<'_, R> {
 }
 
 // The step with this number of those at a cut and a top.
-fn step_of(progress: &RunState, looked: usize, k: usize) -> Option<LevelStep> {
+fn step_of(progress: &RunState, looked: usize, k: usize) -> Option<RunStep> {
     progress.steps.get(looked)?.steps.get(k).copied()
 }
 

@@ -1,4 +1,4 @@
-//! Books and states, made with memory at hand.
+//! Tests of books and states, where each allocation succeeds.
 ghost use Rattle.std.specs.Prelude.{◌≡◌, length};
 
 use book_base::{BAD, Book, Call, Cut, MAX_CALLERS, MAX_CALLS, MAX_ROOM, State};

@@ -1,4 +1,4 @@
-//! What objects of stacks decide of whole books, without a search of orders.
+//! What stacks decide of whole books without a search of orders.
 use book_base::{Decision, SeqObject};
 use book_text::read_book;
 use std::alloc::Global;
@@ -20,15 +20,15 @@ const LOWER: &[u8] =
 const LOST: &[u8] =
     b"book 2\nobject stack\ncallers 2\ncalls 2 2\n0 0 push 1 done view 0:1\n0 1 push 1 done view 0:2\n1 0 pop =1 view 0:2 1:1\n1 1 pop none view 0:2 1:2\nend\n";
 
-// A value is put in twice and taken once, and then a take finds nothing, beside an unanswered call
-// that may have taken the other one.
+// A value is put in twice and taken once. Then a take finds nothing, beside an unanswered take that
+// may have taken the value a second time.
 const TAKEN: &[u8] =
     b"book 2\nobject stack\ncallers 3\ncalls 2 2 1\n0 0 push 1 done view 0:1\n0 1 push 1 done view 0:2\n1 0 pop =1 view 0:2 1:1\n1 1 pop none view 0:2 1:2 2:1\n2 0 pop\nend\n";
 
 // No value is put in twice.
 const APART: &[u8] = b"book 2\nobject stack\ncallers 1\ncalls 1\n0 0 push 1 done view 0:1\nend\n";
 
-// What the object decides of the book with this text.
+// What the sequential object of the book's kind decides of the book with this text.
 fn decision(alloc: Global, text: &[u8]) -> Result<Decision, Fail> {
     let (kind, book) = read_book(alloc, text)?;
     Ok(kind.decide(alloc, &book)?)

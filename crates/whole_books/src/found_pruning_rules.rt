@@ -46,7 +46,8 @@ const FOUND_NOTHING: &[u8] =
 const OPEN_TAKE: &[u8] =
     b"book 2\nobject queue\ncallers 4\ncalls 1 0 1 1\n0 0 enq 5 done view 0:1 2:1 3:1\n2 0 deq none view 0:1 2:1 3:1\n3 0 deq\nend\n";
 
-// The pruning rules that the object of its kind finds for the book with this text.
+// The pruning rules that the sequential object of the book's kind finds for the book with this
+// text.
 fn found_rules(alloc: Global, text: &[u8]) -> Result<PruningRules, Fail> {
     let (kind, book) = read_book(alloc, text)?;
     Ok(kind.find_pruning_rules(alloc, &book)?)

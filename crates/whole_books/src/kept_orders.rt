@@ -1,5 +1,5 @@
-//! Searches that begin after what stands of an order, in a book that has grown since that order was
-//! found.
+//! Searches that begin after the last mark of a kept order that still stands, in a book that has
+//! grown since that order was found.
 ghost use Rattle.std.specs.Prelude.{◌≡◌, length, IfOk};
 
 use book_base::{Book, Cut, OpWord, Place};
@@ -42,8 +42,8 @@ fn half_answered(alloc: Global, first: (OpWord, u64), others: (OpWord, u64)) -> 
     Ok(book)
 }
 
-// The order that is found after what stood of an earlier one, once the first caller's call is
-// answered.
+// The order that a search finds for a queue's book once the first caller's call is answered. The
+// search begins after the last mark that still stands of the order found before the answer.
 fn found_later(
     alloc: Global,
     mut book: Book,
@@ -73,8 +73,9 @@ fn first_place(reply: u64) -> Place {
     }
 }
 
-// The second caller's enqueues were an order. The first caller's record comes late, with a view
-// that holds none of them, so its enqueue comes before all of them.
+// While the first caller's call is unanswered, the second caller's enqueues alone are a legal
+// order. Then the first caller's record comes, with a view that holds none of them, so its enqueue
+// comes before all of them.
 #[test]
 fn a_late_record_with_an_old_view_leaves_nothing_standing(rt: HostRuntime) -> Result<(), Fail> {
     let enqueue = (ENQUEUE_6, DONE);
@@ -84,8 +85,8 @@ fn a_late_record_with_an_old_view_leaves_nothing_standing(rt: HostRuntime) -> Re
     Ok(())
 }
 
-// The order began with the enqueue that had no answer, since 5 was dequeued. Then this enqueue is
-// answered with the reply that it had in the order.
+// The first order begins with the unanswered enqueue, since 5 is dequeued. Then this enqueue is
+// answered with the reply that it has in that order.
 #[test]
 fn an_open_call_of_the_order_is_answered_as_it_stood(rt: HostRuntime) -> Result<(), Fail> {
     let book = half_answered(rt.alloc(), (DEQUEUE, value_reply(5)), (DEQUEUE, NONE))?;
@@ -94,7 +95,7 @@ fn an_open_call_of_the_order_is_answered_as_it_stood(rt: HostRuntime) -> Result<
     Ok(())
 }
 
-// The enqueue that had no answer is answered with a reply that no enqueue has.
+// An enqueue that is unanswered in the first order is answered with a reply that no enqueue has.
 #[test]
 fn an_open_call_of_the_order_has_another_reply(rt: HostRuntime) -> Result<(), Fail> {
     let book = half_answered(rt.alloc(), (DEQUEUE, value_reply(5)), (DEQUEUE, NONE))?;

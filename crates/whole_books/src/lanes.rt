@@ -14,7 +14,8 @@ fn interval(caller: u32, number: u64, begin: usize, end: usize, is_open: bool) -
     }
 }
 
-// The events are the invocations of 0 0 and of 1 0, the return of 1 0, and the invocation of 0 1.
+// The events are the invocations of call 0 of caller 0 and of call 0 of caller 1, the return of
+// call 0 of caller 1, and the invocation of call 1 of caller 0.
 #[test]
 fn an_unanswered_call_ends_where_its_callers_next_one_begins(rt: HostRuntime) -> Result<(), Fail> {
     let (_kind, book) = read_book(

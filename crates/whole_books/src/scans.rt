@@ -1,4 +1,4 @@
-//! The scan of a region as a machine that is given the words it looks at.
+//! Tests of the scan of a region as a machine that is given the words it looks at.
 ghost use Rattle.std.specs.Prelude.{◌<◌, ◌≤◌};
 ghost use Rattle.book_base.specs.declared.TheConstants.{MAX_CALLERS};
 
@@ -6,8 +6,8 @@ use book_base::Cut;
 use std::test::Fail;
 use world_core::{Region, ScanCore, Want};
 
-// How many looks and peeks a scan by the last of n callers makes that ends exactly at the last of
-// these words, and the scan's cut.
+// The numbers of looks and of peeks, and the cut, of a scan by the last of `n` callers that is
+// given these words in turn; `None` where the scan doesn't end exactly after the last word.
 fn scan_of(n: u32, words: &[u64]) -> Option<(u32, u32, Cut)>
     requires some { 0 < n }
     requires few { n ≤ MAX_CALLERS }

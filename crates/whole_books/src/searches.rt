@@ -18,7 +18,7 @@ const LOST: &[u8] =
 const OF_A_STACK: &[u8] =
     b"book 2\nobject stack\ncallers 3\ncalls 1 1 1\n0 0 push 5 done view 0:1 1:1\n1 0 push 6 done view 0:1 1:1\n2 0 pop =5 view 0:1 1:1 2:1\nend\n";
 
-// Whether the search finds the book with this text legal.
+// Whether a search that begins with the guide finds the book with this text legal.
 fn is_legal(alloc: Global, text: &[u8], guide: &mut Guide) -> Result<bool, Fail> {
     let (kind, book) = read_book(alloc, text)?;
     let verdict = check_from(alloc, &kind, &book, guide)?;

@@ -3,8 +3,9 @@ use set_order::{Joins, SetVerdict, check_sets};
 use setbook_text::read_setbook;
 use std::test::Fail;
 
-// One set comes before a set of three calls, and one after it. Of the two unanswered calls one has
-// to be in the set of three, whose replies have its number, and the other one may be left out.
+// A set of three calls has one set before it and one after it. Of the two unanswered calls, the
+// join of 3 has to be in the set of three, whose replies have its number, and the join of 5 may be
+// left out.
 #[test]
 fn three_calls_stand_in_one_set(rt: HostRuntime) -> Result<(), Fail> {
     let book = read_setbook(

@@ -24,7 +24,7 @@ fn found_on<R: Threads>(
     Ok(found)
 }
 
-// Whether the call was found wrong, and its caller is halted.
+// Whether a call was judged illegal and its caller is halted.
 fn is_illegal(found: &CallFindings) -> bool {
     !found.live && matches!(found.end, End::Illegal)
 }
@@ -36,7 +36,7 @@ fn calls_in_two_threads_are_delivered(rt: HostRuntime) -> Result<(), Fail> {
     Ok(())
 }
 
-// A counter knows neither an enqueue nor a dequeue, and replies `bad`.
+// A counter knows neither an enqueue nor a dequeue, and replies `bad` to each.
 #[test]
 fn calls_of_what_is_no_queue_are_illegal(rt: HostRuntime) -> Result<(), Fail> {
     let (first, second) = found_on(&rt, rt.alloc(), Kind::Counter, Turns::EnqueueFirst)?;
@@ -53,8 +53,8 @@ fn a_call_after_what_stands_is_judged_as_any_other(rt: HostRuntime) -> Result<()
     Ok(())
 }
 
-// The object word of the largest table that has one, read when the table is closed. Each run opens
-// the largest table without one.
+// The object word of a table for 16 callers with 256 calls each, the most that a table may have,
+// read when the table is closed.
 fn object_word(alloc: Global) -> Result<u64, NoMemory> {
     let (rows, bench) = Rows::open(alloc, Scrap, 16, 256)?;
     let world = rows.close(alloc, bench)?;

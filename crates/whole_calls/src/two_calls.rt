@@ -50,24 +50,24 @@ pub enum Turns {
     DequeueFirst,
     /// Both callers call beside one another, in two threads.
     Beside,
-    /// The first caller calls before the second, and each judgement begins after what stands of an
-    /// order, which is nothing yet.
+    /// The first caller calls before the second. Each call is judged by its caller's kept order,
+    /// and neither caller has one yet.
     AfterWhatStands,
 }
 
 impl CallFindings {
-    /// The reply was delivered, and the caller may make further calls.
+    /// Whether the reply was delivered and the caller may make further calls.
     pub fn is_delivered(&self) -> bool {
         self.live && matches!(self.end, End::Delivered(_))
     }
 
-    /// The judgement found no memory, and the caller is halted.
+    /// Whether the judgement found no memory and the caller is halted.
     pub fn is_unjudged(&self) -> bool {
         !self.live && matches!(self.end, End::Unjudged)
     }
 }
 
-// The counts of a cut of two callers.
+// The two counts of a cut of two callers; `u64::MAX` twice for a cut of another number of callers.
 fn counts(cut: &Cut) -> (u64, u64) {
     if cut.n() != 2 {
         return (u64::MAX, u64::MAX);
@@ -105,7 +105,8 @@ fn found_of(outcome: Outcome, live: bool) -> CallFindings {
     }
 }
 
-// The findings of a call that was judged after what stood of an order, where `standing` stands now.
+// The findings of a call that was judged by a kept order, where `standing` is the order that is
+// kept after the judgement, if any.
 fn found_after(
     alloc: Global,
     judged: Judged,
@@ -135,7 +136,7 @@ fn found_after(
     }
 }
 
-// The order that stands, or no places where none does.
+// The places of a kept order; no places where none is kept.
 fn order_in(alloc: Global, standing: Option<KeptOrder>) -> Vec<Place> {
     match standing {
         Some(KeptOrder { order, marks: _ }) => order,
@@ -154,8 +155,8 @@ fn unjudged(live: bool, reply: u64, view: &Cut, seen: &Cut) -> CallFindings {
     }
 }
 
-// One caller's seat: the caller with its pass, the book and the guide that its judgements use, and
-// its counter of steps.
+// A caller with its pass, the book and the guide that its judgements use, and its counter of steps.
+// The caller is absent while it makes a call.
 struct Seat<L: Ledger> {
     caller: Option<Caller>,
     pass: LogPass,
@@ -165,7 +166,7 @@ struct Seat<L: Ledger> {
 }
 
 impl<L: Ledger> Seat<L> {
-    // The caller of a seat, which has one, and its pass.
+    // The caller of a seat, which has to have one, and its pass.
     fn leave(self) -> (Caller, LogPass)
         requires { IsSome self.caller }
         ensures { (self.caller ≡ Some result.0) × (result.1 ≡ self.pass) }
@@ -238,8 +239,8 @@ fn call<M: Machine, L: Ledger>(
     }
 }
 
-// Makes the first call of a seat's caller as `call` does, after what stands of an order, which is
-// nothing yet.
+// Makes the first call of a seat's caller, which checks itself against a queue by the caller's kept
+// order; there is none yet. The caller leaves its seat for the call, and comes back.
 fn call_after<M: Machine, L: Ledger>(
     alloc: Global,
     rows: &Rows,
@@ -295,7 +296,7 @@ fn call_after<M: Machine, L: Ledger>(
     }
 }
 
-// Two callers call the box, the first to enqueue 5 and the second to dequeue.
+// Two callers call the log object, the first to enqueue 5 and the second to dequeue.
 fn call_both<M: Machine + Sync, K: Ledger + Send, L: Ledger + Send, R: Threads>(
     rt: &R,
     alloc: Global,
@@ -374,7 +375,7 @@ fn close_rows(
     Ok(())
 }
 
-// The passes of both callers of a box, and the list that they were taken from.
+// The passes of both callers of a log object, and the list that they were taken from.
 fn take_passes<M: Machine>(
     object: &LogBox<M>,
     mut passes: Vec<LogPass>,
@@ -395,7 +396,8 @@ fn take_passes<M: Machine>(
     (a, b, passes)
 }
 
-// Gives the passes back in order, and closes the box. The answer is the box's log.
+// Gives the passes of both callers of a log object back in order, and closes the object. The answer
+// is its log.
 fn close_box<M: Machine + Drop>(
     object: LogBox<M>,
     mut passes: Vec<LogPass>,

@@ -16,8 +16,8 @@ use std::test::Fail;
 use std::thread::{Threads, join_mut};
 use world_core::{Outside, Program};
 
-// Makes one round of a monitor. The answer is whether the round was illegal, where there was memory
-// enough.
+// Makes one round of a monitor. The answer is whether the round was illegal, or `None` where memory
+// was wanted.
 fn look<L: Ledger>(
     alloc: Global,
     rows: &Rows,
@@ -68,7 +68,8 @@ enum Turns {
     Beside,
 }
 
-// Makes one round of each of two monitors. The answer is whether each was illegal.
+// Makes one round of each of two monitors. The answer is whether each round was illegal, or `None`
+// for a round where memory was wanted.
 fn make_rounds<K: Ledger + Send, L: Ledger + Send, R: Threads>(
     rt: &R,
     alloc: Global,
@@ -112,7 +113,8 @@ fn make_rounds<K: Ledger + Send, L: Ledger + Send, R: Threads>(
 /// its book has.
 pub type Shown = Option<(u64, u64, u64, u64, u64)>;
 
-/// What is shown of a witness, where there is one.
+/// The counts of a witness's cut, and how many calls and records of caller 0 its book has; `None`
+/// where there is no witness, or not one of three callers.
 pub fn shown(witness: Option<&Witness>) -> Shown {
     let Some(witness) = witness else {
         return None;
@@ -130,7 +132,8 @@ pub fn shown(witness: Option<&Witness>) -> Shown {
     ))
 }
 
-// The findings of two monitors.
+// What two monitors found: of each, whether its round was illegal, whether the board took its
+// witness, its own witness, and the one that it knows to be on the board.
 #[derive(Debug, Drop)]
 struct MonitorFindings {
     illegal: (Option<bool>, Option<bool>),
@@ -139,7 +142,7 @@ struct MonitorFindings {
     known: (Shown, Shown),
 }
 
-// What two monitors of one board know.
+// What two monitors of one board found, where `illegal` says whether their rounds were illegal.
 fn knowledge(
     board: &Board,
     one: &mut Monitor,
@@ -162,7 +165,8 @@ fn knowledge(
     }
 }
 
-// Caller 0 of a lossy queue makes its first calls, four at the most, and callers 1 and 2 watch.
+// Caller 0 of a lossy queue makes its first calls, at most four, and then callers 1 and 2 make a
+// round each as monitors.
 fn watch_lossy_queue<K: Ledger + Send, L: Ledger + Send, R: Threads>(
     rt: &R,
     alloc: Global,

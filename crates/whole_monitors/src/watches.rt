@@ -14,7 +14,8 @@ use std::thread::Threads;
 use work_halves::Work;
 use world_core::Outside;
 
-// A door, open or shut, that all callers share.
+// A door, open or shut: a worker, which opens the door where the value that all workers share is
+// `true`.
 #[derive(Drop)]
 struct Door {
     open: bool,
@@ -30,8 +31,8 @@ impl Work<bool> for Door {
     }
 }
 
-// Callers 1 and 2 watch beside a door, at most three rounds each, after caller 0 of a lossy queue
-// has made this many calls.
+// Callers 1 and 2 watch beside a worker that opens a door, at most three rounds each, after caller
+// 0 of a lossy queue has made its first calls, `calls` of them and at most four.
 fn watch_beside_a_door<L: Ledger, R: Threads + Sync>(
     rt: &R,
     alloc: Global,

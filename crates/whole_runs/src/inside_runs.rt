@@ -99,7 +99,8 @@ fn delivered(alloc: Global, report: &Report, size: Size) -> Result<Option<Vec<u6
     Ok(Some(replies))
 }
 
-// The replies that the callers of a made script get from an object inside the world.
+// The replies that the callers of a generated script get from an object inside the world, where
+// each call is delivered.
 fn run_made<R: Threads + Sync, O: CoreObject + Sync>(
     rt: &R,
     alloc: Global,
@@ -119,7 +120,8 @@ where
     delivered(alloc, &report, size)
 }
 
-// The replies that the callers of a made script get from the log of the script's kind.
+// The replies that the callers of a generated script get from the log of the script's kind, where
+// each call is delivered.
 fn run_log<R: Threads + Sync>(
     rt: &R,
     alloc: Global,
@@ -130,7 +132,8 @@ fn run_log<R: Threads + Sync>(
     run_made(rt, alloc, &log, &mut passes, kind, size)
 }
 
-// The replies that the callers of a made script get from the tally.
+// The replies that the callers of a generated script get from the tally, where each call is
+// delivered.
 fn run_tally<R: Threads + Sync>(
     rt: &R,
     alloc: Global,
@@ -140,7 +143,8 @@ fn run_tally<R: Threads + Sync>(
     run_made(rt, alloc, &tally, &mut passes, Kind::Counter, size)
 }
 
-// The replies that the callers of a made script get from the cell.
+// The replies that the callers of a generated script get from the cell, where each call is
+// delivered.
 fn run_cell<R: Threads + Sync>(
     rt: &R,
     alloc: Global,
@@ -150,10 +154,11 @@ fn run_cell<R: Threads + Sync>(
     run_made(rt, alloc, &cell, &mut passes, Kind::Register, size)
 }
 
-// The reply `=0`, from which `=V` differs by V.
+// The reply word `=0`. The reply word `=V` is greater by V.
 const ZERO: u64 = 2 << 32;
 
-// How many replies there are, where they are `=0`, `=1` and so on, each of them once, in any order.
+// How many replies there are, where they are `=0`, `=1` and so on, each once, in any order; `None`
+// for other replies.
 fn counted(replies: Option<Vec<u64>>) -> Option<u64> {
     let mut replies = replies?;
     replies.sort_unstable();

@@ -6,7 +6,7 @@ use frontier_check::Verdict;
 use seq_objects::DONE;
 use std::test::Fail;
 
-// The order has the put alone, and the take has no reply.
+// The legal order of a put and an unanswered take has the put alone.
 #[test]
 fn only_calls_of_a_legal_order_have_numbers(rt: HostRuntime) -> Result<(), Fail> {
     let (kind, book) = read_book(

@@ -14,7 +14,7 @@ fn limits_and_codes_are_as_documented(rt: HostRuntime) {
     assert_eq!(rt; Status::NoMemory.code(), 6);
 }
 
-// The sink's second write would fail, and isn't made.
+// The sink's second write would fail, and isn't made, since the first one takes the whole text.
 #[test]
 fn all_that_remains_is_offered_at_each_write(rt: HostRuntime) -> Result<(), Fail> {
     let text = vec![in rt.alloc(); b'x'; 5_001]?;

@@ -12,8 +12,8 @@ use Rattle.smaller_book.specs.Keys.{IsEvidence}
 use Rattle.smaller_book.specs.Minimal.{IsMinimal}
 use Rattle.witness_texts.specs.declared.marking.TheConstants.{MOST_CALLS}
 
--- These are the numbers of the calls of a smaller book: a part of the book without a legal order,
--- which shows that the book has none either, and which no rule makes smaller.
+-- `names` has for each caller the numbers of its calls in a smaller book: a part of the book that
+-- has no legal order, that shows that the book has none either, and that no rule makes smaller.
 pub record AreOfASmallerBook (kind : Kind) (book : List Page) (names : List (List ℕ)) : Type 0 where
   pub part : List Page
   pub is_part : IsPart book names part
@@ -29,7 +29,8 @@ AreMarksOf kind book TooLarge = MOST_CALLS < size_of book
 AreMarksOf kind book NoMemory = Unit {0}
 AreMarksOf kind book Unasked = ⊥
 
--- The marks of a book, by whether it has a legal order: where it has one, no marks are asked for.
+-- The marks in the picture of a book: none are asked for where the book has a legal order; else the
+-- calls of a smaller book are marked, or none where the book is too large or memory was wanted.
 abbrev pub AreMarksFor : Kind → List Page → Bool → MarkedCalls → Type 0
 AreMarksFor kind book true Unasked = Unit {0}
 AreMarksFor kind book true (Smaller numbers) = ⊥

@@ -45,20 +45,22 @@ pub record IsSmallerWitness (bytes text : List ℕ) : Type 0 where
   pub minimal : IsMinimal kind part
   pub written : IsBookText Second text kind part
 
--- Whether a book of this kind has a legal order.
+-- A judgement of a book is right: `true` where the book has a legal order, and `false` where it has
+-- none.
 abbrev pub IsJudged : Kind → List Page → Bool → Type 0
 IsJudged kind book true = HasLegalOrder (kind_spec kind) book
 IsJudged kind book false = ¬ (HasLegalOrder (kind_spec kind) book)
 
--- The call is that of the first error line of the report that the bytes begin with; there is none
--- where they begin with no report that has an error.
+-- What is told of the report that the bytes begin with: the call of its first error line, or no
+-- call where the bytes begin with no report that has an error line.
 abbrev pub IsErrorTold : List ℕ → Option Call → Type 0
 IsErrorTold bytes (Some call) = IsFirstErrorGiven bytes call
 IsErrorTold bytes None = (call : Call) → ¬ (IsFirstErrorGiven bytes call)
 
 -- The bytes give a book, and the text is a picture of it: its first lines say whether the book is
 -- legal, whether calls are marked, and which error line of a run was the first. Where the book has
--- no legal order, the calls of a smaller book are marked.
+-- no legal order, the calls of a smaller book are marked, unless the book is too large for that or
+-- memory was wanted.
 pub record IsPictureOf (bytes text : List ℕ) : Type 0 where
   pub kind : Kind
   pub book : List Page

@@ -16,7 +16,8 @@ use seq_objects::Kind;
 use smaller_book::{calls_of_all, shrink};
 use std::alloc::Global;
 
-/// A smaller book is sought of a book of at most this many calls, since each try is a whole check.
+/// The most calls of a book for which a smaller book is sought. Each try of the search for one is a
+/// whole check.
 const MOST_CALLS: u64 = 1024;
 
 /// The calls that are marked in the picture of a book with this verdict: none where the book has a
@@ -32,7 +33,7 @@ pub(crate) fn marks_for(alloc: Global, kind: Kind, book: &Book, verdict: &Verdic
 }
 
 // The calls that are marked in the picture of a book without a legal order: those of a smaller
-// book.
+// book, or none where the book has too many calls or memory was wanted.
 fn marks_of(alloc: Global, kind: Kind, book: &Book) -> MarkedCalls
     requires { ¬ HasLegalOrder (kind_spec kind) book.now }
     ensures { AreMarksOf kind book.now result }
@@ -46,7 +47,7 @@ fn marks_of(alloc: Global, kind: Kind, book: &Book) -> MarkedCalls
     }
 }
 
-// The numbers of the calls of a smaller book, by caller.
+// For each caller of a book without a legal order, the numbers of its calls in a smaller book.
 fn smaller_numbers(alloc: Global, kind: Kind, book: &Book) -> Result<Vec<Vec<u64>>, NoMemory>
     requires { ¬ HasLegalOrder (kind_spec kind) book.now }
     ensures { IfOk result (λ numbers.

@@ -14,12 +14,12 @@ use std::alloc::Global;
 
 /// The picture, as SVG, of the book that the bytes give.
 ///
-/// A text fault names the first line that is wrong, counted from the title of the book, and of its
-/// tests the first that it fails.
+/// A text fault names the first line that is wrong, counted from the title of the book, and the
+/// first test that this line fails.
 pub fn picture_text(alloc: Global, bytes: &[u8]) -> Result<String, ReadFault>
     // The text is a picture of the book that the bytes give.
     ensures shown { IfOk result (λ text. IsPictureOf bytes.now (string_bytes text)) }
-    // With a fault the bytes give no book, and this fault is their first one; or memory ran out.
+    // An error is the first fault of the bytes, which then give no book, or that memory ran out.
     ensures refused { IfErr result (IsNotGiven bytes.now) }
     // A given book is drawn, unless memory runs out.
     ensures drawn { (kind : Kind) (book : List Page) → IsGiven bytes.now kind book

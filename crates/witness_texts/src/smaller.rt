@@ -9,17 +9,19 @@ use given_book::read_given;
 use smaller_book::shrink;
 use std::alloc::Global;
 
-/// The text of a smaller book of the book that the bytes give, where this has no legal order.
+/// The text of a smaller book without a legal order, a part of the book that the bytes give; `None`
+/// where the given book has a legal order.
 ///
-/// A text fault names the first line that is wrong, counted from the title of the book, and of its
-/// tests the first that it fails.
+/// A text fault names the first line that is wrong, counted from the title of the book, and the
+/// first test that this line fails.
 pub fn smaller_text(alloc: Global, bytes: &[u8]) -> Result<Option<Vec<u8>>, ReadFault>
-    // Without a text the bytes give a book that has a legal order; a text is that of a part of the
-    // book that has no legal order and that no rule makes smaller.
+    // With `None` the bytes give a book that has a legal order. With a text they give a book that
+    // has none, and the text is that of a part of it without a legal order that no rule makes
+    // smaller.
     ensures smaller { IfOk result (λ found.
         MatchOption found (IsLegalGiven bytes.now)
         (λ text. IsSmallerWitness bytes.now text.items)) }
-    // With a fault the bytes give no book, and this fault is their first one; or memory ran out.
+    // An error is the first fault of the bytes, which then give no book, or that memory ran out.
     ensures refused { IfErr result (IsNotGiven bytes.now) }
     // A given book with a legal order has no smaller text, unless memory runs out.
     ensures legal { IsLegalGiven bytes.now
@@ -35,7 +37,8 @@ pub fn smaller_text(alloc: Global, bytes: &[u8]) -> Result<Option<Vec<u8>>, Read
     written(alloc, bytes)
 }
 
-// Reads the bytes, makes the book that they give smaller, and writes the smaller one.
+// Reads the bytes, and writes a smaller book of the book that they give, where this has no legal
+// order.
 fn written(alloc: Global, bytes: &[u8]) -> Result<Option<Vec<u8>>, ReadFault>
     ensures smaller { IfOk result (λ found.
         MatchOption found (IsLegalGiven bytes.now)

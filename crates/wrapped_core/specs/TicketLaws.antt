@@ -10,13 +10,13 @@ use Rattle.object_orders.specs.OneWord.{Serves, one_word_shape}
 use Rattle.object_orders.proofs.OneWords.{one_words_linearize}
 use Rattle.wrapped_core.specs.Tickets.{take, ticket, after_call, dispenser, taken_by}
 
--- the list and the reply after a call that takes a ticket
+-- A call that takes a ticket adds 1 to the number in the list, modulo 2 ^ 64, and gets the ticket.
 after_call-take : (first : ℕ) (list : List ℕ) (op : ℕ) → (op == take) ≡ true
     → after_call first list op
     ≡ ((first_or_zero list + 1) % 2 ^ 64 ∷ [], ticket first (first_or_zero list))
 after_call-take first list op takes = cond-true (op == take) _ _ takes
 
--- The list and the reply after a call with another operation.
+-- A call with an operation other than taking a ticket leaves the list as it is, and gets `bad`.
 pub after_call-unknown : (first : ℕ) (list : List ℕ) (op : ℕ) → (op == take) ≡ false
     → after_call first list op ≡ (list, BAD)
 after_call-unknown first list op other = cond-false (op == take) _ _ other

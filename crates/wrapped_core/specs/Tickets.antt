@@ -9,11 +9,12 @@ use Rattle.object_orders.specs.OneWord.{OneWord}
 abbrev pub take : ℕ
 take = 2 ^ 32
 
--- The reply that gives the ticket after this many tickets were taken.
+-- The reply with the ticket that a call gets after `taken` tickets were taken.
 abbrev pub ticket : ℕ → ℕ → ℕ
 ticket first taken = reply_value (first + taken)
 
--- A dispenser as a sequential object. Its one item says how many tickets were taken, modulo 2 ^ 64.
+-- The next list and the reply of a dispenser as a sequential object. The list has one item, how
+-- many tickets were taken, modulo 2 ^ 64.
 abbrev pub after_call : ℕ → List ℕ → ℕ → List ℕ × ℕ
 after_call first list op =
     if op == take then ((first_or_zero list + 1) % 2 ^ 64 ∷ [], ticket first (first_or_zero list))
@@ -28,6 +29,7 @@ dispenser first =
       replies = λ op taken. ticket first taken;
     }
 
--- The list of the dispenser that a word represents.
+-- The list of a dispenser as a sequential object, where its word says that `taken` tickets were
+-- taken.
 abbrev pub taken_by : ℕ → List ℕ
 taken_by taken = taken ∷ []

@@ -1,5 +1,5 @@
-//! An object inside the world of one's own: a dispenser of tickets, whose law is proved, so that no
-//! run of it has an error.
+//! A worked example of an object of one's own inside the world: a dispenser of tickets. Every run
+//! of it is proved linearizable, so none has an error.
 #![tactic(auto)]
 
 mod ticket_dispenser;

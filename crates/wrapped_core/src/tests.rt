@@ -40,7 +40,7 @@ fn delivered(alloc: Global, report: &Report) -> Result<Option<Vec<u64>>, NoMemor
     Ok(Some(replies))
 }
 
-// The reply `=0`, from which `=V` differs by V.
+// The reply word `=0`. The reply word `=V` is greater by V.
 const ZERO: u64 = 2 << 32;
 
 // Whatever the schedule, 32 calls of four callers get the tickets from 100 to 131, each once.
@@ -58,8 +58,8 @@ fn each_ticket_is_given_once(rt: HostRuntime) -> Result<(), Fail> {
     Ok(())
 }
 
-// An operation word other than that of taking a ticket gets `bad` and takes none; after the last
-// number comes 0.
+// An operation word other than that of taking a ticket gets `bad` and takes none. The ticket after
+// the greatest number, 2^32 - 1, has the number 0.
 #[test]
 fn an_unknown_operation_takes_no_ticket(rt: HostRuntime) -> Result<(), Fail> {
     let script = read_script(rt.alloc(), THREE_CALLS)?;

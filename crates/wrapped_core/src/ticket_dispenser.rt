@@ -20,7 +20,7 @@ pub struct TicketDispenser {
 }
 
 impl TicketDispenser {
-    // The reply that gives the ticket after this many tickets were taken.
+    // The reply with the ticket that a call gets after `taken` tickets were taken.
     fn ticket(&self, taken: u64) -> u64
         ensures { result ≡ ticket self.now.first taken }
     {
@@ -28,7 +28,7 @@ impl TicketDispenser {
     }
 }
 
-// How many tickets were taken, by the state of the sequential object.
+// How many tickets were taken, as the state of the sequential object says.
 fn taken_in(state: &State) -> u64
     ensures { result ≡ first_or_zero state.now.words }
 {
@@ -71,8 +71,8 @@ impl SeqObject for TicketDispenser {
     }
 }
 
-/// The program of a dispenser inside the world: taking a ticket adds 1 once to the one object word,
-/// and nothing else makes a step.
+/// The program of a dispenser inside the world: a call that takes a ticket makes one object step,
+/// which adds 1 to the one object word. Each other call makes none.
 impl Program for TicketDispenser {
     ghost use Rattle.object_orders.specs.OneWord.{one_word_program};
     ghost use Rattle.wrapped_core.specs.Tickets.{dispenser};
@@ -86,7 +86,8 @@ impl Program for TicketDispenser {
 
 impl InWorld for TicketDispenser {}
 
-/// The object inside the world: its callers make the steps of this program.
+/// A dispenser as an object inside the world: taking a ticket makes the one object step of the
+/// program, and each other operation is answered `bad`.
 impl CoreObject for TicketDispenser {
     ghost use Rattle.core_objects.specs.OneWordPasses.{FitsOneWord};
     ghost use Rattle.wrapped_core.specs.TicketLaws.{dispensers_linearize};

@@ -8,15 +8,15 @@ use seq_objects::{DONE, NONE, value_reply};
 use std::alloc::Global;
 use std::sync::Wait;
 
-/// A queue over the kit's bounded queue, whose calls may wait for one another.
+/// A queue over crossbeam's `ArrayQueue`, whose calls may wait for one another.
 #[derive(Drop)]
 pub(crate) struct BoundedQueue<R> {
     rt: R,
     items: ArrayQueue<u32>,
 }
 
-// The reply of the kit's queue to an operation word. A put that finds the queue full gets `BAD`,
-// which a sequential queue gives to no put.
+// The reply word of a bounded queue to an operation word. A put that finds the queue full gets
+// `BAD`, which a sequential queue gives to no put.
 pub(crate) fn reply_of<R: Wait>(rt: &R, items: &ArrayQueue<u32>, op: OpWord) -> u64 {
     match QueueCall::from_word(op) {
         Some(QueueCall::Enqueue(value)) => match items.push(rt, value) {

@@ -7,16 +7,18 @@ use drv_wrapper::{Announced, BlackBox};
 use object_kit::CountingPass;
 use seq_objects::{Kind, value_reply};
 
-/// A counter over a cell of the kit, with the count 0 at first: an increment is one addition.
+/// A counter over crossbeam's `AtomicCell`, with the count 0 at first: an increment is one
+/// addition.
 #[derive(Default, Drop)]
 pub struct CellCounter {
     count: AtomicCell<u32>,
 }
 
 impl CellCounter {
-    /// Makes the call of this operation word. A word that no counter knows makes no step, and the
-    /// reply is bad.
+    /// Makes the call with the operation word `op`, and answers the reply word. A word that no
+    /// counter knows changes nothing, and its reply is `bad`.
     pub fn answer(&self, op: OpWord) -> u64
+        // The reply is one that a counter gives to the operation in some state.
         ensures { IsPossible Counter op result }
     {
         if !Kind::Counter.known(op) {

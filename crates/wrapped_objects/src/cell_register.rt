@@ -7,17 +7,18 @@ use drv_wrapper::{Announced, BlackBox};
 use object_kit::{CountingPass, RegisterCall};
 use seq_objects::{DONE, value_reply};
 
-/// A register over a cell of the kit, which holds 0 at first: a write is one store, and a read one
-/// load.
+/// A register over crossbeam's `AtomicCell`, which holds 0 at first: a write is one store, and a
+/// read one load.
 #[derive(Default, Drop)]
 pub struct CellRegister {
     value: AtomicCell<u32>,
 }
 
 impl CellRegister {
-    /// Makes the call of this operation word. A word that no register knows makes no step, and the
-    /// reply is bad.
+    /// Makes the call with the operation word `op`, and answers the reply word. A word that no
+    /// register knows changes nothing, and its reply is `bad`.
     pub fn answer(&self, op: OpWord) -> u64
+        // The reply is one that a register gives to the operation in some state.
         ensures { IsPossible Register op result }
     {
         match RegisterCall::from_word(op) {

@@ -1,5 +1,5 @@
-//! Objects from outside this repository, behind the trait of an object under test: a cell of the
-//! kit as a register and as a counter, and a counter that uses the cell wrongly.
+//! Objects from outside this repository, behind the trait of an object under test: crossbeam's
+//! `AtomicCell` as a register and as a counter, and a counter that uses the cell wrongly.
 #![tactic(auto)]
 
 mod cell_counter;

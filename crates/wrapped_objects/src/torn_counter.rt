@@ -7,17 +7,18 @@ use drv_wrapper::{Announced, BlackBox};
 use object_kit::CountingPass;
 use seq_objects::{Kind, value_reply};
 
-/// A counter that uses its cell wrongly, with the count 0 at first: an increment is a load, and
-/// then a store of one more. So some of several increments that overlap may be lost.
+/// A counter that uses an atomic cell wrongly, with the count 0 at first: an increment is a load,
+/// and then a store of one more. So some of several increments that overlap may be lost.
 #[derive(Default, Drop)]
 pub struct TornCounter {
     count: AtomicCell<u32>,
 }
 
 impl TornCounter {
-    /// Makes the call of this operation word. A word that no counter knows makes no step, and the
-    /// reply is bad.
+    /// Makes the call with the operation word `op`, and answers the reply word. A word that no
+    /// counter knows changes nothing, and its reply is `bad`.
     pub fn answer(&self, op: OpWord) -> u64
+        // The reply is one that a counter gives to the operation in some state.
         ensures { IsPossible Counter op result }
     {
         if !Kind::Counter.known(op) {

@@ -8,8 +8,8 @@ use object_kit::CountingPass;
 use std::alloc::Global;
 use std::sync::Wait;
 
-/// Two of the kit's queues instead of one, where each caller uses one of them alone. So what a
-/// caller enqueues is never found by the callers that use the other queue.
+/// Two bounded queues instead of one: callers of even numbers use one, and callers of odd numbers
+/// the other. So what a caller enqueues is never found by the callers that use the other queue.
 #[derive(Drop)]
 pub(crate) struct TwinQueues<R> {
     rt: R,
