@@ -89,8 +89,8 @@ link_of book uses discipline call deal =
 
 -- The call `first` comes before the put of each value whose take `call` precedes: `first` is `call`
 -- itself, where this found nothing, or, in a queue, the only put of the value that `call` takes.
-abbrev pub Leads : Reading → List Page → Discipline → Call → Call → Type 0
-Leads reading book discipline call first =
+abbrev pub PrecedesPuts : Reading → List Page → Discipline → Call → Call → Type 0
+PrecedesPuts reading book discipline call first =
     (FindsNothing reading book call × (first ≡ call)) ⊎ ((discipline ≡ Queue)
     × ((x : ℕ) × TakesOut reading book call x × PutsInAlone reading book first x))
 
@@ -98,7 +98,8 @@ Leads reading book discipline call first =
 -- as the book has them, where the link says anything of them.
 pub record IsLink (reading : Reading) (book : List Page) (discipline : Discipline) (call : Call)
     (link : Link) : Type 0 where
-  pub before : (first : Call) → link.before ≡ Some first → Leads reading book discipline call first
+  pub before : (first : Call) → link.before ≡ Some first
+      → PrecedesPuts reading book discipline call first
   pub after : (put : Call) → link.after ≡ Some put → (v : ℕ) × TakesOut reading book call v
       × PutsInAlone reading book put v
   pub reach : (link.reach ≡ 0) ⊎ (link.reach ≡ reach_of book call)

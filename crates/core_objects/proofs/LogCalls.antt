@@ -19,7 +19,7 @@ use Rattle.drv_wrapper.specs.declared.announced.Announced.{Announced}
 use Rattle.drv_wrapper.specs.States.{caller_announced, who_announced, number_announced, op_announced, announced_local}
 use Rattle.drv_wrapper.specs.ObjectSteps.{HasStepped}
 use Rattle.log_program.specs.LogWords.{number_of, low_place, high_place, ticket_place, ticket_of, known, is_known, placed_at, known_log, known_operation, joined_if_known, with_operation}
-use Rattle.log_program.specs.LogProgram.{log_program, log_may_step, is_low_store, is_high_store, is_exchange, is_load, list_of, known_reply, reply_after}
+use Rattle.log_program.specs.LogProgram.{log_program, log_may_step, is_low_store, is_high_store, is_exchange, is_load, list_of, known_reply, reply_if_known}
 use Rattle.core_objects.specs.declared.core_log.LogProgram.{LogProgram}
 use Rattle.core_objects.specs.CoreObjects.{with_steps, after_steps, HasReplied}
 use Rattle.core_objects.specs.LogCalls.{KnowsTickets, KnowsOperations, places_on, number_on, HasMade, HasStored, HasPlaced, place_on, KnowsPlaces, KnowsLog, MayLoad, KnowsOperation}
@@ -489,9 +489,9 @@ module _ {S : Type 0} (spec : S → SeqSpec) where
         let found : known_reply (spec object) (n * cap) (operation_now l) (all a)
         (place_on r a) ≡ Some reply =
         ap (known_reply (spec object) (n * cap) (operation_now l) (all a)) placed
-        ∙ ap (λ (k : ℕ). reply_after (spec object) (operation_now l)
+        ∙ ap (λ (k : ℕ). reply_if_known (spec object) (operation_now l)
         (known_log (n * cap) (all a) k)) count
-        ∙ ap (reply_after (spec object) (operation_now l)) known
+        ∙ ap (reply_if_known (spec object) (operation_now l)) known
         ∙ ap (λ (o : ℕ).
         Some ((spec object).next (list_of (spec object).next (spec object).init log) o).1) operation
         ∙ ap Some (sym reply_is) in

@@ -13,5 +13,5 @@ fits_inside fits n cap pass who steps = fits pass who n cap steps
 
 -- The callers of the rows r may ask an object inside the world: r are the rows `own` on which the
 -- object makes its steps, and they were opened with its program.
-abbrev pub Serves : {P : Type 0} → (P → ℕ → ℕ → Meaning) → P → Rows P → Rows P → Type 0
-Serves meaning program own r = (own ≡ r) × AreOpenedWith meaning program own
+abbrev pub ServesItsRows : {P : Type 0} → (P → ℕ → ℕ → Meaning) → P → Rows P → Rows P → Type 0
+ServesItsRows meaning program own r = (own ≡ r) × AreOpenedWith meaning program own

@@ -5,7 +5,7 @@ ghost use Rattle.row_table.specs.Callers.{who_of, IsCallerOf, MayGet};
 ghost use Rattle.drv_wrapper.specs.Growth.{Grows};
 ghost use Rattle.drv_wrapper.specs.States.{caller_announced, who_announced, op_announced, announced_local, caller_answered, op_answered, reply_answered, answered_local};
 ghost use Rattle.client_calls.specs.Asking.{FitsCaller, ComesNoFurther};
-ghost use Rattle.core_runs.specs.Inside.{fits_inside, Serves};
+ghost use Rattle.core_runs.specs.Inside.{fits_inside, ServesItsRows};
 
 use client_calls::Asks;
 use core_objects::CoreObject;
@@ -25,7 +25,8 @@ impl<O: CoreObject> Asks for InsideObject<'_, O> {
 
     type Pass = O::Pass;
 
-    ghost serves = { λ asks r. Serves O.P.meaning (O.program_of asks.object.now) asks.rows.now r };
+    ghost serves = { λ asks r. ServesItsRows O.P.meaning
+        (O.program_of asks.object.now) asks.rows.now r };
 
     ghost fits = { λ asks. fits_inside (O.fits asks.object.now) };
 
@@ -33,7 +34,7 @@ impl<O: CoreObject> Asks for InsideObject<'_, O> {
         // The caller is one of the rows on which the object makes its steps, and these rows were
         // opened with the object's program.
         requires table { (r : TheRows O.P)
-            × Serves O.P.meaning (O.program_of self.now.object.now) self.now.rows.now r
+            × ServesItsRows O.P.meaning (O.program_of self.now.object.now) self.now.rows.now r
             × IsCallerOf O.P.meaning r (caller_announced announced) }
         // The announced call has made no object step.
         requires first { steps_now (announced_local announced) ≡ [] }
@@ -44,7 +45,7 @@ impl<O: CoreObject> Asks for InsideObject<'_, O> {
         ensures who { who_of (caller_answered result) ≡ who_announced announced }
         // Where the caller is one of the rows on which the object makes its steps, it still is.
         ensures rows { (r : TheRows O.P)
-            → Serves O.P.meaning (O.program_of self.now.object.now) self.now.rows.now r
+            → ServesItsRows O.P.meaning (O.program_of self.now.object.now) self.now.rows.now r
             → IsCallerOf O.P.meaning r (caller_announced announced)
             → IsCallerOf O.P.meaning r (caller_answered result) }
         // The answered call has the announced operation.

@@ -59,9 +59,9 @@ judged_book (Delivered reply view seen) gathered = gathered
 judged_book (Illegal reply view seen book) gathered = Some (record { book = book; cut = seen })
 
 -- The reply of a call, judged or not.
-abbrev pub reply_after : {P : Type 0} → Result (Caller P × Judged) (Unjudged P) → ℕ
-reply_after (Ok r) = (record_judged r.1).reply
-reply_after (Err u) = u.reply
+abbrev pub reply_of_outcome : {P : Type 0} → Result (Caller P × Judged) (Unjudged P) → ℕ
+reply_of_outcome (Ok r) = (record_judged r.1).reply
+reply_of_outcome (Err u) = u.reply
 
 -- Where the judged book is at hand (`judged_book`), the counter of steps has risen from `before` to
 -- `after` by the number of words of the judged book that the book kept before lacks, as

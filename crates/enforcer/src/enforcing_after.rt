@@ -10,7 +10,7 @@ ghost use Rattle.enforcer.specs.Recorded.{HoldsOwn};
 ghost use Rattle.enforcer.specs.Judged.{AreWide, IsRightByPeeks, IsRightOf};
 ghost use Rattle.enforcer.specs.Enforced.{after_call, record_unjudged};
 ghost use Rattle.enforcer.specs.Lines.{OrderStandsIn};
-ghost use Rattle.enforcer.specs.After.{record_judged, cut_judged, stance_judged, reply_after, IsOutcome, IsKeptAfter, TicksForCallAfter};
+ghost use Rattle.enforcer.specs.After.{record_judged, cut_judged, stance_judged, reply_of_outcome, IsOutcome, IsKeptAfter, TicksForCallAfter};
 
 use crate::calling::call_and_see;
 use crate::judged::Judged;
@@ -148,7 +148,7 @@ pub fn enforce_after<S: SeqObject, B: BlackBox, L: Ledger>(
     // Where the pass has a told list, the list has one more entry at its end: this operation with
     // the reply of the call, judged or not. A pass without a told list still has none.
     ensures told { B.Pass.told pass.new
-        ≡ told_after op (reply_after result) (B.Pass.told pass.old) }
+        ≡ told_after op (reply_of_outcome result) (B.Pass.told pass.old) }
     // The counter of steps has not fallen.
     ensures ticks { steps.old ≤ steps.new }
 {

@@ -6,7 +6,7 @@ use Rattle.std.proofs.lemmas.Bool.{cases_eq}
 use Rattle.std.proofs.lemmas.List.Elements.{All-nil, All-cons, All-head, All-tail}
 use Rattle.seq_objects.specs.Replies.{reply_done, reply_none, reply_value}
 use Rattle.shared_words.specs.Deeds.{Deed, Added, Stored, Loaded, Swapped, place_of, AreCalls}
-use Rattle.shared_words.specs.Histories.{Access, access, deeds_by, IsRight}
+use Rattle.shared_words.specs.Histories.{Access, access, deeds_by, IsRightAccess}
 use Rattle.shared_words.specs.Transcripts.{Transcript, AreOfOneHistory}
 use Rattle.shared_words.specs.Cases.{adds}
 use Rattle.shared_words.proofs.Worked.{kind_of, told_word, first_word, last_word, last_of, lawful_by_steps, zero_of_2, one_of_2}
@@ -115,7 +115,7 @@ pub store_missed : TellOneSplit 2 (one_by_one 0 1)
     (counts_once 0 (reply_value 0) ∷ counts_once 1 (reply_value 0) ∷ []) → ⊥
 store_missed one =
     let before : List Access = access 0 (Loaded 0 0) ∷ access 0 (Stored 0 1) ∷ [] in
-    let right : IsRight cell_may (access 0 (Loaded 0 0) ∷ access 0 (Stored 0 1) ∷ [])
+    let right : IsRightAccess cell_may (access 0 (Loaded 0 0) ∷ access 0 (Stored 0 1) ∷ [])
     (access 1 (Loaded 0 0)) =
     one.told.lawful before (access 1 (Stored 0 1) ∷ []) (access 1 (Loaded 0 0)) refl in
     let n : 0 ≡ 1 = right.found in
@@ -246,7 +246,7 @@ queue_told =
 pub taken_twice : TellOneQueue 2 3 (put_5 ++ finds_at_0 1 6 ++ finds_at_0 2 6)
     (enqueues_5 ∷ dequeues 1 (reply_value 5) ∷ dequeues 2 (reply_value 5) ∷ []) → ⊥
 taken_twice one =
-    let right : IsRight queue_may (put_5 ++ finds_at_0 1 6 ++ access 2 (Loaded 0 1) ∷ [])
+    let right : IsRightAccess queue_may (put_5 ++ finds_at_0 1 6 ++ access 2 (Loaded 0 1) ∷ [])
     (access 2 (Swapped (item_index 0) 0 6)) =
     one.told.lawful (put_5 ++ finds_at_0 1 6 ++ access 2 (Loaded 0 1) ∷ []) []
     (access 2 (Swapped (item_index 0) 0 6)) refl in
@@ -256,7 +256,7 @@ taken_twice one =
 pub item_missed : TellOneQueue 2 2 (put_5 ++ finds_at_0 1 0)
     (enqueues_5 ∷ dequeues 1 reply_none ∷ []) → ⊥
 item_missed one =
-    let right : IsRight queue_may (put_5 ++ access 1 (Loaded 0 1) ∷ [])
+    let right : IsRightAccess queue_may (put_5 ++ access 1 (Loaded 0 1) ∷ [])
     (access 1 (Swapped (item_index 0) 0 0)) =
     one.told.lawful (put_5 ++ access 1 (Loaded 0 1) ∷ []) []
     (access 1 (Swapped (item_index 0) 0 0)) refl in
@@ -376,7 +376,7 @@ meeting_told =
 
 pub flag_too_early : TellOneMeeting 2 found_too_early (meets 0 ∷ meets 1 ∷ []) → ⊥
 flag_too_early one =
-    let right : IsRight meeting_may (access 0 (Stored 0 up) ∷ []) (access 0 (Loaded 1 up)) =
+    let right : IsRightAccess meeting_may (access 0 (Stored 0 up) ∷ []) (access 0 (Loaded 1 up)) =
     one.told.lawful (access 0 (Stored 0 up) ∷ [])
     (access 1 (Stored 1 up) ∷ access 1 (Loaded 0 up) ∷ []) (access 0 (Loaded 1 up)) refl in
     let n : 1 ≡ 0 = right.found in
@@ -384,7 +384,7 @@ flag_too_early one =
 
 pub other_flag_raised : TellOneMeeting 2 raises_the_other (meets 0 ∷ meets 1 ∷ []) → ⊥
 other_flag_raised one =
-    let right : IsRight meeting_may [] (access 0 (Stored 1 up)) =
+    let right : IsRightAccess meeting_may [] (access 0 (Stored 1 up)) =
     one.told.lawful []
     (access 0 (Loaded 1 up) ∷ access 1 (Stored 1 up) ∷ access 1 (Loaded 0 up) ∷ [])
     (access 0 (Stored 1 up)) refl in

@@ -22,14 +22,14 @@ use Rattle.frontier_check.specs.declared.walk.TheConstants.{CAPACITY}
 use Rattle.frontier_check.specs.declared.prefix.Prefix.{Prefix}
 use Rattle.frontier_check.specs.Prefix.{no_calls, IsPrefix}
 use Rattle.book_base.specs.Pruning.{IsDeadEnd, IsReached}
-use Rattle.frontier_check.specs.Search.{places_of, IsOpen, Leads, MayGrow, order_of}
+use Rattle.frontier_check.specs.Search.{places_of, IsOpen, FramesLead, MayGrow, order_of}
 
 -- Frames with one more at their end lead to the cut and the list after the call at its place.
 pub leads-push : (book : List Page) (next : List ℕ → ℕ → List ℕ × ℕ) (cut list : List ℕ)
     (frames : List WalkFrame) (to_cut to_list : List ℕ) (frame : WalkFrame)
-    → Leads book next cut list frames to_cut to_list → frame.words.items ≡ to_list
+    → FramesLead book next cut list frames to_cut to_list → frame.words.items ≡ to_list
     → IsOpen book next to_cut to_list (frame.place ∷ places_of frame.choices.items)
-    → Leads book next cut list (frames ++ frame ∷ []) (raised to_cut frame.place.caller)
+    → FramesLead book next cut list (frames ++ frame ∷ []) (raised to_cut frame.place.caller)
     (list_after book next to_list frame.place)
 leads-push book next cut list [] to_cut to_list frame (same_cut, same_list) words here = (
   words ∙ sym same_list,
@@ -54,7 +54,7 @@ leads-push book next cut list (first ∷ frames) to_cut to_list frame (at, way, 
 pub record Back (book : List Page) (next : List ℕ → ℕ → List ℕ × ℕ) (cut list : List ℕ)
     (frames : List WalkFrame) (frame : WalkFrame) (to_cut to_list : List ℕ) : Type 0 where
   pub from : List ℕ
-  pub leads : Leads book next cut list frames from frame.words.items
+  pub leads : FramesLead book next cut list frames from frame.words.items
   pub here : IsOpen book next from frame.words.items (frame.place ∷ places_of frame.choices.items)
   pub to_cut_is : to_cut ≡ raised from frame.place.caller
   pub to_list_is : to_list ≡ list_after book next frame.words.items frame.place
@@ -62,7 +62,7 @@ pub record Back (book : List Page) (next : List ℕ → ℕ → List ℕ × ℕ)
 -- Frames without the last one lead to the cut and the list before the call at its place.
 pub leads-pop : (book : List Page) (next : List ℕ → ℕ → List ℕ × ℕ) (cut list : List ℕ)
     (frames : List WalkFrame) (frame : WalkFrame) (to_cut to_list : List ℕ)
-    → Leads book next cut list (frames ++ frame ∷ []) to_cut to_list
+    → FramesLead book next cut list (frames ++ frame ∷ []) to_cut to_list
     → Back book next cut list frames frame to_cut to_list
 leads-pop book next cut list [] frame to_cut to_list (words, here, (cut_is, list_is)) = record {
   from = cut;
@@ -88,7 +88,7 @@ leads-pop book next cut list (first ∷ frames) frame to_cut to_list (words, her
 -- where the frames begin
 leads-continues : (book : List Page) (next : List ℕ → ℕ → List ℕ × ℕ) (cut list : List ℕ)
     (frames : List WalkFrame) (to_cut to_list : List ℕ)
-    → Leads book next cut list frames to_cut to_list → HoldsAnswered book to_cut
+    → FramesLead book next cut list frames to_cut to_list → HoldsAnswered book to_cut
     → Continues book next cut list (order_of frames)
 leads-continues book next cut list [] to_cut to_list (same_cut, same_list) all =
     subst (λ (c : List ℕ). HoldsAnswered book c) (sym same_cut) all
@@ -106,7 +106,7 @@ zeros book i = get_or-replicate_default (length book) i 0
 -- continue one from where the frames begin
 leads-more : (book : List Page) (next : List ℕ → ℕ → List ℕ × ℕ) (cut list : List ℕ)
     (frames : List WalkFrame) (to_cut to_list : List ℕ) (rest : List Place)
-    → Leads book next cut list frames to_cut to_list → Continues book next to_cut to_list rest
+    → FramesLead book next cut list frames to_cut to_list → Continues book next to_cut to_list rest
     → Continues book next cut list (order_of frames ++ rest)
 leads-more book next cut list [] to_cut to_list rest (same_cut, same_list) goes =
     subst (λ (c : List ℕ). Continues book next c list rest) (sym same_cut)
@@ -121,7 +121,7 @@ leads-more book next cut list (first ∷ frames) to_cut to_list rest (words, her
 -- reach those to which they lead
 leads-reaches : (spec : SeqSpec) (book : List Page) (before : List Place) (cut list : List ℕ)
     (frames : List WalkFrame) (to_cut to_list : List ℕ) → length book ≤ length cut
-    → Reaches spec book before cut list → Leads book spec.next cut list frames to_cut to_list
+    → Reaches spec book before cut list → FramesLead book spec.next cut list frames to_cut to_list
     → Reaches spec book (before ++ order_of frames) to_cut to_list
 leads-reaches spec book before cut list [] to_cut to_list wide reaches (same_cut, same_list) =
     subst (λ (order : List Place). Reaches spec book order to_cut to_list)
@@ -150,7 +150,7 @@ leads-reaches spec book before cut list (first ∷ frames) to_cut to_list wide r
 -- whatever places continue it from there make a legal order with it.
 pub reached-from_leads : (spec : SeqSpec) (book : List Page) (prefix : Prefix)
     (frames : List WalkFrame) (cut list : List ℕ) → IsPrefix spec book prefix
-    → Leads book spec.next prefix.cut prefix.here.words frames cut list
+    → FramesLead book spec.next prefix.cut prefix.here.words frames cut list
     → IsReached spec book cut list
 reached-from_leads spec book prefix frames cut list f leads = record {
   before = prefix.places.items ++ order_of frames;
@@ -199,7 +199,8 @@ leads-reach : (book : List Page) (next : List ℕ → ℕ → List ℕ × ℕ) (
     (frames : List WalkFrame) (to_cut to_list : List ℕ)
     → ((list : List ℕ) (op : ℕ) → length (next list op).0 ≤ length list + 1)
     → length book ≤ length cut → ((i : ℕ) → get_or cut i 0 ≤ calls_of book i)
-    → Leads book next cut list frames to_cut to_list → Reach book cut list frames to_cut to_list
+    → FramesLead book next cut list frames to_cut to_list
+    → Reach book cut list frames to_cut to_list
 leads-reach book next cut list [] to_cut to_list grows wide within (same_cut, same_list) = record {
   wide = ap (λ (c : List ℕ). length c) (sym same_cut);
   calls = omega (arith, ap (λ (c : List ℕ). sum c) same_cut);
@@ -249,7 +250,7 @@ pub record WalkFacts (book : List Page) (frames : List WalkFrame) (cut list : Li
 pub standing : (book : List Page) (prefix : Prefix) (spec : SeqSpec) (frames : List WalkFrame)
     (cut list : List ℕ) (place : Place) → IsPrefix spec book prefix
     → ((list : List ℕ) (op : ℕ) → length (spec.next list op).0 ≤ length list + 1)
-    → Leads book spec.next prefix.cut prefix.here.words frames cut list
+    → FramesLead book spec.next prefix.cut prefix.here.words frames cut list
     → MayComeNext book cut (call_at place) → WalkFacts book frames cut list place
 standing book prefix spec frames cut list place f grows leads may =
     let small = f.stands.small in
@@ -278,7 +279,8 @@ standing book prefix spec frames cut list place f grows leads may =
 pub leads-wide : (book : List Page) (prefix : Prefix) (spec : SeqSpec) (frames : List WalkFrame)
     (cut list : List ℕ) → IsPrefix spec book prefix
     → ((list : List ℕ) (op : ℕ) → length (spec.next list op).0 ≤ length list + 1)
-    → Leads book spec.next prefix.cut prefix.here.words frames cut list → length cut ≡ length book
+    → FramesLead book spec.next prefix.cut prefix.here.words frames cut list
+    → length cut ≡ length book
 leads-wide book prefix spec frames cut list f grows leads =
     (leads-reach book spec.next prefix.cut prefix.here.words frames cut list grows
     (omega (arith, f.stands.wide)) f.stands.within leads).wide ∙ f.stands.wide
@@ -287,7 +289,8 @@ leads-wide book prefix spec frames cut list f grows leads =
 -- prefix and then of the frames are a legal order.
 pub legal-from_leads : (book : List Page) (prefix : Prefix) (spec : SeqSpec)
     (frames : List WalkFrame) (cut list : List ℕ) → IsPrefix spec book prefix
-    → Leads book spec.next prefix.cut prefix.here.words frames cut list → HoldsAnswered book cut
+    → FramesLead book spec.next prefix.cut prefix.here.words frames cut list
+    → HoldsAnswered book cut
     → IsLegalOrder spec book (prefix.places.items ++ order_of frames)
 legal-from_leads book prefix spec frames cut list f leads all =
     f.legal (order_of frames)

@@ -18,7 +18,7 @@ use Rattle.frontier_check.specs.Memo.{IsMemo, Remembers}
 use Rattle.frontier_check.specs.declared.prefix.Prefix.{Prefix}
 use Rattle.frontier_check.specs.Prefix.{IsPrefix}
 use Rattle.book_base.specs.Pruning.{IsLeast, IsDeadEnd, IsReached}
-use Rattle.frontier_check.specs.Search.{places_of, MayGrow, IsOpen, Leads, IsWalk, order_of, weigh, weight}
+use Rattle.frontier_check.specs.Search.{places_of, MayGrow, IsOpen, FramesLead, IsWalk, order_of, weigh, weight}
 use Rattle.next_calls.proofs.Least.{may_come-from_least}
 use Rattle.frontier_check.proofs.Choosing.{open-last, open-rest, dead_end}
 use Rattle.frontier_check.proofs.Leading.{leads-push, leads-pop, standing, reached-from_leads, legal-from_leads, lowered}
@@ -28,12 +28,12 @@ use Rattle.frontier_check.proofs.Weighing.{weigh-push, weigh-skip, weigh-pop}
 same_leads : (book : List Page) (next : List ℕ → ℕ → List ℕ × ℕ) (cut list : List ℕ)
     (frames new_frames : List WalkFrame) (to_cut new_cut to_list new_list : List ℕ)
     → new_frames ≡ frames → new_cut ≡ to_cut → new_list ≡ to_list
-    → Leads book next cut list frames to_cut to_list
-    → Leads book next cut list new_frames new_cut new_list
+    → FramesLead book next cut list frames to_cut to_list
+    → FramesLead book next cut list new_frames new_cut new_list
 same_leads book next cut list frames new_frames to_cut new_cut to_list new_list e f k h =
-    subst (λ (ls : List WalkFrame). Leads book next cut list ls new_cut new_list) (sym e)
-    (subst (λ (c : List ℕ). Leads book next cut list frames c new_list) (sym f)
-    (subst (λ (l : List ℕ). Leads book next cut list frames to_cut l) (sym k) h))
+    subst (λ (ls : List WalkFrame). FramesLead book next cut list ls new_cut new_list) (sym e)
+    (subst (λ (c : List ℕ). FramesLead book next cut list frames c new_list) (sym f)
+    (subst (λ (l : List ℕ). FramesLead book next cut list frames to_cut l) (sym k) h))
 
 -- What is to be tried at a cut and a list is what is to be tried at equal ones.
 pub same_open : (book : List Page) (next : List ℕ → ℕ → List ℕ × ℕ)
@@ -156,7 +156,7 @@ pub record IsDeeper (book : List Page) (next : List ℕ → ℕ → List ℕ × 
 
 deeper-leads : (book : List Page) (prefix : Prefix) (spec : SeqSpec) (old new : Walk)
     (frame : WalkFrame) → IsWalk book prefix spec old (frame.place ∷ places_of old.choices.items)
-    → IsDeeper book spec.next old new frame → Leads book spec.next prefix.cut prefix.here.words
+    → IsDeeper book spec.next old new frame → FramesLead book spec.next prefix.cut prefix.here.words
     new.frames.items new.counts.items new.here.words
 deeper-leads book prefix spec old new frame h d =
     let here : IsOpen book spec.next old.counts.items old.here.words
@@ -230,7 +230,8 @@ pub record LeadsTo (book : List Page) (next : List ℕ → ℕ → List ℕ × �
 leads-to : (book : List Page) (prefix : Prefix) (spec : SeqSpec) (old : Walk) (frame : WalkFrame)
     (cut list : List ℕ) → IsWalk book prefix spec old (frame.place ∷ places_of old.choices.items)
     → LeadsTo book spec.next old frame cut list
-    → Leads book spec.next prefix.cut prefix.here.words (old.frames.items ++ frame ∷ []) cut list
+    → FramesLead book spec.next prefix.cut prefix.here.words
+    (old.frames.items ++ frame ∷ []) cut list
 leads-to book prefix spec old frame cut list h to =
     let here : IsOpen book spec.next old.counts.items old.here.words
     (frame.place ∷ places_of frame.choices.items) =
@@ -284,7 +285,8 @@ walk-back book prefix spec old new frame h frames counts here room choices memo 
     let back = leads-pop book spec.next prefix.cut prefix.here.words new.frames.items frame
     old.counts.items old.here.words
     (subst
-    (λ (ls : List WalkFrame). Leads book spec.next prefix.cut prefix.here.words ls old.counts.items
+    (λ (ls : List WalkFrame). FramesLead book spec.next prefix.cut prefix.here.words ls
+    old.counts.items
     old.here.words) frames h.leads) in
     let cut : new.counts.items ≡ back.from =
     counts ∙ (ap (λ (c : List ℕ). set c frame.place.caller frame.place.number) back.to_cut_is
@@ -336,7 +338,7 @@ last_level book prefix spec old frames frame grows h is =
     leads-pop book spec.next prefix.cut prefix.here.words frames frame old.counts.items
     old.here.words
     (subst (λ (ls : List WalkFrame).
-    Leads book spec.next prefix.cut prefix.here.words ls old.counts.items old.here.words)
+    FramesLead book spec.next prefix.cut prefix.here.words ls old.counts.items old.here.words)
     is h.leads) in
     let s = standing book prefix spec frames back.from frame.words.items frame.place h.begins
     grows back.leads back.here.sound.0.may_come in
@@ -354,10 +356,11 @@ pub walk-none : (book : List Page) (prefix : Prefix) (spec : SeqSpec) (walk : Wa
     → IsWalk book prefix spec walk [] → walk.frames.items
     ≡ [] → IsDeadEnd book spec.next prefix.cut prefix.here.words
 walk-none book prefix spec walk h none =
-    let leads : Leads book spec.next prefix.cut prefix.here.words [] walk.counts.items
+    let leads : FramesLead book spec.next prefix.cut prefix.here.words [] walk.counts.items
     walk.here.words =
     subst
-    (λ (ls : List WalkFrame). Leads book spec.next prefix.cut prefix.here.words ls walk.counts.items
+    (λ (ls : List WalkFrame). FramesLead book spec.next prefix.cut prefix.here.words ls
+    walk.counts.items
     walk.here.words) none h.leads in
     subst (λ (c : List ℕ). IsDeadEnd book spec.next c prefix.here.words) (sym leads.0)
     (subst (λ (l : List ℕ). IsDeadEnd book spec.next walk.counts.items l) (sym leads.1)
@@ -373,7 +376,7 @@ pub walk-start : (book : List Page) (prefix : Prefix) (spec : SeqSpec) (walk : W
     → IsWalk book prefix spec walk (places_of walk.choices.items)
 walk-start book prefix spec walk f frames counts here room memo callers none start = record {
   begins = f;
-  leads = subst (λ (ls : List WalkFrame). Leads book spec.next prefix.cut prefix.here.words ls
+  leads = subst (λ (ls : List WalkFrame). FramesLead book spec.next prefix.cut prefix.here.words ls
       walk.counts.items walk.here.words) (sym frames) (sym counts, sym here);
   here = start;
   dead = λ cut list there. absurd (none cut list there);

@@ -104,13 +104,14 @@ pub record AreToTry (book : List Page) (next : List ℕ → ℕ → List ℕ × 
 -- Frames of a walk lead from one cut and list to another cut and list, each by the call at its
 -- place. The words of a frame are the list before this call. The places still to be tried at the
 -- cut and the list before this call are the frame's own place and those of its choices.
-abbrev pub Leads : List Page → (List ℕ → ℕ → List ℕ × ℕ) → List ℕ → List ℕ → List WalkFrame → List ℕ
+abbrev pub FramesLead : List Page → (List ℕ → ℕ → List ℕ × ℕ) → List ℕ → List ℕ → List WalkFrame
+    → List ℕ
     → List ℕ → Type 0
-Leads book next cut list [] to_cut to_list = (cut ≡ to_cut) × (list ≡ to_list)
-Leads book next cut list (frame ∷ frames) to_cut to_list =
+FramesLead book next cut list [] to_cut to_list = (cut ≡ to_cut) × (list ≡ to_list)
+FramesLead book next cut list (frame ∷ frames) to_cut to_list =
     (frame.words.items ≡ list)
     × IsOpen book next cut list (frame.place ∷ places_of frame.choices.items)
-    × Leads book next (raised cut frame.place.caller)
+    × FramesLead book next (raised cut frame.place.caller)
     (list_after book next list frame.place) frames to_cut to_list
 
 -- Each pair of a cut and a list that the memo of a walk remembers is a dead end.
@@ -125,7 +126,8 @@ AllDead book next walk = (cut list : List ℕ) → Remembers walk.memo cut list
 pub record IsWalk (book : List Page) (prefix : Prefix) (spec : SeqSpec) (walk : Walk)
     (places : List Place) : Type 0 where
   pub begins : IsPrefix spec book prefix
-  pub leads : Leads book spec.next prefix.cut prefix.here.words walk.frames.items walk.counts.items
+  pub leads : FramesLead book spec.next prefix.cut prefix.here.words walk.frames.items
+      walk.counts.items
       walk.here.words
   pub here : IsOpen book spec.next walk.counts.items walk.here.words places
   pub dead : AllDead book spec.next walk

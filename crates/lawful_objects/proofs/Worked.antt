@@ -6,7 +6,7 @@ use Rattle.std.proofs.lemmas.List.Elements.{All-nil, All-cons, All-head, All-tai
 use Rattle.book_base.specs.declared.TheConstants.{BAD}
 use Rattle.seq_objects.specs.Replies.{reply_done, reply_value}
 use Rattle.shared_words.specs.Deeds.{Deed, Added, Stored, Loaded, Swapped, AreCalls}
-use Rattle.shared_words.specs.Histories.{Access, access, deeds_by, IsRight}
+use Rattle.shared_words.specs.Histories.{Access, access, deeds_by, IsRightAccess}
 use Rattle.shared_words.specs.Transcripts.{Transcript, AreOfOneHistory}
 use Rattle.shared_words.specs.Cases.{adds, three_additions}
 use Rattle.shared_words.proofs.Worked.{kind_of, told_word, first_word, last_word, last_of, lawful_by_steps, zero_of_2, one_of_2, three_are_of_2}
@@ -95,7 +95,7 @@ earlier_count one =
 pub both_count_0 : TellOneTally 2 (adds 0 0 ∷ adds 1 0 ∷ [])
     (counts_once 0 (reply_value 0) ∷ counts_once 1 (reply_value 0) ∷ []) → ⊥
 both_count_0 one =
-    let right : IsRight tally_may (adds 0 0 ∷ []) (adds 1 0) =
+    let right : IsRightAccess tally_may (adds 0 0 ∷ []) (adds 1 0) =
     one.told.lawful (adds 0 0 ∷ []) [] (adds 1 0) refl in
     let n : 0 ≡ 1 = right.found in
     omega (arith, n)
@@ -152,7 +152,7 @@ amount_of (Swapped place word found) = 0
 
 pub adds_2 : TellOneTally 1 (access 0 (Added 0 2 0) ∷ []) (counts_once 0 (reply_value 0) ∷ []) → ⊥
 adds_2 one =
-    let right : IsRight tally_may [] (access 0 (Added 0 2 0)) =
+    let right : IsRightAccess tally_may [] (access 0 (Added 0 2 0)) =
     one.told.lawful [] [] (access 0 (Added 0 2 0)) refl in
     let n : 2 ≡ 1 = ap amount_of right.allowed.1 in
     omega (arith, n)
@@ -236,7 +236,7 @@ cell_told_before =
 
 pub write_missed : TellOneCell 2 (stored_then_loaded 7 0) (writes_7 ∷ reads_value 0 ∷ []) → ⊥
 write_missed one =
-    let right : IsRight cell_may (access 0 (Stored 0 7) ∷ []) (access 1 (Loaded 0 0)) =
+    let right : IsRightAccess cell_may (access 0 (Stored 0 7) ∷ []) (access 1 (Loaded 0 0)) =
     one.told.lawful (access 0 (Stored 0 7) ∷ []) [] (access 1 (Loaded 0 0)) refl in
     let n : 0 ≡ 7 = right.found in
     omega (arith, n)
@@ -262,7 +262,7 @@ another_word one =
 pub read_by_a_swap : TellOneCell 2 (access 0 (Stored 0 7) ∷ access 1 (Swapped 0 0 7) ∷ [])
     (writes_7 ∷ reads_value 7 ∷ []) → ⊥
 read_by_a_swap one =
-    let right : IsRight cell_may (access 0 (Stored 0 7) ∷ []) (access 1 (Swapped 0 0 7)) =
+    let right : IsRightAccess cell_may (access 0 (Stored 0 7) ∷ []) (access 1 (Swapped 0 0 7)) =
     one.told.lawful (access 0 (Stored 0 7) ∷ []) [] (access 1 (Swapped 0 0 7)) refl in
     elim right.allowed [
       | inl stored ↦ let n : 3 ≡ 1 = ap kind_of stored.1 in omega (arith, n)

@@ -22,7 +22,7 @@ use Rattle.object_orders.proofs.AskedCalls.{reachable_kept, return}
 use Rattle.object_orders.proofs.EffectOrders.{effects_linearize}
 use Rattle.object_orders.proofs.OneWords.{reply_is}
 use Rattle.log_program.specs.LogWords.{number_of, low_place, high_place, ticket_place, ticket_of, known, are_filled_below, placed_at, joined_if_known, known_operation, with_operation, known_log}
-use Rattle.log_program.specs.LogProgram.{list_of, reply_after, known_reply, log_shape}
+use Rattle.log_program.specs.LogProgram.{list_of, reply_if_known, known_reply, log_shape}
 use Rattle.log_program.specs.LogEffects.{operation_at, operations_below, place_with, reply_there, reply_of_number, log_effects, LogsLinearize}
 use Rattle.log_program.specs.LogRules.{IsCallOf, HoldsOperation, IsLasting, IsLog}
 use Rattle.log_program.proofs.LogWords.{known_step, placed_step, operations_same, operations_end, place_found, no_place, place_is, place_same, each_of_all}
@@ -403,7 +403,8 @@ module _ (spec : SeqSpec) (n cap : ℕ) where
   reply_at_is op reply steps (Some p) e = by_log (known_log total steps p) refl e
     where
       by_log : (l : Option (List ℕ)) → known_log total steps p ≡ l
-          → reply_after spec op l ≡ Some reply → (q : ℕ) × (operations : List ℕ) × (Some p ≡ Some q)
+          → reply_if_known spec op l ≡ Some reply
+          → (q : ℕ) × (operations : List ℕ) × (Some p ≡ Some q)
           × (known_log total steps q ≡ Some operations)
           × ((spec.next (list_of spec.next spec.init operations) op).1 ≡ reply)
       by_log None is h = absurd (none-some reply h)

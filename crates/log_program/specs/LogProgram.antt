@@ -58,9 +58,9 @@ list_of next list (operation ∷ operations) = list_of next (next list operation
 
 -- The reply of a sequential object to an operation after those of a log; none where the log isn't
 -- known.
-abbrev pub reply_after : SeqSpec → ℕ → Option (List ℕ) → Option ℕ
-reply_after spec operation None = None
-reply_after spec operation (Some operations) =
+abbrev pub reply_if_known : SeqSpec → ℕ → Option (List ℕ) → Option ℕ
+reply_if_known spec operation None = None
+reply_if_known spec operation (Some operations) =
     Some (spec.next (list_of spec.next spec.init operations) operation).1
 
 -- The reply to an operation whose ticket is at place p of the log; none where some steps don't show
@@ -68,7 +68,7 @@ reply_after spec operation (Some operations) =
 abbrev pub known_reply : SeqSpec → ℕ → ℕ → List Object_step → Option ℕ → Option ℕ
 known_reply spec total operation steps None = None
 known_reply spec total operation steps (Some p) =
-    reply_after spec operation (known_log total steps p)
+    reply_if_known spec operation (known_log total steps p)
 
 -- Whether the call under way of caller i may make an object step: it stores a word of its
 -- operation, tries for a place of the log, or loads a word.

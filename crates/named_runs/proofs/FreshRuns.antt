@@ -18,7 +18,7 @@ use Rattle.run_report.specs.Reporting.{outside_shape}
 use Rattle.run_writer.specs.Running.{IsToldBenchReport}
 use Rattle.run_writer.specs.Runs.{RunEnds, IsRunOutput}
 use Rattle.core_runs.specs.LoggedReports.{phases_in, calls_of_lines}
-use Rattle.named_runs.specs.NamedObjects.{AreTold, IsOfBehaviour}
+use Rattle.named_runs.specs.NamedObjects.{TellOwnCalls, IsOfBehaviour}
 use Rattle.named_runs.specs.BehaviourRuns.{IsToldReport, IsNamedReport}
 use Rattle.byte_streams.proofs.WritingLemmas.{EndsWriting-weaker}
 
@@ -58,7 +58,7 @@ answered_as behaviour named kind other n m phases calls is same all h = rw (is, 
 -- tell
 pub named_report : {T : Type 0} (made : T → ℕ) (told : T → Option (List (ℕ × ℕ))) (passes : List T)
     (behaviour : Behaviour) (plan : Plan) (allotments : List ℕ)
-    → ((phases : ℕ → ℕ) (calls : ℕ → List Made) → AreTold told phases calls passes
+    → ((phases : ℕ → ℕ) (calls : ℕ → List Made) → TellOwnCalls told phases calls passes
     → IsOfBehaviour behaviour plan.kind (length plan.operations) phases calls)
     → (findings : Findings) → IsToldReport made told passes plan allotments findings
     → IsNamedReport (outside_shape (length plan.operations)) behaviour plan allotments findings

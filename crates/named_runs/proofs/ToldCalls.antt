@@ -14,13 +14,13 @@ use Rattle.script_workers.proofs.Places.{item_at}
 use Rattle.lawful_objects.specs.Pairs.{pairs_of}
 use Rattle.lawful_objects.proofs.Pairing.{pairs_have_the_calls}
 use Rattle.logged_calls.specs.Logged.{IsLoggedBy, AreFormed}
-use Rattle.named_runs.specs.NamedObjects.{AreOwnPasses, AreTold}
+use Rattle.named_runs.specs.NamedObjects.{AreOwnPasses, TellOwnCalls}
 use Rattle.named_runs.proofs.OpenedPasses.{passes_count, pass_at}
 
 module _ {T : Type 0} (is_own : T → Type 0) (caller : T → ℕ) (pairs : T → List (ℕ × ℕ))
     (passes : List T) (n : ℕ) (own : AreOwnPasses is_own caller n passes)
     (phases : ℕ → ℕ) (calls : ℕ → List Made)
-    (tells : AreTold (λ pass. Some (pairs pass)) phases calls passes) where
+    (tells : TellOwnCalls (λ pass. Some (pairs pass)) phases calls passes) where
   -- a fact of all passes holds of that of a caller, which is told in the caller's calls
   pass_for : (Is : T → Type 0) → All Is passes → (i : ℕ) → i < n → (pass : T) × (caller pass ≡ i)
       × IsTold (phases i) (calls i) (pairs pass) × Is pass
@@ -70,7 +70,7 @@ pub words_are_formed : {U : Type 0} (may : ℕ → Deed → Type 0)
     → (words : SharedWords U) (passes : List WordsPass) (n : ℕ)
     → AreOwnPasses (IsPassOf may (λ _. call) words) caller_of_pass n passes
     → (phases : ℕ → ℕ) (calls : ℕ → List Made)
-    → AreTold (λ pass. Some (pairs_in pass)) phases calls passes → AreFormed form n calls
+    → TellOwnCalls (λ pass. Some (pairs_in pass)) phases calls passes → AreFormed form n calls
 words_are_formed may call form formed words passes n own phases calls tells =
     formed_from_told (IsPassOf may (λ _. call) words) caller_of_pass pairs_in passes n own phases
     calls tells form (λ pass is. formed (pairs_in pass) [] (deeds_of pass.seat) is.calls)

@@ -10,7 +10,7 @@ use Rattle.script_workers.specs.Starts.{run_allotments}
 use Rattle.monitored_runs.specs.Monitoring.{HaveMadeAll}
 use Rattle.monitor_writer.specs.MonitorTexts.{IsMonitorText}
 use Rattle.run_report.specs.Reporting.{outside_shape}
-use Rattle.named_runs.specs.NamedObjects.{AreTold, IsOfBehaviour}
+use Rattle.named_runs.specs.NamedObjects.{TellOwnCalls, IsOfBehaviour}
 
 -- How many phases caller `i` of a plan makes in a run; 0 for the monitors, which come after the
 -- plan's callers.
@@ -33,7 +33,7 @@ pub record AreMonitored (plan : Plan) (locals : List Local) : Type 0 where
 pub record AreToldMonitored {T : Type 0} (told : T → Option (List (ℕ × ℕ))) (passes : List T)
     (plan : Plan) (locals : List Local) : Type 0 where
   pub monitored : AreMonitored plan locals
-  pub told_in : AreTold told (phases_in plan) (calls_at locals) passes
+  pub told_in : TellOwnCalls told (phases_in plan) (calls_at locals) passes
 
 -- These locals are those of a monitored run's callers, and the object of a behaviour answered the
 -- calls of the plan's callers. The monitors have made no call.

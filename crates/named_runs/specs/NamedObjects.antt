@@ -26,9 +26,9 @@ pub record AreOwnPasses {T : Type 0} (is_own : T → Type 0) (caller : T → ℕ
 
 -- The told list of each pass, where it has one, is of the calls of its caller: pass number `i` is
 -- of `calls i`, of which `phases i` phases are made.
-abbrev pub AreTold : {T : Type 0} → (T → Option (List (ℕ × ℕ))) → (ℕ → ℕ) → (ℕ → List Made)
+abbrev pub TellOwnCalls : {T : Type 0} → (T → Option (List (ℕ × ℕ))) → (ℕ → ℕ) → (ℕ → List Made)
     → List T → Type 0
-AreTold told phases calls passes =
+TellOwnCalls told phases calls passes =
     AreInOrder (λ i pass. IfSome (told pass) (IsTold (phases i) (calls i))) passes
 
 -- The object of a behaviour, for scripts of a kind, answered the calls of n callers, of which
@@ -57,7 +57,7 @@ abbrev pub HasAnswered : {T : Type 0} → Behaviour → (Kind → ℕ → Type 0
     → (T → Option (List (ℕ × ℕ))) → List T → Type 0
 HasAnswered behaviour is_opened_for is_own caller told passes =
     (kind : Kind) (n : ℕ) (phases : ℕ → ℕ) (calls : ℕ → List Made) → is_opened_for kind n
-    → AreOwnPasses is_own caller n passes → AreTold told phases calls passes
+    → AreOwnPasses is_own caller n passes → TellOwnCalls told phases calls passes
     → IsOfBehaviour behaviour kind n phases calls
 
 -- A log was opened for n callers and scripts of a kind. It has n callers, and calls of n callers

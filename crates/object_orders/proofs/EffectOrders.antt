@@ -19,14 +19,15 @@ use Rattle.object_orders.specs.Effects.{Effects, IsQuiet, IsAnnounced, TakesEffe
 use Rattle.object_orders.proofs.Linearizations.{list_after, list_after-push, contained, after_invocation, after_return, after_effect}
 
 -- A run leads to this world, with this history.
-record Leads (s : Shape) (steps : List Step) (w : World) (history : List Happening) : Type 0 where
+record RunLeadsTo (s : Shape) (steps : List Step) (w : World)
+    (history : List Happening) : Type 0 where
   run : IsRun s steps
   at : end_of s steps ≡ w
   told : history_of s steps ≡ history
 
 leads_on : (s : Shape) (steps : List Step) (w : World) (history : List Happening) (step : Step)
-    → Leads s steps w history → IsTrue (is_possible s w step)
-    → Leads s (steps ++ step ∷ []) (after s w step)
+    → RunLeadsTo s steps w history → IsTrue (is_possible s w step)
+    → RunLeadsTo s (steps ++ step ∷ []) (after s w step)
     (history ++ happenings step.who (local_of w step.who) step.event)
 leads_on s steps w history step l may =
     let next : IsTrue (are_possible s (end_of s steps) (step ∷ [])) =
@@ -45,7 +46,7 @@ leads_on s steps w history step l may =
     }
 
 module _ (s : Shape) (steps : List Step) (w : World) (history : List Happening)
-    (l : Leads s steps w history) where
+    (l : RunLeadsTo s steps w history) where
   reached : IsReachable s w
   reached = (steps, l.run, l.at)
 
@@ -122,7 +123,7 @@ record Orders (spec : SeqSpec) (s : Shape) (e : Effects) (steps : List Step) (w 
 module _ (spec : SeqSpec) (s : Shape) (e : Effects) (has : HasEffects spec s e) where
   -- A step, with its happenings.
   module _ (steps : List Step) (w : World) (history : List Happening) (order : List Done)
-      (step : Step) (l : Leads s steps w history) (o : Orders spec s e steps w history order)
+      (step : Step) (l : RunLeadsTo s steps w history) (o : Orders spec s e steps w history order)
       (may : IsTrue (is_possible s w step)) where
     abbrev me : Local
     me = local_of w step.who
@@ -162,7 +163,7 @@ module _ (spec : SeqSpec) (s : Shape) (e : Effects) (has : HasEffects spec s e) 
     linearized : IsLinearization spec (history ++ here) order
     linearized = linearizes (step_told s w step (kept s steps w history l) may)
 
-    abbrev on : Leads s (steps ++ step ∷ []) v (history ++ here)
+    abbrev on : RunLeadsTo s (steps ++ step ∷ []) v (history ++ here)
     on = leads_on s steps w history step l may
 
     -- the step takes no call into effect
@@ -256,7 +257,7 @@ module _ (spec : SeqSpec) (s : Shape) (e : Effects) (has : HasEffects spec s e) 
   HasOrder steps w history = (order : List Done) × Orders spec s e steps w history order
 
   goes_on : (steps : List Step) (w : World) (history : List Happening) (order : List Done)
-      (later : List Step) → Leads s steps w history → Orders spec s e steps w history order
+      (later : List Step) → RunLeadsTo s steps w history → Orders spec s e steps w history order
       → IsTrue (are_possible s w later)
       → HasOrder (steps ++ later) (after_all s w later) (history ++ history_from s w later)
   goes_on steps w history order [] l o may = (

@@ -91,7 +91,7 @@ pub record IsNextPair (table : Table) (s : PairState) (pair : TimedPair) : Type 
 
 -- A pair serves for another one: its calls did the same, it has no later moments, and its calls are
 -- due no later.
-pub record Serves (other pair : TimedPair) : Type 0 where
+pub record CanReplace (other pair : TimedPair) : Type 0 where
   pub put : other.put.deal ≡ pair.put.deal
   pub take : other.take.deal ≡ pair.take.deal
   pub put_moment : other.put_moment ≤ pair.put_moment

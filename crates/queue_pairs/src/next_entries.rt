@@ -1,6 +1,6 @@
 ghost use Rattle.std.specs.Prelude.{◌≡◌, ℕ, ◌<◌, ◌≤◌, ◌↔◌, ◌⊎◌, None, IsTrue, max, slice_index_or};
 ghost use Rattle.book_base.specs.declared.TheConstants.{MAX_CALLERS};
-ghost use Rattle.queue_pairs.specs.NextEntries.{last_of, AreNextEntries, IsLeastOf, IsPast, Serves};
+ghost use Rattle.queue_pairs.specs.NextEntries.{last_of, AreNextEntries, IsLeastOf, IsPast, CanReplace};
 
 use crate::NEVER;
 use crate::standing::PairState;
@@ -57,7 +57,7 @@ impl TimedPair {
     /// Whether a pair serves for another one: its calls did the same, it has no later moments, and
     /// its calls are due no later, so that it may be tried instead of the other.
     pub fn serves(&self, other: &TimedPair) -> bool
-        ensures { IsTrue result → Serves self.now other.now }
+        ensures { IsTrue result → CanReplace self.now other.now }
     {
         if !self.put.deal.is_same(other.put.deal) || !self.take.deal.is_same(other.take.deal) {
             return false;

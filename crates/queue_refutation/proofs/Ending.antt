@@ -18,7 +18,7 @@ use Rattle.queue_pairs.specs.declared.table.TimedCall.{TimedCall}
 use Rattle.queue_pairs.specs.Pairs.{Paired, Pair, MayPair, IsWhole, none_paired}
 use Rattle.queue_pairs.specs.Serving.{IsDueNoLater}
 use Rattle.queue_pairs.specs.Tables.{known_deal, put_at, take_at, IsTimed, IsTable}
-use Rattle.queue_pairs.specs.NextEntries.{paired, pair_of, AreNextEntries, IsNextEntry, IsNextPair, IsPast, Serves}
+use Rattle.queue_pairs.specs.NextEntries.{paired, pair_of, AreNextEntries, IsNextEntry, IsNextPair, IsPast, CanReplace}
 use Rattle.queue_pairs.proofs.Serving.{held_later}
 use Rattle.queue_refutation.specs.Closed.{IsOnePaired, PairServesFor, AreClosed, IsClosedAt}
 use Rattle.queue_refutation.specs.DeadEnds.{listed, QueueHasNoOrder, Lead, IsOf, IsAny, FindsLeadOn, StandAtOnce, ClosedAt, IsServed}
@@ -49,7 +49,7 @@ same-deal reading book other mine call it own same deal =
 -- moments.
 pub serves-for : (reading : Reading) (book : List Page) (table : Table) (s : PairState)
     (mine other : TimedPair) (pair : Pair) → IsTable reading book table
-    → IsNextPair table s mine → IsNextPair table s other → Serves other mine
+    → IsNextPair table s mine → IsNextPair table s other → CanReplace other mine
     → IsOf mine.put.call mine.take.call pair → MayPair reading book (paired s) pair
     → PairServesFor reading book (paired s) (pair_of other) pair
 serves-for reading book table s mine other pair is own it serves of may =
@@ -87,7 +87,7 @@ serves-for reading book table s mine other pair is own it serves of may =
           of.1 serves.take_due;
     }
 
-pub serves-itself : (pair : TimedPair) → Serves pair pair
+pub serves-itself : (pair : TimedPair) → CanReplace pair pair
 serves-itself pair = record {
   put = refl;
   take = refl;

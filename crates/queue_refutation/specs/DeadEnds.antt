@@ -11,7 +11,7 @@ use Rattle.queue_pairs.specs.declared.standing.PairState.{PairState}
 use Rattle.queue_pairs.specs.declared.table.Table.{Table}
 use Rattle.queue_pairs.specs.Pairs.{Paired, Pair, Pairs, MayPair, MayFind, after}
 use Rattle.queue_pairs.specs.Tables.{IsTable}
-use Rattle.queue_pairs.specs.NextEntries.{paired, pair_of, IsNextPair, Serves}
+use Rattle.queue_pairs.specs.NextEntries.{paired, pair_of, IsNextPair, CanReplace}
 use Rattle.queue_refutation.specs.Closed.{IsOnePaired, PairLeads, FindsLead, FindsStandAtOnce, IsClosedAt}
 
 -- the standings that a list of the code's standings in memory stands for
@@ -71,5 +71,6 @@ ClosedAt table standings s = (reading : Reading) (book : List Page) → IsTable 
 
 -- A pair of next calls that serves for a given pair leads to one of the given standings.
 abbrev pub IsServed : Table → List Paired → PairState → TimedPair → Type 0
-IsServed table standings s pair = (other : TimedPair) × IsNextPair table s other × Serves other pair
+IsServed table standings s pair = (other : TimedPair) × IsNextPair table s other
+    × CanReplace other pair
     × IsOnePaired standings (after (paired s) (Pairs (pair_of other)))

@@ -25,7 +25,7 @@ use Rattle.reports.specs.ReportLayout.{lines_in}
 use Rattle.report_text.specs.declared.draft.Draft.{Draft}
 use Rattle.report_text.specs.ReportRules.{part_page, book_so_far, ReportDue, InLines, report_rules}
 use Rattle.report_text.specs.Drafts.{StandBefore, AreLimits, AreSeenCounts, IsDraft}
-use Rattle.report_text.specs.Parts.{joined, LineIsRead, LineIsStopped, AreOwnRead}
+use Rattle.report_text.specs.Parts.{chained, LineIsRead, LineIsStopped, AreOwnRead}
 
 -- ---- one caller
 
@@ -105,20 +105,20 @@ module _ (kind : Kind) (counts : List ℕ) (told : List Line) (i count : ℕ) (m
 
 -- ---- all callers
 
-pub length-joined : (lines : List (List Line)) → length (joined lines) ≡ sum (sizes lines)
-length-joined [] = refl
-length-joined (own ∷ lines) =
+pub length-chained : (lines : List (List Line)) → length (chained lines) ≡ sum (sizes lines)
+length-chained [] = refl
+length-chained (own ∷ lines) =
     ap (λ (ls : List Line). length ls) (flat_map-cons (λ (x : List Line). x) own lines)
-    ∙ length-append own (joined lines)
-    ∙ ap (λ (n : ℕ). length own + n) (length-joined lines)
+    ∙ length-append own (chained lines)
+    ∙ ap (λ (n : ℕ). length own + n) (length-chained lines)
     ∙ sym (sum_by-cons (λ (x : ℕ). x) (length own) (sizes lines))
 
-pub joined-push : (callers : List Own) (own : Own)
-    → joined (lines_in (callers ++ own ∷ [])) ≡ joined (lines_in callers) ++ own.lines.items
-joined-push callers own =
-    ap joined (map_push (λ (x : Own). x.lines.items) callers own)
+pub chained-push : (callers : List Own) (own : Own)
+    → chained (lines_in (callers ++ own ∷ [])) ≡ chained (lines_in callers) ++ own.lines.items
+chained-push callers own =
+    ap chained (map_push (λ (x : Own). x.lines.items) callers own)
     ∙ flat_map-append (λ (x : List Line). x) (lines_in callers) (own.lines.items ∷ [])
-    ∙ ap (λ (ls : List Line). joined (lines_in callers) ++ ls)
+    ∙ ap (λ (ls : List Line). chained (lines_in callers) ++ ls)
     (flat_map-cons (λ (x : List Line). x) own.lines.items [] ∙ append-nil own.lines.items)
 
 pub sizes-push : (callers : List Own) (own : Own) → sizes (lines_in (callers ++ own ∷ []))

@@ -28,10 +28,10 @@ use Rattle.reports.specs.Findings.{Findings, sizes, IsReport}
 use Rattle.reports.specs.Grammar.{line_words, call_line, caller_lines, report_lines, IsWrittenText}
 use Rattle.report_text.specs.ReportRules.{book_so_far, EndsTooEarly, ReportDue, InHead, InLines, AtEnd, after_head, SaysLine, FitsEarlier, ReportPasses, report_rules, IsReportText}
 use Rattle.report_text.specs.Drafts.{StandBefore}
-use Rattle.report_text.specs.Parts.{joined}
+use Rattle.report_text.specs.Parts.{chained}
 use Rattle.report_text.proofs.Groups.{before, before-more}
 use Rattle.report_text.proofs.Pushing.{records_in}
-use Rattle.report_text.proofs.Soundness.{IsSeenFit, IsSound, sound-none, sound-push, grouped-joined, whole_book, operations-joined, count_records}
+use Rattle.report_text.proofs.Soundness.{IsSeenFit, IsSound, sound-none, sound-push, grouped-chained, whole_book, operations-chained, count_records}
 
 pub get_middle : (done : List ℕ) (c : ℕ) (counts : List ℕ)
     → get_or (done ++ c ∷ counts) (length done) 0 ≡ c
@@ -104,8 +104,8 @@ module _ (findings : Findings) where
       pub others : List (List (List ℕ))
       pub count : sizes said ≡ rest
       pub text : lines ≡ by_number (caller_lines kind) i said ++ others
-      pub leads : To (InLines kind counts (told ++ joined said) []) others
-      pub sound : IsSound counts (told ++ joined said)
+      pub leads : To (InLines kind counts (told ++ chained said) []) others
+      pub sound : IsSound counts (told ++ chained said)
 
     read_callers : (told : List Line) (done rest : List ℕ) (lines : List (List (List ℕ)))
         → counts ≡ done ++ rest → StandBefore counts told (length done) 0 → IsSound counts told
@@ -143,8 +143,8 @@ module _ (findings : Findings) where
         (subst (λ (j : ℕ). To (InLines kind counts told' (all_calls j rest)) first.others)
         (sym size) first.leads) in
         let mine = caller_lines kind i first.own in
-        let all : told' ++ joined more.said ≡ told ++ joined (first.own ∷ more.said)
-        = append_assoc told first.own (joined more.said) ∙ ap (λ (ls : List Line). told ++ ls)
+        let all : told' ++ chained more.said ≡ told ++ chained (first.own ∷ more.said)
+        = append_assoc told first.own (chained more.said) ∙ ap (λ (ls : List Line). told ++ ls)
         (sym (flat_map-cons (λ (x : List Line). x) first.own more.said)) in
         record {
           said = first.own ∷ more.said;
@@ -207,11 +207,11 @@ answers_at (own ∷ lines) (suc i) = answers_at lines i
 -- lines that are right, each after those before it, are those of a report
 pub sound_report : (kind : Kind) (lines : List (List Line)) → 1 ≤ length lines
     → length lines ≤ TEXT_CALLERS → AreAtMost TEXT_CALLS (sizes lines)
-    → IsSound (sizes lines) (joined lines) → IsReport (record { kind = kind; lines = lines })
+    → IsSound (sizes lines) (chained lines) → IsReport (record { kind = kind; lines = lines })
 sound_report kind lines some few calls s =
     let counts = sizes lines in
-    let book : book_so_far counts (joined lines) ≡ book_of_lines lines = whole_book lines in
-    let groups : grouped counts (joined lines) ≡ lines = grouped-joined lines in
+    let book : book_so_far counts (chained lines) ≡ book_of_lines lines = whole_book lines in
+    let groups : grouped counts (chained lines) ≡ lines = grouped-chained lines in
     let seen : (call : Call) (cut : List ℕ) → seen_at lines call ≡ Some cut
     → IsSeenFit counts lines call cut
     = subst (λ (ls : List (List Line)). (call : Call) (cut : List ℕ) → seen_at ls call ≡ Some cut
@@ -228,7 +228,7 @@ sound_report kind lines some few calls s =
       some = some;
       callers = few;
       calls = calls;
-      operations = operations-joined lines s.operations;
+      operations = operations-chained lines s.operations;
       replies = subst (λ (b : List Page). (call : Call) (r : Record) → record_of b call ≡ Some r
           → r.reply < 2 ^ 64) book s.replies;
       valid = subst IsValid book s.valid;
@@ -275,10 +275,10 @@ module _ (findings : Findings) where
       let counts = head.counts in
       let calls = read_callers findings kind counts [] [] counts head.others refl refl
       (sound-none counts) head.leads in
-      let last = read_end findings kind counts (joined calls.said) calls.others calls.leads in
-      let groups : grouped counts (joined calls.said) ≡ calls.said =
-      ap (λ (ns : List ℕ). grouped ns (joined calls.said)) (sym calls.count)
-      ∙ grouped-joined calls.said in
+      let last = read_end findings kind counts (chained calls.said) calls.others calls.leads in
+      let groups : grouped counts (chained calls.said) ≡ calls.said =
+      ap (λ (ns : List ℕ). grouped ns (chained calls.said)) (sym calls.count)
+      ∙ grouped-chained calls.said in
       let made : Findings = record { kind = kind; lines = calls.said } in
       let is : findings ≡ made =
       last.0 ∙ ap (λ (ls : List (List Line)). record { kind = kind; lines = ls }) groups in
@@ -296,7 +296,7 @@ module _ (findings : Findings) where
             (sound_report kind calls.said (omega (arith, size, head.callers.some, head.calls.count))
             (omega (arith, size, head.callers.few, head.calls.count))
             (subst (AreAtMost TEXT_CALLS) (sym calls.count) head.calls.few) (subst
-            (λ (ns : List ℕ). IsSound ns (joined calls.said)) (sym calls.count) calls.sound));
+            (λ (ns : List ℕ). IsSound ns (chained calls.said)) (sym calls.count) calls.sound));
         text = written ∙ ap report_lines (sym is);
       }
 

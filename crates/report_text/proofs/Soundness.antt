@@ -26,7 +26,7 @@ use Rattle.client_scripts.specs.ScriptRules.{grouped}
 use Rattle.reports.specs.Findings.{sizes}
 use Rattle.report_text.specs.ReportRules.{part_page, book_so_far, IsCut, IsAnswer, IsFormed, SaysLine, IsPendingAt, EndsTooEarly, FitsEarlier}
 use Rattle.report_text.specs.Drafts.{StandBefore}
-use Rattle.report_text.specs.Parts.{answer_in, MayTell, joined}
+use Rattle.report_text.specs.Parts.{answer_in, MayTell, chained}
 use Rattle.report_text.proofs.Pushing.{op_of, records_in, length-book_so_far, inside, book-push, line-cases, pending-cases, seen-cases}
 use Rattle.report_text.proofs.SharpReports.{may_tell}
 use Rattle.report_text.proofs.OwnSteps.{so_far-none, no_line}
@@ -208,15 +208,15 @@ module _ (kind : Kind) (counts : List ℕ) (told : List Line) (line : Line) (cal
 
 -- ---- all lines
 
-pub grouped-joined : (lines : List (List Line)) → grouped (sizes lines) (joined lines) ≡ lines
-grouped-joined [] = refl
-grouped-joined (own ∷ lines) =
+pub grouped-chained : (lines : List (List Line)) → grouped (sizes lines) (chained lines) ≡ lines
+grouped-chained [] = refl
+grouped-chained (own ∷ lines) =
     let all = flat_map-cons (λ (x : List Line). x) own lines in
     ap (λ (ls : List Line). grouped (sizes (own ∷ lines)) ls) all
-    ∙ ap (λ (x : List Line). x ∷ grouped (sizes lines) (drop (length own) (own ++ joined lines)))
-    (take-append_seam own (joined lines))
-    ∙ ap (λ (x : List Line). own ∷ grouped (sizes lines) x) (drop-append_seam own (joined lines))
-    ∙ ap (λ (xs : List (List Line)). own ∷ xs) (grouped-joined lines)
+    ∙ ap (λ (x : List Line). x ∷ grouped (sizes lines) (drop (length own) (own ++ chained lines)))
+    (take-append_seam own (chained lines))
+    ∙ ap (λ (x : List Line). own ∷ grouped (sizes lines) x) (drop-append_seam own (chained lines))
+    ∙ ap (λ (xs : List (List Line)). own ∷ xs) (grouped-chained lines)
 
 map-twice : (own : List Line) → map (λ (c : Made). c.operation) (map made_of own) ≡ map op_of own
 map-twice [] = refl
@@ -235,27 +235,27 @@ whole_page own =
 
 -- the book of all lines is that of the report
 pub whole_book : (lines : List (List Line))
-    → book_so_far (sizes lines) (joined lines) ≡ book_of_lines lines
+    → book_so_far (sizes lines) (chained lines) ≡ book_of_lines lines
 whole_book [] = refl
 whole_book (own ∷ lines) =
     let all = flat_map-cons (λ (x : List Line). x) own lines in
     ap (λ (ls : List Line). book_so_far (sizes (own ∷ lines)) ls) all
     ∙ ap (λ (x : List Line). part_page (length own) x ∷ book_so_far (sizes lines)
-    (drop (length own) (own ++ joined lines))) (take-append_seam own (joined lines))
+    (drop (length own) (own ++ chained lines))) (take-append_seam own (chained lines))
     ∙ ap (λ (x : List Line). part_page (length own) own ∷ book_so_far (sizes lines) x)
-    (drop-append_seam own (joined lines))
-    ∙ ap (λ (p : Page). p ∷ book_so_far (sizes lines) (joined lines)) (whole_page own)
+    (drop-append_seam own (chained lines))
+    ∙ ap (λ (p : Page). p ∷ book_so_far (sizes lines) (chained lines)) (whole_page own)
     ∙ ap (λ (ps : List Page). page_with (map made_of own) ∷ ps) (whole_book lines)
 
-pub operations-joined : (lines : List (List Line))
-    → AllByRecursion (λ line. IsOperationWord line.op) (joined lines)
+pub operations-chained : (lines : List (List Line))
+    → AllByRecursion (λ line. IsOperationWord line.op) (chained lines)
     → AllByRecursion (AllByRecursion (λ line. IsOperationWord line.op)) lines
-operations-joined [] h = tt
-operations-joined (own ∷ lines) h =
+operations-chained [] h = tt
+operations-chained (own ∷ lines) h =
     let parts =
-    split own (joined lines) (subst (AllByRecursion (λ (l : Line). IsOperationWord l.op))
+    split own (chained lines) (subst (AllByRecursion (λ (l : Line). IsOperationWord l.op))
     (flat_map-cons (λ (x : List Line). x) own lines) h) in
-    (parts.0, operations-joined lines parts.1) where
+    (parts.0, operations-chained lines parts.1) where
       split : (xs ys : List Line) → AllByRecursion (λ line. IsOperationWord line.op) (xs ++ ys)
           → AllByRecursion (λ line. IsOperationWord line.op) xs
           × AllByRecursion (λ line. IsOperationWord line.op) ys

@@ -15,9 +15,9 @@ use Rattle.report_lines.specs.declared.line.Line.{Line}
 use Rattle.client_scripts.specs.ScriptRules.{grouped}
 use Rattle.reports.specs.Findings.{sizes}
 use Rattle.report_text.specs.ReportRules.{InHead, InLines, AtEnd, report_rules, IsReportText}
-use Rattle.report_text.specs.Parts.{joined, AreAllRead}
+use Rattle.report_text.specs.Parts.{chained, AreAllRead}
 use Rattle.report_text.proofs.Readings.{head_within, report_ends}
-use Rattle.report_text.proofs.Soundness.{grouped-joined}
+use Rattle.report_text.proofs.Soundness.{grouped-chained}
 
 module _ (bytes : List ℕ) (kind : Kind) (calls : List ℕ) (new a : Unread)
     (is : new ≡ whole_text bytes)
@@ -30,19 +30,19 @@ module _ (bytes : List ℕ) (kind : Kind) (calls : List ℕ) (new a : Unread)
 
   module _ (lines : List (List Line)) (b : Unread) (body : AreAllRead kind calls a lines b) where
     pub goes_to_end_line : GoesTo report_rules (InHead TitleDue) (whole_text bytes)
-        (InLines kind calls (joined lines) []) b
+        (InLines kind calls (chained lines) []) b
     goes_to_end_line =
         goes_then report_rules (InHead TitleDue) (InLines kind calls [] (all_calls 0 calls))
-        (InLines kind calls (joined lines) []) (whole_text bytes) a b goes_to_lines body
+        (InLines kind calls (chained lines) []) (whole_text bytes) a b goes_to_lines body
 
     pub is_text_read : (left : Unread) → sizes lines ≡ calls → IsEnded b left
         → IsReportText bytes (record { kind = kind; lines = lines })
     is_text_read left size end =
-        let groups : grouped calls (joined lines) ≡ lines =
-        ap (λ (ns : List ℕ). grouped ns (joined lines)) (sym size) ∙ grouped-joined lines in
-        let goes = goes_then report_rules (InHead TitleDue) (InLines kind calls (joined lines) [])
-        (AtEnd (record { kind = kind; lines = grouped calls (joined lines) }))
+        let groups : grouped calls (chained lines) ≡ lines =
+        ap (λ (ns : List ℕ). grouped ns (chained lines)) (sym size) ∙ grouped-chained lines in
+        let goes = goes_then report_rules (InHead TitleDue) (InLines kind calls (chained lines) [])
+        (AtEnd (record { kind = kind; lines = grouped calls (chained lines) }))
         (whole_text bytes) b left goes_to_end_line
-        (report_ends kind calls (joined lines) b left end) in
+        (report_ends kind calls (chained lines) b left end) in
         subst (λ (ls : List (List Line)). IsReportText bytes (record { kind = kind; lines = ls }))
         groups (left, record { goes = goes; through = end.whole })

@@ -33,12 +33,12 @@ use Rattle.reports.specs.Findings.{Findings, sizes, IsReport}
 use Rattle.reports.specs.Grammar.{line_words, call_line, caller_lines, report_lines, IsWrittenText}
 use Rattle.report_text.specs.ReportRules.{book_so_far, IsCut, IsAnswer, IsFormed, SaysLine, IsPendingAt, IsWrongCut, FitsEarlier, InHead, InLines, AtEnd, ReportPasses, report_rules, IsReportText}
 use Rattle.report_text.specs.Drafts.{StandBefore}
-use Rattle.report_text.specs.Parts.{answer_in, joined}
+use Rattle.report_text.specs.Parts.{answer_in, chained}
 use Rattle.report_text.proofs.Groups.{before, length-own}
 use Rattle.report_text.proofs.Pushing.{records_in, calls_of-so_far, length-book_so_far, inside, book-push, line-here}
 use Rattle.report_text.proofs.Growing.{line-longer, seen-longer, records-so_far, record-longer}
-use Rattle.report_text.proofs.OwnSteps.{length-joined}
-use Rattle.report_text.proofs.Soundness.{grouped-joined, whole_book}
+use Rattle.report_text.proofs.OwnSteps.{length-chained}
+use Rattle.report_text.proofs.Soundness.{grouped-chained, whole_book}
 use Rattle.report_text.proofs.ReadTexts.{get_middle, size_at, answers_at}
 
 -- lines that are all delivered have a record each
@@ -115,21 +115,22 @@ operation_in (own ∷ lines) (suc i) m l h e = operation_in lines i m l h.1 e
 
 -- ---- the place of a line
 
-joined-middle : (done : List (List Line)) (own : List Line) (later : List (List Line))
-    → joined (done ++ own ∷ later) ≡ joined done ++ (own ++ joined later)
-joined-middle done own later =
+chained-middle : (done : List (List Line)) (own : List Line) (later : List (List Line))
+    → chained (done ++ own ∷ later) ≡ chained done ++ (own ++ chained later)
+chained-middle done own later =
     flat_map-append (λ (x : List Line). x) done (own ∷ later)
-    ∙ ap (λ (ls : List Line). joined done ++ ls) (flat_map-cons (λ (x : List Line). x) own later)
+    ∙ ap (λ (ls : List Line). chained done ++ ls) (flat_map-cons (λ (x : List Line). x) own later)
 
 joined_parts : (done : List (List Line)) (own : List Line) (later : List (List Line))
     (prefix : List Line) (line : Line) (rest : List Line) (lines : List (List Line))
     → lines ≡ done ++ own ∷ later → own ≡ prefix ++ line ∷ rest
-    → joined lines ≡ (joined done ++ prefix) ++ line ∷ (rest ++ joined later)
+    → chained lines ≡ (chained done ++ prefix) ++ line ∷ (rest ++ chained later)
 joined_parts done own later prefix line rest lines split is =
-    ap joined split ∙ joined-middle done own later
-    ∙ ap (λ (ls : List Line). joined done ++ (ls ++ joined later)) is
-    ∙ ap (λ (ls : List Line). joined done ++ ls) (append_assoc prefix (line ∷ rest) (joined later))
-    ∙ sym (append_assoc (joined done) prefix (line ∷ (rest ++ joined later)))
+    ap chained split ∙ chained-middle done own later
+    ∙ ap (λ (ls : List Line). chained done ++ (ls ++ chained later)) is
+    ∙ ap (λ (ls : List Line). chained done ++ ls) (append_assoc prefix (line ∷ rest)
+    (chained later))
+    ∙ sym (append_assoc (chained done) prefix (line ∷ (rest ++ chained later)))
 
 sizes-middle : (done : List (List Line)) (own : List Line) (later : List (List Line))
     → sizes (done ++ own ∷ later) ≡ sizes done ++ length own ∷ sizes later
@@ -146,16 +147,16 @@ size_of done own later lines split =
 
 stand_of : (done : List (List Line)) (own : List Line) (later : List (List Line))
     (prefix : List Line) (lines : List (List Line)) → lines ≡ done ++ own ∷ later
-    → StandBefore (sizes lines) (joined done ++ prefix) (length done) (length prefix)
+    → StandBefore (sizes lines) (chained done ++ prefix) (length done) (length prefix)
 stand_of done own later prefix lines split =
     let size : length (sizes done) ≡ length done = length-map done (λ (x : List Line). length x) in
     let first : take (length done) (sizes lines) ≡ sizes done
     = ap (λ (ls : List (List Line)). take (length done) (sizes ls)) split
     ∙ ap (take (length done)) (sizes-middle done own later)
     ∙ take_at (sizes done) (length own ∷ sizes later) (length done) size in
-    let total : length (joined done) ≡ before (sizes lines) (length done) =
-    length-joined done ∙ ap sum (sym first) in
-    omega (arith, length-append (joined done) prefix, total)
+    let total : length (chained done) ≡ before (sizes lines) (length done) =
+    length-chained done ∙ ap sum (sym first) in
+    omega (arith, length-append (chained done) prefix, total)
 
 module _ (findings : Findings) (w : IsReport findings) where
   abbrev lines : List (List Line)
@@ -170,15 +171,15 @@ module _ (findings : Findings) (w : IsReport findings) where
   counts_size : length counts ≡ length lines
   counts_size = length-map lines (λ (own : List Line). length own)
 
-  groups : grouped counts (joined lines) ≡ lines
-  groups = grouped-joined lines
+  groups : grouped counts (chained lines) ≡ lines
+  groups = grouped-chained lines
 
-  book : book_so_far counts (joined lines) ≡ book_of_lines lines
+  book : book_so_far counts (chained lines) ≡ book_of_lines lines
   book = whole_book lines
 
   calls_at : (j : ℕ) → calls_of (book_of_lines lines) j ≡ get_or counts j 0
   calls_at j =
-      ap (λ (b : List Page). calls_of b j) (sym book) ∙ calls_of-so_far counts (joined lines) j
+      ap (λ (b : List Page). calls_of b j) (sym book) ∙ calls_of-so_far counts (chained lines) j
 
   -- a count of a seen cut is one of the caller's records, and so below its calls
   seen_below : (call : Call) (cut : List ℕ) (j : ℕ) → seen_at lines call ≡ Some cut
@@ -205,7 +206,7 @@ module _ (findings : Findings) (w : IsReport findings) where
             absurd (cc (none, h))
 
   module _ (told : List Line) (line : Line) (more : List Line) (call : Call)
-      (all : joined lines ≡ told ++ line ∷ more)
+      (all : chained lines ≡ told ++ line ∷ more)
       (stand : StandBefore counts told call.caller call.number)
       (lt : call.number < get_or counts call.caller 0) where
     abbrev i : ℕ
@@ -236,7 +237,7 @@ module _ (findings : Findings) (w : IsReport findings) where
         ∙ ap (λ (ls : List Line). record_of (book_so_far counts ls) other) all
         ∙ record-longer counts told (line ∷ more) other r e
 
-    with_this : (told ++ line ∷ []) ++ more ≡ joined lines
+    with_this : (told ++ line ∷ []) ++ more ≡ chained lines
     with_this = append_assoc told (line ∷ []) more ∙ sym all
 
     here : line_at lines call ≡ Some line
@@ -301,7 +302,7 @@ module _ (findings : Findings) (w : IsReport findings) where
           w.replies call r at,
           (
             w.valid.wide call r at ∙ sym (ap (length {A = Page}) book)
-                ∙ length-book_so_far counts (joined lines),
+                ∙ length-book_so_far counts (chained lines),
             numbers_from_places r.view (λ j. omega (
               arith,
               below_calls (book_of_lines lines) r.view (w.valid.within call r at) j,
@@ -400,38 +401,38 @@ module _ (findings : Findings) (w : IsReport findings) where
   caller_passes : (done : List (List Line)) (own : List Line) (later : List (List Line))
       (prefix rest : List Line) (due : List Call) → lines ≡ done ++ own ∷ later
       → own ≡ prefix ++ rest
-      → AllPass ReportPasses (InLines kind counts (joined done ++ prefix)
+      → AllPass ReportPasses (InLines kind counts (chained done ++ prefix)
       (calls_from (length done) (length prefix) (length rest) ++ due))
       (by_number (call_line kind (length done)) (length prefix) rest)
-      (InLines kind counts (joined done ++ own) due)
+      (InLines kind counts (chained done ++ own) due)
   caller_passes done own later prefix [] due split is =
-      ap (λ (ls : List Line). InLines kind counts (joined done ++ ls) due)
+      ap (λ (ls : List Line). InLines kind counts (chained done ++ ls) due)
       (sym (is ∙ append-nil prefix))
   caller_passes done own later prefix (line ∷ rest) due split is =
       let call : Call = record { caller = length done; number = length prefix } in
-      let told : List Line = joined done ++ prefix in
+      let told : List Line = chained done ++ prefix in
       let next : List Line = prefix ++ line ∷ [] in
-      let all : joined lines ≡ told ++ line ∷ (rest ++ joined later) =
+      let all : chained lines ≡ told ++ line ∷ (rest ++ chained later) =
       joined_parts done own later prefix line rest lines split is in
       let count : get_or counts (length done) 0 ≡ length own = size_of done own later lines split in
       let stand : StandBefore counts told (length done) (length prefix) =
       stand_of done own later prefix lines split in
       let room : length prefix < get_or counts (length done) 0 =
       omega (arith, count, ap (length {A = Line}) is, length-append prefix (line ∷ rest)) in
-      let said : told ++ line ∷ [] ≡ joined done ++ next =
-      append_assoc (joined done) prefix (line ∷ []) in
+      let said : told ++ line ∷ [] ≡ chained done ++ next =
+      append_assoc (chained done) prefix (line ∷ []) in
       let size : length next ≡ length prefix + 1 = length-append prefix (line ∷ []) in
       let rest_is : own ≡ next ++ rest = is ∙ sym (append_assoc prefix (line ∷ []) rest) in
       let step = caller_passes done own later next rest due split rest_is in
-      let moved = subst (λ (m : ℕ). AllPass ReportPasses (InLines kind counts (joined done ++ next)
+      let moved = subst (λ (m : ℕ). AllPass ReportPasses (InLines kind counts (chained done ++ next)
       (calls_from (length done) m (length rest) ++ due)) (by_number (call_line kind (length done)) m
-      rest) (InLines kind counts (joined done ++ own) due)) size step in (
-        InLines kind counts (joined done ++ next)
+      rest) (InLines kind counts (chained done ++ own) due)) size step in (
+        InLines kind counts (chained done ++ next)
             (calls_from (length done) (length prefix + 1) (length rest) ++ due),
         (
           line,
-          line_says told line (rest ++ joined later) call all stand room,
-          line_fits told line (rest ++ joined later) call all stand room,
+          line_says told line (rest ++ chained later) call all stand room,
+          line_fits told line (rest ++ chained later) call all stand room,
           ap (λ (ls : List Line). InLines kind counts ls
               (calls_from (length done) (length prefix + 1) (length rest) ++ due)) (sym said),
         ),
@@ -441,42 +442,43 @@ module _ (findings : Findings) (w : IsReport findings) where
   -- the lines of all callers from one on are right
   callers_pass : (done later : List (List Line)) → lines ≡ done ++ later
       → AllPass ReportPasses
-      (InLines kind counts (joined done) (all_calls (length done) (sizes later)))
-      (by_number (caller_lines kind) (length done) later) (InLines kind counts (joined lines) [])
+      (InLines kind counts (chained done) (all_calls (length done) (sizes later)))
+      (by_number (caller_lines kind) (length done) later) (InLines kind counts (chained lines) [])
   callers_pass done [] split =
-      ap (λ (ls : List Line). InLines kind counts ls []) (sym (ap joined (split ∙ append-nil done)))
+      ap (λ (ls : List Line). InLines kind counts ls []) (sym (ap chained (split
+      ∙ append-nil done)))
   callers_pass done (own ∷ later) split =
       let i = length done in
       let due : List Call = all_calls (i + 1) (sizes later) in
       let mine = caller_lines kind i own in
       let next : List (List Line) = done ++ own ∷ [] in
       let first = subst (λ (ls : List Line). AllPass ReportPasses (InLines kind counts ls
-      (calls_from i 0 (length own) ++ due)) mine (InLines kind counts (joined done ++ own) due))
-      (append-nil (joined done)) (caller_passes done own later [] own due split refl) in
+      (calls_from i 0 (length own) ++ due)) mine (InLines kind counts (chained done ++ own) due))
+      (append-nil (chained done)) (caller_passes done own later [] own due split refl) in
       let size : length next ≡ i + 1 = length-append done (own ∷ []) in
-      let said : joined next ≡ joined done ++ own =
-      joined-middle done own [] ∙ ap (λ (ls : List Line). joined done ++ ls) (append-nil own) in
+      let said : chained next ≡ chained done ++ own =
+      chained-middle done own [] ∙ ap (λ (ls : List Line). chained done ++ ls) (append-nil own) in
       let rest = callers_pass next later (split ∙ sym (append_assoc done (own ∷ []) later)) in
-      let moved : AllPass ReportPasses (InLines kind counts (joined done ++ own) due)
-      (by_number (caller_lines kind) (i + 1) later) (InLines kind counts (joined lines) [])
+      let moved : AllPass ReportPasses (InLines kind counts (chained done ++ own) due)
+      (by_number (caller_lines kind) (i + 1) later) (InLines kind counts (chained lines) [])
       = subst (λ (j : ℕ). AllPass ReportPasses
-      (InLines kind counts (joined done ++ own) (all_calls j (sizes later)))
-      (by_number (caller_lines kind) j later) (InLines kind counts (joined lines) [])) size
+      (InLines kind counts (chained done ++ own) (all_calls j (sizes later)))
+      (by_number (caller_lines kind) j later) (InLines kind counts (chained lines) [])) size
       (subst (λ (ls : List Line). AllPass ReportPasses (InLines kind counts ls
       (all_calls (length next) (sizes later))) (by_number (caller_lines kind)
-      (length next) later) (InLines kind counts (joined lines) [])) said rest) in
+      (length next) later) (InLines kind counts (chained lines) [])) said rest) in
       AllPass-append report_rules
-      (InLines kind counts (joined done) (calls_from i 0 (length own) ++ due))
-      (InLines kind counts (joined done ++ own) due) (InLines kind counts (joined lines) [])
+      (InLines kind counts (chained done) (calls_from i 0 (length own) ++ due))
+      (InLines kind counts (chained done ++ own) due) (InLines kind counts (chained lines) [])
       mine (by_number (caller_lines kind) (i + 1) later) first moved
 
   -- the lines of a report are right from the title to the end
   lines_pass : AllPass ReportPasses (InHead TitleDue) (report_lines findings) (AtEnd findings)
   lines_pass =
-      let said : Findings = record { kind = kind; lines = grouped counts (joined lines) } in
+      let said : Findings = record { kind = kind; lines = grouped counts (chained lines) } in
       let same : said ≡ findings =
       ap (λ (ls : List (List Line)). record { kind = kind; lines = ls }) groups in
-      let last : AllPass ReportPasses (InLines kind counts (joined lines) []) (end_words ∷ [])
+      let last : AllPass ReportPasses (InLines kind counts (chained lines) []) (end_words ∷ [])
       (AtEnd findings) = (AtEnd said, (refl, refl), ap AtEnd same) in (
         InHead ObjectDue,
         (ObjectDue, (refl, refl), refl),
@@ -506,7 +508,7 @@ module _ (findings : Findings) (w : IsReport findings) where
                 refl,
               ),
               AllPass-append report_rules (InLines kind counts [] (all_calls 0 counts))
-                  (InLines kind counts (joined lines) []) (AtEnd findings)
+                  (InLines kind counts (chained lines) []) (AtEnd findings)
                   (by_number (caller_lines kind) 0 lines) (end_words ∷ [])
                   (callers_pass [] lines refl) last,
             ),

@@ -221,14 +221,14 @@ LinesAreStopped kind before i count text e = (counts : List ℕ) (told : List Li
     → StopsFor report_rules (InLines kind counts told (calls_from i 0 count ++ more)) text e
 
 -- The lines of all callers in one list, caller by caller.
-abbrev pub joined : List (List Line) → List Line
-joined lines = flat_map (λ own. own) lines
+abbrev pub chained : List (List Line) → List Line
+chained lines = flat_map (λ own. own) lines
 
 -- The next lines of the text are right and say the lines `lines` of all calls, where each caller
 -- has as many calls as `counts` says.
 abbrev pub AreAllRead : Kind → List ℕ → Unread → List (List Line) → Unread → Type 0
 AreAllRead kind counts text lines left = GoesTo report_rules
-    (InLines kind counts [] (all_calls 0 counts)) text (InLines kind counts (joined lines) []) left
+    (InLines kind counts [] (all_calls 0 counts)) text (InLines kind counts (chained lines) []) left
 
 -- A reader of the next lines of the text, where the lines of all calls are due and each caller has
 -- as many calls as `counts` says, stops with the fault `e`.

@@ -7,7 +7,7 @@ use Rattle.book_base.specs.Book.{answers_of, calls_of, record_of, IsValid}
 use Rattle.report_lines.specs.declared.line.Line.{Line}
 use Rattle.report_lines.specs.Lines.{book_of_lines, seen_at, lines_at, error_at, delivered_in}
 use Rattle.report_lines.specs.Cases.{call, first, second, third, worked_lines}
-use Rattle.reports.specs.Findings.{AreSeen, IsReport, StandsBefore, IsFirstError}
+use Rattle.reports.specs.Findings.{AreSeenInBook, IsReport, StandsBefore, IsFirstError}
 use Rattle.reports.specs.Cases.{worked}
 
 within_three : (a b c d e f : ℕ) → a ≤ d → b ≤ e → c ≤ f
@@ -84,7 +84,7 @@ worked_is_valid = record {
       a.caller a.number r x;
 }
 
-all_seen : AreSeen worked_lines
+all_seen : AreSeenInBook worked_lines
 all_seen = record {
   wide =
       λ call cut e. each_seen (λ i k cut. length cut ≡ 3) refl refl call.caller call.number cut e;

@@ -30,7 +30,7 @@ HasLine lines call = call.number < length (lines_at lines call.caller)
 
 -- The seen cuts of the lines fit their book: each seen cut has a count for each caller, none above
 -- that caller's number of records in the book, and holds its own line's call.
-pub record AreSeen (lines : List (List Line)) : Type 0 where
+pub record AreSeenInBook (lines : List (List Line)) : Type 0 where
   pub wide : (call : Call) (cut : List ℕ) → seen_at lines call ≡ Some cut
       → length cut ≡ length lines
   pub within : (call : Call) (cut : List ℕ) → seen_at lines call ≡ Some cut
@@ -59,7 +59,7 @@ pub record IsReport (findings : Findings) : Type 0 where
   pub replies : (call : Call) (r : Record) → record_of (book_of_lines findings.lines) call ≡ Some r
       → r.reply < 2 ^ 64
   pub valid : IsValid (book_of_lines findings.lines)
-  pub seen : AreSeen findings.lines
+  pub seen : AreSeenInBook findings.lines
   pub delivered : AreDelivered findings.lines
 
 -- ---- the first error

@@ -9,7 +9,7 @@ use Rattle.world_core.specs.Calls.{IsLocalOf}
 use Rattle.row_table.specs.declared.notes.Notes.{Notes}
 use Rattle.row_table.specs.declared.stance.Stance.{Stance}
 use Rattle.row_table.specs.declared.bench.Kept.{Kept}
-use Rattle.row_table.specs.Seats.{View, has, the, only, joined, Together}
+use Rattle.row_table.specs.Seats.{View, has, the, only, union_of, Together}
 use Rattle.row_table.specs.Notes.{notes_of, notes_from}
 use Rattle.row_table.specs.Benches.{kept_notes, fresh_kept, fresh_stance}
 use Rattle.row_table.specs.Callers.{kept_stance}
@@ -67,9 +67,9 @@ left_reached s v who i l r t low here same local = subst (λ (x : ℕ × Local).
 
 -- The view of a bench to which a caller comes back is the one before, with the local of this caller
 -- set.
-pub joined_with : (v w u : View) (who : ℕ) (l : Local) → u ≡ joined v w → w ≡ only who l
+pub joined_with : (v w u : View) (who : ℕ) (l : Local) → u ≡ union_of v w → w ≡ only who l
     → has v who ≡ None → who < length v → u ≡ slice_set v who (Some l)
-joined_with v w u who l is alone gone low = is ∙ ap (joined v) alone ∙ joined_set v who l gone low
+joined_with v w u who l is alone gone low = is ∙ ap (union_of v) alone ∙ joined_set v who l gone low
 
 -- Once a caller is put back, the notes that the bench keeps are still those of the locals in its
 -- view.

@@ -14,7 +14,7 @@ use Rattle.world_core.specs.Local.{Local, fresh}
 use Rattle.world_core.specs.World.{World, start, local_of}
 use Rattle.world_core.specs.Calls.{AreTogether}
 use Rattle.world_laws.proofs.Running.{start_is_reachable, start_kept, steps_kept}
-use Rattle.row_table.specs.Seats.{View, has, the, only, whole, joined, Ruled, Together, IsWorldOf}
+use Rattle.row_table.specs.Seats.{View, has, the, only, whole, union_of, Ruled, Together, IsWorldOf}
 use Rattle.row_table.proofs.Keeping.{at_lt, only_here}
 
 pub only_else : (who i : ℕ) (l m : Local) → has (only who l) i ≡ Some m → i ≡ who
@@ -167,14 +167,14 @@ leaves s n id v who l here t r at =
       kept = kept s n t r id v who l at here;
     }
 
-joined_none : (v : View) → joined v [] ≡ v
+joined_none : (v : View) → union_of v [] ≡ v
 joined_none [] = refl
 joined_none (x ∷ v) = refl
 
 -- A view that lacks the local of a caller, joined with the one that has this local alone, is the
 -- view with this local set.
 pub joined_set : (v : View) (who : ℕ) (l : Local) → has v who ≡ None → who < length v
-    → joined v (only who l) ≡ slice_set v who (Some l)
+    → union_of v (only who l) ≡ slice_set v who (Some l)
 joined_set [] who l gone low = absurd (omega arith)
 joined_set (None ∷ v) zero l gone low = ap (λ (u : View). Some l ∷ u) (joined_none v)
 joined_set (Some m ∷ v) zero l gone low = absurd (none-some m (sym gone))
@@ -306,10 +306,10 @@ returns_set s n id other v who l low t r at apart there' =
 -- The rule holds after the local of a caller goes back to a seat, whose view then is joined with
 -- the one that has this local alone.
 pub comes_back : (s : Shape) (n id other : ℕ) (v w : View) (who : ℕ) (l : Local) → w ≡ only who l
-    → has v who ≡ None → who < length v → Joins (Ruled s n) id v other w (joined v w) []
+    → has v who ≡ None → who < length v → Joins (Ruled s n) id v other w (union_of v w) []
 comes_back s n id other v w who l is gone low =
     subst (λ (y : View × View). Joins (Ruled s n) id v other y.0 y.1 [])
-    (λ i. (sym is i, sym (ap (joined v) is ∙ joined_set v who l gone low) i))
+    (λ i. (sym is i, sym (ap (union_of v) is ∙ joined_set v who l gone low) i))
     (returns_set s n id other v who l low)
 
 -- the start: one seat has all locals

@@ -93,11 +93,11 @@ pub record Makes (s : Shape) (objects : ℕ) (who : ℕ) (local : Local) (word :
 
 -- The view of a seat that takes over the locals of another seat's view `w`: a caller's local is the
 -- one in the first view, or, where the first view has none, the one in `w`.
-abbrev pub joined : View → View → View
-joined [] w = []
-joined (x ∷ v) [] = x ∷ v
-joined (None ∷ v) (y ∷ w) = y ∷ joined v w
-joined (Some l ∷ v) (y ∷ w) = Some l ∷ joined v w
+abbrev pub union_of : View → View → View
+union_of [] w = []
+union_of (x ∷ v) [] = x ∷ v
+union_of (None ∷ v) (y ∷ w) = y ∷ union_of v w
+union_of (Some l ∷ v) (y ∷ w) = Some l ∷ union_of v w
 
 -- Some reachable world has just these words and these locals.
 pub record IsWorldOf (s : Shape) (words : List ℕ) (locals : List Local) : Type 0 where

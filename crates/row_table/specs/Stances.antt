@@ -21,14 +21,14 @@ opening_by s = opening_with s.begins s.reply
 
 -- The reply that is kept after a look with this opening: none after one that begins the view's
 -- scan, which carries the reply, and else the one kept before.
-abbrev pub reply_after : Opening → Option ℕ → Option ℕ
-reply_after (View x) reply = None
-reply_after _ reply = reply
+abbrev pub reply_kept : Opening → Option ℕ → Option ℕ
+reply_kept (View x) reply = None
+reply_kept _ reply = reply
 
 -- The stance after a look: the caller means to begin no scan any more, and keeps no reply that the
 -- look carried.
 abbrev pub looked : Stance → Stance
-looked s = record s { begins = None; reply = reply_after (opening_by s) s.reply }
+looked s = record s { begins = None; reply = reply_kept (opening_by s) s.reply }
 
 -- Where the next look is to begin a scan, that scan is one of this region.
 abbrev pub FitsRegion : Option Region → Region → Type 0

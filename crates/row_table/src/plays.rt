@@ -4,7 +4,7 @@ ghost use Rattle.std.specs.Prelude.{ℕ, [], None, slice_set};
 ghost use Rattle.world_core.specs.Shape.{Shape};
 ghost use Rattle.world_core.specs.Event.{Event, Announce};
 ghost use Rattle.world_core.specs.Programs.{outside};
-ghost use Rattle.row_table.specs.Seats.{Ruled, Tells, TellsOfSome, Shows, whole, has, the, only, joined};
+ghost use Rattle.row_table.specs.Seats.{Ruled, Tells, TellsOfSome, Shows, whole, has, the, only, union_of};
 
 use atomic_table::{Join, Play, Split, TableRule};
 use std::marker::{Brand, Model, PhantomData};
@@ -105,7 +105,7 @@ impl<J: StepEvent> Split<Holding> for Leaves<J> {
 pub struct Returns;
 
 impl Join<Holding> for Returns {
-    ghost both = { joined };
+    ghost both = { union_of };
 
     ghost spent = { [] };
 }

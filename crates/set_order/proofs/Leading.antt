@@ -14,7 +14,7 @@ use Rattle.book_base.specs.Next.{HoldsAnswered}
 use Rattle.frontier_check.proofs.Leading.{sum_small}
 use Rattle.set_order.specs.declared.walk.SetFrame.{SetFrame}
 use Rattle.set_order.specs.SetOrder.{operations_of, IsLegalSetOrder, HasLegalSetOrder}
-use Rattle.set_order.specs.Search.{no_calls, raised_by, MayStandIn, MayStandTogether, SetsContinue, IsDeadEnd, IsFrame, Leads, order_of}
+use Rattle.set_order.specs.Search.{no_calls, raised_by, MayStandIn, MayStandTogether, SetsContinue, IsDeadEnd, IsFrame, FramesLead, order_of}
 use Rattle.set_order.proofs.Raising.{all_so, raised-length, raised-sum, raised-within}
 use Rattle.set_order.proofs.SetOrders.{next-from_each, legal_order_from_continue, continue_from_legal_order}
 
@@ -41,9 +41,9 @@ moved_frame served book cut new_cut list new_list frame after e f h =
 pub leads-push : (served : List ℕ → List ℕ → Option (List ℕ × List ℕ)) (book : List Page)
     (cut list : List ℕ) (frames : List SetFrame) (to_cut to_list : List ℕ) (frame : SetFrame)
     (after : List ℕ)
-    → Leads served book cut list frames to_cut to_list
+    → FramesLead served book cut list frames to_cut to_list
     → IsFrame served book to_cut to_list frame after
-    → Leads served book cut list (frames ++ frame ∷ []) (raised_by to_cut frame.set) after
+    → FramesLead served book cut list (frames ++ frame ∷ []) (raised_by to_cut frame.set) after
 leads-push served book cut list [] to_cut to_list frame after (same_cut, same_list) here = (
   after,
   moved_frame served book cut to_cut list to_list frame after same_cut same_list here,
@@ -61,14 +61,14 @@ leads-push served book cut list (first ∷ frames) to_cut to_list frame after
 pub record Back (served : List ℕ → List ℕ → Option (List ℕ × List ℕ)) (book : List Page)
     (cut list : List ℕ) (frames : List SetFrame) (frame : SetFrame)
     (to_cut to_list : List ℕ) : Type 0 where
-  pub leads : Leads served book cut list frames frame.counts.items frame.words.items
+  pub leads : FramesLead served book cut list frames frame.counts.items frame.words.items
   pub here : IsFrame served book frame.counts.items frame.words.items frame to_list
   pub to_cut_is : to_cut ≡ raised_by frame.counts.items frame.set
 
 -- the frames of a walk without the last one
 pub leads-pop : (served : List ℕ → List ℕ → Option (List ℕ × List ℕ)) (book : List Page)
     (cut list : List ℕ) (frames : List SetFrame) (frame : SetFrame) (to_cut to_list : List ℕ)
-    → Leads served book cut list (frames ++ frame ∷ []) to_cut to_list
+    → FramesLead served book cut list (frames ++ frame ∷ []) to_cut to_list
     → Back served book cut list frames frame to_cut to_list
 leads-pop served book cut list [] frame to_cut to_list (after, at, (cut_is, list_is)) = record {
   leads = (sym at.counts, sym at.words);
@@ -86,7 +86,7 @@ leads-pop served book cut list (first ∷ frames) frame to_cut to_list (between,
 -- lead holds all answered calls
 leads-continue : (served : List ℕ → List ℕ → Option (List ℕ × List ℕ)) (book : List Page)
     (cut list : List ℕ) (frames : List SetFrame) (to_cut to_list : List ℕ)
-    → Leads served book cut list frames to_cut to_list → HoldsAnswered book to_cut
+    → FramesLead served book cut list frames to_cut to_list → HoldsAnswered book to_cut
     → SetsContinue served book cut list (order_of frames)
 leads-continue served book cut list [] to_cut to_list (same_cut, same_list) all =
     subst (λ (c : List ℕ). HoldsAnswered book c) (sym same_cut) all
@@ -99,7 +99,7 @@ leads-continue served book cut list (first ∷ frames) to_cut to_list (between, 
 -- The frames that lead to a cut with all answered calls make a legal set order.
 pub legal-from_leads : (init : List ℕ) (served : List ℕ → List ℕ → Option (List ℕ × List ℕ))
     (book : List Page) (frames : List SetFrame) (cut list : List ℕ)
-    → Leads served book (no_calls book) init frames cut list → HoldsAnswered book cut
+    → FramesLead served book (no_calls book) init frames cut list → HoldsAnswered book cut
     → IsLegalSetOrder init served book (order_of frames)
 legal-from_leads init served book frames cut list leads all =
     let long : length (no_calls book) ≡ length book = length-replicate (length book) 0 in
@@ -160,7 +160,8 @@ one_step served book cut list places after grows wide within may =
 leads-reach : (served : List ℕ → List ℕ → Option (List ℕ × List ℕ)) (book : List Page)
     (cut list : List ℕ) (frames : List SetFrame) (to_cut to_list : List ℕ) → Grows served
     → length book ≤ length cut → ((i : ℕ) → get_or cut i 0 ≤ calls_of book i)
-    → Leads served book cut list frames to_cut to_list → Reach book cut list frames to_cut to_list
+    → FramesLead served book cut list frames to_cut to_list
+    → Reach book cut list frames to_cut to_list
 leads-reach served book cut list [] to_cut to_list grows wide within (same_cut, same_list) =
     record {
       wide = ap (λ (c : List ℕ). length c) (sym same_cut);
@@ -193,7 +194,7 @@ pub record WalkFacts (book : List Page) (frames : List SetFrame) (cut list : Lis
 pub standing : (init : List ℕ) (served : List ℕ → List ℕ → Option (List ℕ × List ℕ))
     (book : List Page) (frames : List SetFrame) (cut list : List ℕ)
     → IsSmall book → length init ≤ 1 → Grows served
-    → Leads served book (no_calls book) init frames cut list → WalkFacts book frames cut list
+    → FramesLead served book (no_calls book) init frames cut list → WalkFacts book frames cut list
 standing init served book frames cut list small begins grows leads =
     let long : length (no_calls book) ≡ length book = length-replicate (length book) 0 in
     let reach = leads-reach served book (no_calls book) init frames cut list grows (omega arith)

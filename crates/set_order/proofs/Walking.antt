@@ -16,7 +16,7 @@ use Rattle.set_order.specs.declared.walk.SetFrame.{SetFrame}
 use Rattle.set_order.specs.declared.walk.SetWalk.{SetWalk}
 use Rattle.set_order.specs.declared.walk.TheConstants.{CAPACITY}
 use Rattle.set_order.specs.SetOrder.{callers_of, operations_of, IsLegalSetOrder, HasLegalSetOrder}
-use Rattle.set_order.specs.Search.{no_calls, raised_by, picked, MayStandIn, MayStandTogether, IsDeadEnd, LeadsNowhere, IsOpen, IsFrame, Leads, IsWalk, order_of, weigh, weight}
+use Rattle.set_order.specs.Search.{no_calls, raised_by, picked, MayStandIn, MayStandTogether, IsDeadEnd, LeadsNowhere, IsOpen, IsFrame, FramesLead, IsWalk, order_of, weigh, weight}
 use Rattle.set_order.proofs.Raising.{all_so}
 use Rattle.set_order.proofs.Trying.{nowhere-from_dead, open-less, dead_end, IsPart, part-from_open, candidates-few}
 use Rattle.set_order.proofs.Picking.{picked-few}
@@ -28,12 +28,12 @@ same_leads : (served : List ℕ → List ℕ → Option (List ℕ × List ℕ)) 
     (cut list : List ℕ) (frames new_frames : List SetFrame)
     (to_cut new_cut to_list new_list : List ℕ)
     → new_frames ≡ frames → new_cut ≡ to_cut → new_list ≡ to_list
-    → Leads served book cut list frames to_cut to_list
-    → Leads served book cut list new_frames new_cut new_list
+    → FramesLead served book cut list frames to_cut to_list
+    → FramesLead served book cut list new_frames new_cut new_list
 same_leads served book cut list frames new_frames to_cut new_cut to_list new_list e f k h =
-    subst (λ (ls : List SetFrame). Leads served book cut list ls new_cut new_list) (sym e)
-    (subst (λ (c : List ℕ). Leads served book cut list frames c new_list) (sym f)
-    (subst (λ (l : List ℕ). Leads served book cut list frames to_cut l) (sym k) h))
+    subst (λ (ls : List SetFrame). FramesLead served book cut list ls new_cut new_list) (sym e)
+    (subst (λ (c : List ℕ). FramesLead served book cut list frames c new_list) (sym f)
+    (subst (λ (l : List ℕ). FramesLead served book cut list frames to_cut l) (sym k) h))
 
 same_open : (served : List ℕ → List ℕ → Option (List ℕ × List ℕ)) (book : List Page)
     (cut new_cut list new_list callers new_callers : List ℕ) (left new_left : ℕ)
@@ -164,7 +164,7 @@ pub record IsDeeper (served : List ℕ → List ℕ → Option (List ℕ × List
 deeper-leads : (init : List ℕ) (served : List ℕ → List ℕ → Option (List ℕ × List ℕ))
     (book : List Page) (old new : SetWalk) (frame : SetFrame) → IsWalk init served book old
     → IsDeeper served book old new frame
-    → Leads served book (no_calls book) init new.frames.items new.counts.items new.here.words
+    → FramesLead served book (no_calls book) init new.frames.items new.counts.items new.here.words
 deeper-leads init served book old new frame h d =
     let here : IsFrame served book old.counts.items old.here.words frame new.here.words = record {
       counts = d.level_counts;
@@ -228,7 +228,7 @@ walk-back init served book old new frame h none frames counts here room callers 
     (no_calls book) init new.frames.items frame old.counts.items old.here.words
     (subst
     (λ (ls : List SetFrame).
-    Leads served book (no_calls book) init ls old.counts.items old.here.words)
+    FramesLead served book (no_calls book) init ls old.counts.items old.here.words)
     frames h.leads) in
     let dead : IsDeadEnd served book (raised_by frame.counts.items frame.set) old.here.words =
     subst (λ (c : List ℕ). IsDeadEnd served book c old.here.words) back.to_cut_is
@@ -272,7 +272,7 @@ last_level init served book old frames frame small begins grows h is =
     leads-pop served book (no_calls book) init frames frame old.counts.items old.here.words
     (subst
     (λ (ls : List SetFrame).
-    Leads served book (no_calls book) init ls old.counts.items old.here.words)
+    FramesLead served book (no_calls book) init ls old.counts.items old.here.words)
     is h.leads) in
     let s = standing init served book frames frame.counts.items frame.words.items small begins grows
     back.leads in
@@ -283,9 +283,10 @@ pub walk-none : (init : List ℕ) (served : List ℕ → List ℕ → Option (Li
     (book : List Page) (walk : SetWalk) → IsWalk init served book walk → walk.left ≡ 0
     → walk.frames.items ≡ [] → HasLegalSetOrder init served book → ⊥
 walk-none init served book walk h none frames =
-    let leads : Leads served book (no_calls book) init [] walk.counts.items walk.here.words =
+    let leads : FramesLead served book (no_calls book) init [] walk.counts.items walk.here.words =
     subst (λ (ls : List SetFrame).
-    Leads served book (no_calls book) init ls walk.counts.items walk.here.words) frames h.leads in
+    FramesLead served book
+    (no_calls book) init ls walk.counts.items walk.here.words) frames h.leads in
     none-from_dead init served book
     (subst (λ (c : List ℕ). IsDeadEnd served book c init) (sym leads.0)
     (subst (λ (l : List ℕ). IsDeadEnd served book walk.counts.items l) (sym leads.1)
@@ -301,7 +302,8 @@ pub walk-start : (init : List ℕ) (served : List ℕ → List ℕ → Option (L
     → IsOpen served book walk.counts.items walk.here.words walk.callers.items walk.left
     → IsWalk init served book walk
 walk-start init served book walk frames counts here room memo callers none start = record {
-  leads = subst (λ (ls : List SetFrame). Leads served book (no_calls book) init ls walk.counts.items
+  leads = subst (λ (ls : List SetFrame). FramesLead served book
+      (no_calls book) init ls walk.counts.items
       walk.here.words) (sym frames) (sym counts, sym here);
   here = start;
   dead = λ cut list there. absurd (none cut list there);

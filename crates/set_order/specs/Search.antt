@@ -111,12 +111,12 @@ pub record IsFrame (served : List ℕ → List ℕ → Option (List ℕ × List 
   pub stands : MayStandTogether served book cut list frame.set after
 
 -- The frames of a walk lead from one cut and list to another cut and list, each by its set.
-abbrev pub Leads : (List ℕ → List ℕ → Option (List ℕ × List ℕ)) → List Page → List ℕ → List ℕ
+abbrev pub FramesLead : (List ℕ → List ℕ → Option (List ℕ × List ℕ)) → List Page → List ℕ → List ℕ
     → List SetFrame → List ℕ → List ℕ → Type 0
-Leads served book cut list [] to_cut to_list = (cut ≡ to_cut) × (list ≡ to_list)
-Leads served book cut list (frame ∷ frames) to_cut to_list =
+FramesLead served book cut list [] to_cut to_list = (cut ≡ to_cut) × (list ≡ to_list)
+FramesLead served book cut list (frame ∷ frames) to_cut to_list =
     (after : List ℕ) × IsFrame served book cut list frame after
-    × Leads served book (raised_by cut frame.set) after frames to_cut to_list
+    × FramesLead served book (raised_by cut frame.set) after frames to_cut to_list
 
 -- each pair of a cut and a list that the memo of a walk remembers is a dead end
 abbrev pub AllDead : (List ℕ → List ℕ → Option (List ℕ × List ℕ)) → List Page → SetWalk → Type 0
@@ -129,7 +129,7 @@ AllDead served book walk = (cut list : List ℕ) → Remembers walk.memo cut lis
 -- capacity `CAPACITY`.
 pub record IsWalk (init : List ℕ) (served : List ℕ → List ℕ → Option (List ℕ × List ℕ))
     (book : List Page) (walk : SetWalk) : Type 0 where
-  pub leads : Leads served book
+  pub leads : FramesLead served book
       (no_calls book) init walk.frames.items walk.counts.items walk.here.words
   pub here : IsOpen served book walk.counts.items walk.here.words walk.callers.items walk.left
   pub dead : AllDead served book walk

@@ -7,7 +7,7 @@ use Rattle.set_order.specs.SetOrder.{IsLegalSetOrder, HasLegalSetOrder}
 
 -- A verdict on a book is right: `Legal` carries a legal set order of the book, and with `Illegal`
 -- the book has none.
-abbrev pub IsRight : List ℕ → (List ℕ → List ℕ → Option (List ℕ × List ℕ)) → List Page
+abbrev pub IsRightSetVerdict : List ℕ → (List ℕ → List ℕ → Option (List ℕ × List ℕ)) → List Page
     → SetVerdict → Type 0
-IsRight init served book (Legal order) = IsLegalSetOrder init served book order.items
-IsRight init served book Illegal = HasLegalSetOrder init served book → ⊥
+IsRightSetVerdict init served book (Legal order) = IsLegalSetOrder init served book order.items
+IsRightSetVerdict init served book Illegal = HasLegalSetOrder init served book → ⊥

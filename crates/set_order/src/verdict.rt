@@ -1,5 +1,5 @@
 ghost use Rattle.std.specs.Prelude.{IfOk};
-ghost use Rattle.set_order.specs.Verdict.{IsRight};
+ghost use Rattle.set_order.specs.Verdict.{IsRightSetVerdict};
 
 use crate::place_set::PlaceSet;
 use crate::search::SetSearch;
@@ -31,7 +31,7 @@ pub fn check_sets<O: SetObject>(
     // The answer `Legal` carries a legal set order of the book, and `Illegal` comes only where the
     // book has none.
     ensures verdict { IfOk result (λ verdict.
-        IsRight (O.init object.now) (O.served object.now) book.now verdict) }
+        IsRightSetVerdict (O.init object.now) (O.served object.now) book.now verdict) }
 {
     let search = SetSearch {
         alloc,

@@ -25,7 +25,7 @@ impl OpText for JoinWords {
         _third: Option<&[u8]>,
     ) -> Option<(OpWord, u32)> {
         if is_name(first) {
-            let number = joined(second)?;
+            let number = join_number(second)?;
             return Some((Joins::join(number), 1));
         }
         let op = other(first)?;
@@ -47,7 +47,7 @@ fn is_name(word: &[u8]) -> bool
 }
 
 /// The number below 32 that a word spells.
-fn joined(word: Option<&[u8]>) -> Option<u32>
+fn join_number(word: Option<&[u8]>) -> Option<u32>
     ensures found { IfSome result (λ n. (n < 32) × (option_copied word.entry ≡ Some (decimal n))) }
     ensures none { IfNone result ((n : ℕ) → n < 32
         → option_copied word.entry ≢ Some (decimal n)) }

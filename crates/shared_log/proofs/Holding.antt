@@ -7,7 +7,7 @@ use Rattle.std.proofs.lemmas.Option.{none-some, same_Some}
 use mathlib.Core.Option.{some, some-injective, some-ne-none}
 use lib.ListN.{get_elem?}
 use Rattle.atomic_table.proofs.Lists.{at_set}
-use Rattle.shared_log.specs.Holders.{has, only, whole, joined, AreHeld}
+use Rattle.shared_log.specs.Holders.{has, only, whole, union_of, AreHeld}
 
 at_end : {B : Type 0} (xs : List B) (x y : B) (j : ℕ) → get_elem? (xs ++ x ∷ []) j ≡ some y
     → (get_elem? xs j ≡ some y) ⊎ ((j ≡ length xs) × (x ≡ y))
@@ -75,14 +75,14 @@ module _ {A : Type 0} where
       → has (slice_set v who (Some x)) i ≡ has v i
   with_else v who i x ne = get_or-set_other v who i (Some x) None ne
 
-  joined_none : (v : List (Option A)) → joined v [] ≡ v
+  joined_none : (v : List (Option A)) → union_of v [] ≡ v
   joined_none [] = refl
   joined_none (x ∷ v) = refl
 
   -- joining a view with what one caller has sets this caller's place, where the view lacked the
   -- caller
   pub joined_only : (v : List (Option A)) (who : ℕ) (x : A) → has v who ≡ None → who < length v
-      → joined v (only who x) ≡ slice_set v who (Some x)
+      → union_of v (only who x) ≡ slice_set v who (Some x)
   joined_only [] who x gone low = absurd (omega arith)
   joined_only (None ∷ v) zero x gone low = ap (λ (u : List (Option A)). Some x ∷ u) (joined_none v)
   joined_only (Some y ∷ v) zero x gone low = absurd (none-some y (sym gone))

@@ -42,7 +42,7 @@ left_others n who v u all is i above low =
 pub return_asks : (n cap id other who : ℕ) (v : View) (me : Me (Unit {0}) View) (h : Hand)
     → me ≡ (only who (the (has me.0 who)), []) → the (has me.0 who) ≡ h → has v who ≡ None
     → who < length v
-    → Joins (Ruled n cap) id v other me.0 (holders.joined v me.0) []
+    → Joins (Ruled n cap) id v other me.0 (holders.union_of v me.0) []
 return_asks n cap id other who v me h alone is gone low =
     steps.returns n cap id other v me.0 who h
     (ap (λ (m : Me (Unit {0}) View). m.0) alone ∙ ap (only who) is) gone low
@@ -50,7 +50,7 @@ return_asks n cap id other who v me h alone is gone low =
 pub returned : (who : ℕ) (v : View) (me after : Me (Unit {0}) View) (h : Hand)
     → me ≡ (only who (the (has me.0 who)), []) → the (has me.0 who) ≡ h → has v who ≡ None
     → who < length v
-    → after.0 ≡ holders.joined v me.0 → after.0 ≡ slice_set v who (Some h)
+    → after.0 ≡ holders.union_of v me.0 → after.0 ≡ slice_set v who (Some h)
 returned who v me after h alone is gone low both =
-    both ∙ ap (λ (m : Me (Unit {0}) View). holders.joined v m.0) alone
-    ∙ ap (λ (g : Hand). holders.joined v (only who g)) is ∙ joined_only v who h gone low
+    both ∙ ap (λ (m : Me (Unit {0}) View). holders.union_of v m.0) alone
+    ∙ ap (λ (g : Hand). holders.union_of v (only who g)) is ∙ joined_only v who h gone low

@@ -264,12 +264,12 @@ module _ (n cap slots id who : ℕ) (me : Me (Unit {0}) View) (h : Hand)
 -- a caller comes to a seat that lacks it
 pub returns : (n cap id other : ℕ) (v w : View) (who : ℕ) (h : Hand) → w ≡ only who h
     → holders.has v who ≡ None → who < length v
-    → Joins (Ruled n cap) id v other w (holders.joined v w) []
+    → Joins (Ruled n cap) id v other w (holders.union_of v w) []
 returns n cap id other v w who h is gone low t r at apart there' =
-    let both : holders.joined v w ≡ slice_set v who (Some h) =
-    ap (holders.joined v) is ∙ joined_only v who h gone low in
+    let both : holders.union_of v w ≡ slice_set v who (Some h) =
+    ap (holders.union_of v) is ∙ joined_only v who h gone low in
     let there : get_elem? t.views other ≡ some (only who h) =
-    sym (set_else t.views id other (holders.joined v w) apart) ∙ there' ∙ ap some is in
+    sym (set_else t.views id other (holders.union_of v w) apart) ∙ there' ∙ ap some is in
     record {
       log = r.log;
       stand = r.stand;

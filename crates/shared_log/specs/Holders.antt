@@ -19,11 +19,11 @@ module _ {A : Type 0} where
 
   -- What two views have together: of each caller in the first view what that view has of it, or
   -- where it has nothing, what the second view has.
-  abbrev pub joined : List (Option A) → List (Option A) → List (Option A)
-  joined [] w = []
-  joined (x ∷ v) [] = x ∷ v
-  joined (None ∷ v) (y ∷ w) = y ∷ joined v w
-  joined (Some x ∷ v) (y ∷ w) = Some x ∷ joined v w
+  abbrev pub union_of : List (Option A) → List (Option A) → List (Option A)
+  union_of [] w = []
+  union_of (x ∷ v) [] = x ∷ v
+  union_of (None ∷ v) (y ∷ w) = y ∷ union_of v w
+  union_of (Some x ∷ v) (y ∷ w) = Some x ∷ union_of v w
 
   -- What a view holds of a caller fits this caller, and only the view of one seat holds something
   -- of it.

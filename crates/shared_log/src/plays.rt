@@ -1,7 +1,7 @@
 //! The rule of a log's table, and how each kind of step changes the hand of its caller. These types
 //! are for the proofs alone.
 ghost use Rattle.std.specs.Prelude.{ℕ, [], None, slice_set};
-ghost use Rattle.shared_log.specs.Holders.{has, only, whole, joined};
+ghost use Rattle.shared_log.specs.Holders.{has, only, whole, union_of};
 ghost use Rattle.shared_log.specs.Hands.{the, empty};
 ghost use Rattle.shared_log.specs.Rule.{Ruled, Turns, Stages, Looks, Places, Reads};
 
@@ -106,7 +106,7 @@ impl<J: Part> Split<Holding> for Leaves<J> {
 pub struct Returns;
 
 impl Join<Holding> for Returns {
-    ghost both = { joined };
+    ghost both = { union_of };
 
     ghost spent = { [] };
 }

@@ -7,7 +7,7 @@ use Rattle.std.proofs.lemmas.List.Elements.{All-nil, All-cons, filter-append}
 use mathlib.Core.List.{IsPrefix}
 use Rattle.shared_log.proofs.Logs.{ends_at}
 use Rattle.shared_words.specs.Deeds.{Deed, place_of, HasFound}
-use Rattle.shared_words.specs.Histories.{Access, deeds_by, word_at, IsRight, IsLawfulHistory, IsAfterAccess}
+use Rattle.shared_words.specs.Histories.{Access, deeds_by, word_at, IsRightAccess, IsLawfulHistory, IsAfterAccess}
 
 -- the deeds of a caller in a history and then another are those in the first and then those in the
 -- second
@@ -42,11 +42,12 @@ lawful_none may history none before rest a is =
     absurd (let long = ap length (sym none ∙ is) in omega (arith, length-append before (a ∷ rest)))
 
 pub lawful_push : (may : ℕ → Deed → Type 0) (history : List Access) (a : Access)
-    → IsLawfulHistory may history → IsRight may history a → IsLawfulHistory may (history ++ a ∷ [])
+    → IsLawfulHistory may history → IsRightAccess may history a
+    → IsLawfulHistory may (history ++ a ∷ [])
 lawful_push may history a lawful right before rest b is =
     elim (ends_at history before rest a b is) [
       | inl last ↦
-          subst (λ (y : List Access × Access). IsRight may y.0 y.1)
+          subst (λ (y : List Access × Access). IsRightAccess may y.0 y.1)
           (λ i. (last.0 i, last.1 i)) right
       | inr old ↦ lawful before old.0 b old.1
     ]

@@ -4,7 +4,7 @@ use mathlib.Core.Option.{some}
 use lib.ListN.{get_elem?}
 use Rattle.atomic_table.specs.Table.{Me, Splits, Joins}
 use Rattle.atomic_table.proofs.Lists.{set_else}
-use Rattle.shared_log.specs.Holders.{has, only, joined, AreHeld}
+use Rattle.shared_log.specs.Holders.{has, only, union_of, AreHeld}
 use Rattle.shared_log.proofs.Holding.{held_parted, held_returned, joined_only, without_else}
 use Rattle.shared_words.specs.Deeds.{Deed}
 use Rattle.shared_words.specs.Histories.{Access, View, known}
@@ -41,12 +41,12 @@ left_others n who v u all is i above low =
 pub return_asks : (may : ℕ → Deed → Type 0) (n count id other who : ℕ) (v : View)
     (me : Me (Unit {0}) View) (h : List Access) → me ≡ (only who h, []) → has v who ≡ None
     → who < length v
-    → Joins (Ruled may n count) id v other me.0 (joined v me.0) []
+    → Joins (Ruled may n count) id v other me.0 (union_of v me.0) []
 return_asks may n count id other who v me h alone gone low t r at apart there' =
-    let both : joined v me.0 ≡ slice_set v who (Some h) =
-    ap (λ (m : Me (Unit {0}) View). joined v m.0) alone ∙ joined_only v who h gone low in
+    let both : union_of v me.0 ≡ slice_set v who (Some h) =
+    ap (λ (m : Me (Unit {0}) View). union_of v m.0) alone ∙ joined_only v who h gone low in
     let there : get_elem? t.views other ≡ some (only who h) =
-    sym (set_else t.views id other (joined v me.0) apart) ∙ there'
+    sym (set_else t.views id other (union_of v me.0) apart) ∙ there'
     ∙ ap (λ (m : Me (Unit {0}) View). some m.0) alone in
     record {
       history = r.history;
@@ -62,7 +62,7 @@ return_asks may n count id other who v me h alone gone low t r at apart there' =
     }
 
 pub returned : (who : ℕ) (v : View) (me after : Me (Unit {0}) View) (h : List Access)
-    → me ≡ (only who h, []) → has v who ≡ None → who < length v → after.0 ≡ joined v me.0
+    → me ≡ (only who h, []) → has v who ≡ None → who < length v → after.0 ≡ union_of v me.0
     → after.0 ≡ slice_set v who (Some h)
 returned who v me after h alone gone low both =
-    both ∙ ap (λ (m : Me (Unit {0}) View). joined v m.0) alone ∙ joined_only v who h gone low
+    both ∙ ap (λ (m : Me (Unit {0}) View). union_of v m.0) alone ∙ joined_only v who h gone low

@@ -4,7 +4,7 @@ use Rattle.std.specs.List.{All}
 use Rattle.std.proofs.lemmas.List.{append-nil}
 use Rattle.std.proofs.lemmas.List.Elements.{All-nil, All-cons, All-head}
 use Rattle.shared_words.specs.Deeds.{Deed, Added, Stored, Loaded, Swapped, AreCalls}
-use Rattle.shared_words.specs.Histories.{Access, access, deeds_by, IsRight, IsLawfulHistory}
+use Rattle.shared_words.specs.Histories.{Access, access, deeds_by, IsRightAccess, IsLawfulHistory}
 use Rattle.shared_words.specs.Transcripts.{Transcript, AreOfOneHistory}
 use Rattle.shared_words.specs.Cases.{on_two_words, all_may, additions_may, adds_1, adds, three_additions, transcript, told_by_0, told_by_1}
 use Rattle.shared_words.proofs.Histories.{lawful_none, lawful_push}
@@ -12,7 +12,7 @@ use Rattle.shared_words.proofs.Histories.{lawful_none, lawful_push}
 -- Each of these accesses is right after those before it.
 abbrev pub AllRight : (ℕ → Deed → Type 0) → List Access → List Access → Type 0
 AllRight may before [] = Unit {0}
-AllRight may before (a ∷ rest) = IsRight may before a × AllRight may (before ++ a ∷ []) rest
+AllRight may before (a ∷ rest) = IsRightAccess may before a × AllRight may (before ++ a ∷ []) rest
 
 right_from : (may : ℕ → Deed → Type 0) (before rest : List Access) → IsLawfulHistory may before
     → AllRight may before rest → IsLawfulHistory may (before ++ rest)
@@ -82,14 +82,14 @@ store_forbidden lawful =
     let stored : Access = access 1 (Stored 1 7) in
     let rest : List Access =
     access 0 (Loaded 1 7) ∷ access 1 (Swapped 0 9 5) ∷ access 0 (Loaded 0 9) ∷ [] in
-    let right : IsRight additions_may (access 0 (Added 0 5 0) ∷ []) stored =
+    let right : IsRightAccess additions_may (access 0 (Added 0 5 0) ∷ []) stored =
     lawful (access 0 (Added 0 5 0) ∷ []) rest stored refl in
     let n : 1 ≡ 0 = ap kind_of right.allowed.3 in
     omega (arith, n)
 
 -- the second of two accesses finds what the first left
 second_right : (may : ℕ → Deed → Type 0) (a b : Access) → IsLawfulHistory may (a ∷ b ∷ [])
-    → IsRight may (a ∷ []) b
+    → IsRightAccess may (a ∷ []) b
 second_right may a b lawful = lawful (a ∷ []) [] b refl
 
 pub addition_of_what_was : IsLawfulHistory all_may (adds 0 0 ∷ adds 1 0 ∷ []) → ⊥
@@ -112,7 +112,7 @@ swap_of_what_was lawful =
 
 pub load_of_1_at_first : IsLawfulHistory all_may (access 0 (Loaded 0 1) ∷ []) → ⊥
 load_of_1_at_first lawful =
-    let right : IsRight all_may [] (access 0 (Loaded 0 1)) =
+    let right : IsRightAccess all_may [] (access 0 (Loaded 0 1)) =
     lawful [] [] (access 0 (Loaded 0 1)) refl in
     let n : 1 ≡ 0 = right.found in
     omega (arith, n)

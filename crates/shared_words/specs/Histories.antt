@@ -28,7 +28,8 @@ word_at place history = word_from place 0 history
 
 -- The access `a` comes after the accesses `before`: its caller may make it, and it found the word
 -- that `before` leaves at its place.
-pub record IsRight (may : ℕ → Deed → Type 0) (before : List Access) (a : Access) : Type 0 where
+pub record IsRightAccess (may : ℕ → Deed
+    → Type 0) (before : List Access) (a : Access) : Type 0 where
   pub allowed : may a.caller a.deed
   pub found : HasFound a.deed (word_at (place_of a.deed) before)
 
@@ -36,7 +37,7 @@ pub record IsRight (may : ℕ → Deed → Type 0) (before : List Access) (a : A
 abbrev pub IsLawfulHistory : (ℕ → Deed → Type 0) → List Access → Type 0
 IsLawfulHistory may history = (before rest : List Access) (a : Access)
     → history ≡ before ++ a ∷ rest
-    → IsRight may before a
+    → IsRightAccess may before a
 
 -- The history `after` is the history `before` after an access of caller `who` with this deed: it
 -- begins with `before`, ends with this access, and has no other new access of this caller.

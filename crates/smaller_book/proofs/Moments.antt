@@ -11,7 +11,7 @@ use Rattle.book_base.specs.Pruning.{HasOneOpen}
 use Rattle.book_base.proofs.ViewLemmas.{answer_stands, record_from_part, answered_at}
 use Rattle.book_laws.proofs.BookAt.{records-book_at}
 use Rattle.book_laws.proofs.BookAtLaws.{is_the_book_at}
-use Rattle.smaller_book.specs.Minimal.{IsMoment, MinimalAtMoments, FewCallsAtCuts, SeveralOpenAtCuts}
+use Rattle.smaller_book.specs.Minimal.{IsConsistentCut, MinimalAtMoments, FewCallsAtCuts, SeveralOpenAtCuts}
 
 -- Where a cut lies within a book's records, the book at the cut has of each caller as many records
 -- as the cut counts.
@@ -25,7 +25,7 @@ answers-cut book cut i within =
 -- In a valid book with one open, the view of a record that a moment holds counts for each caller at
 -- most one call more than the moment has records.
 moment_view : (book : List Page) (cut : List ℕ) (call : Call) (r : Record) (i : ℕ) → IsValid book
-    → HasOneOpen book → IsMoment book cut → Holds cut call → record_of book call ≡ Some r
+    → HasOneOpen book → IsConsistentCut book cut → Holds cut call → record_of book call ≡ Some r
     → get_or r.view i 0 ≤ get_or cut i 0 + 1
 moment_view book cut call r i valid one moment held known =
     elim (cases_lt (get_or cut i 0 + 1) (get_or r.view i 0)) [
@@ -44,7 +44,7 @@ moment_view book cut call r i valid one moment held known =
 
 -- At each moment within its records, a valid book with one open has one open.
 pub moment_open : (book : List Page) (cut : List ℕ) → IsValid book → HasOneOpen book
-    → IsMoment book cut → IsWithin cut (answered book) → HasOneOpen (book_at cut book)
+    → IsConsistentCut book cut → IsWithin cut (answered book) → HasOneOpen (book_at cut book)
 moment_open book cut valid one moment within call r i there =
     let whole = record_from_part book cut (book_at cut book) (is_the_book_at book cut valid) call r
     there in

@@ -92,8 +92,8 @@ pub record IsShrunk (kind : Kind) (book : List Page) (names : List (List ℕ))
 
 -- A cut is a moment of a book: with each record that it holds, it holds all records of the book
 -- whose views lie within that record's view.
-abbrev pub IsMoment : List Page → List ℕ → Type 0
-IsMoment book cut = (later earlier : Call) (r s : Record) → Holds cut later
+abbrev pub IsConsistentCut : List Page → List ℕ → Type 0
+IsConsistentCut book cut = (later earlier : Call) (r s : Record) → Holds cut later
     → record_of book later ≡ Some r → record_of book earlier ≡ Some s → IsWithin s.view r.view
     → Holds cut earlier
 
@@ -108,7 +108,7 @@ IsLegalAt kind book cut = (i : ℕ) → IsWithin cut (answered book)
 -- legal order at each moment that lacks one of its records.
 abbrev pub MinimalAtMoments : Type 0
 MinimalAtMoments = (kind : Kind) (book : List Page) (cut : List ℕ) → IsValid book → HasOneOpen book
-    → IsMinimal kind book → IsMoment book cut → IsLegalAt kind book cut
+    → IsMinimal kind book → IsConsistentCut book cut → IsLegalAt kind book cut
 
 -- A minimal book of at most `FEW_CALLS` calls has a legal order at each cut within its records that
 -- lacks one of them.

@@ -302,10 +302,7 @@ impl<R: Reader> RunSearch<'_, R> {
         let mut in_run = false;
         if let Some(value) = self.value_put(call) {
             is_taken = self.levels.on.is_taken(value);
-            in_run = is_taken
-                && !at.at_once
-                && self.is_put(at.forced)
-                && !self.is_forced(at, call);
+            in_run = is_taken && !at.at_once && self.is_put(at.forced) && !self.is_forced(at, call);
             if !may_put || (in_run && !self.may_stay(at, call, value)?) {
                 return Ok(None);
             }

@@ -15,16 +15,16 @@ use Rattle.reports.specs.ReportLayout.{lines_in}
 use Rattle.report_text.specs.declared.draft.Draft.{Draft}
 use Rattle.report_text.specs.ReportRules.{InLines, report_rules}
 use Rattle.report_text.specs.Drafts.{StandBefore, IsDraft}
-use Rattle.report_text.specs.Parts.{joined}
-use Rattle.report_text.proofs.OwnSteps.{length-joined, joined-push, sizes-push, draft-none}
+use Rattle.report_text.specs.Parts.{chained}
+use Rattle.report_text.proofs.OwnSteps.{length-chained, chained-push, sizes-push, draft-none}
 use Rattle.report_text.proofs.lines.read_callers.Goals as goal
 
 pub loop-i-init : goal.loop-i-init
 loop-i-init c =
     let calls = c.args.calls.now in
     let start = InLines c.args.kind calls [] (all_calls 0 calls) in
-    let none : joined (lines_in c.new-callers.result.items) ≡ [] =
-    ap (λ (os : List Own). joined (lines_in os)) c.new-callers.ensures.items in
+    let none : chained (lines_in c.new-callers.result.items) ≡ [] =
+    ap (λ (os : List Own). chained (lines_in os)) c.new-callers.ensures.items in
     let draft : Draft =
     record { book = c.in_ok-with_calls.field-0; limits = calls; seen = c.zero.result } in
     let made : draft.book ≡ unanswered_book calls = c.in_ok-with_calls.ensures in
@@ -51,9 +51,9 @@ loop-i-init c =
       size book e = ap (length {A = Page}) e ∙ length-map c.args.calls.now unanswered_page
 
 stand : (calls : List ℕ) (callers : List Own) (i : ℕ) → sizes (lines_in callers) ≡ take i calls
-    → StandBefore calls (joined (lines_in callers)) i 0
-stand calls callers i e = let total : length (joined (lines_in callers)) ≡ sum (take i calls) =
-    length-joined (lines_in callers) ∙ ap sum e in omega arith
+    → StandBefore calls (chained (lines_in callers)) i 0
+stand calls callers i e = let total : length (chained (lines_in callers)) ≡ sum (take i calls) =
+    length-chained (lines_in callers) ∙ ap sum e in omega arith
 
 pub returns-in_err-read_own-clause-refused : goal.returns-in_err-read_own-clause-refused
 returns-in_err-read_own-clause-refused c =
@@ -66,7 +66,7 @@ returns-in_err-read_own-clause-refused c =
     let next =
     next_caller calls l.i lt ∙ ap (λ (n : ℕ). calls_from l.i 0 n ++ later) (sym c.get.ensures) in
     let start = InLines c.args.kind calls [] (all_calls 0 calls) in
-    let told : List Line = joined (lines_in l.callers.items) in
+    let told : List Line = chained (lines_in l.callers.items) in
     let here = subst (λ (due : List Call). GoesTo report_rules start c.args.lines.now
     (InLines c.args.kind calls told due) l.lines) next l.invariant.goes in
     rw (p.1, p.2) (stops_then report_rules start _ c.args.lines.now l.lines
@@ -82,7 +82,7 @@ loop-i-preserved c =
     let next =
     next_caller calls l.i lt ∙ ap (λ (n : ℕ). calls_from l.i 0 n ++ later) (sym c.get.ensures) in
     let start = InLines c.args.kind calls [] (all_calls 0 calls) in
-    let told : List Line = joined (lines_in l.callers.items) in
+    let told : List Line = chained (lines_in l.callers.items) in
     let here = subst (λ (due : List Call). GoesTo report_rules start c.args.lines.now
     (InLines c.args.kind calls told due) l.lines) next l.invariant.goes in
     let lines = c.in_ok-read_own.field-0 in
@@ -90,8 +90,9 @@ loop-i-preserved c =
     let read = c.in_ok-read_own.ensures.found calls told later l.invariant.draft
     (stand calls l.callers.items l.i l.invariant.sizes) in
     let pushed = c.in_ok-push.ensures.items in
-    let all : told ++ lines.items ≡ joined (lines_in c.push.new.self.items) = sym
-    (joined-push l.callers.items own) ∙ ap (λ (os : List Own). joined (lines_in os)) (sym pushed) in
+    let all : told ++ lines.items ≡ chained (lines_in c.push.new.self.items) = sym
+    (chained-push l.callers.items own)
+    ∙ ap (λ (os : List Own). chained (lines_in os)) (sym pushed) in
     let size : length lines.items ≡ get_or calls l.i 0 =
     c.in_ok-read_own.ensures.count ∙ c.get.ensures in
     record {

@@ -13,7 +13,7 @@ use Rattle.book_text.proofs.CallTexts.{stops_then}
 use Rattle.book_text.proofs.Lifts.{few_calls}
 use Rattle.reports.specs.ReportLayout.{lines_in}
 use Rattle.report_text.specs.ReportRules.{InHead, InLines, report_rules, IsReportText}
-use Rattle.report_text.specs.Parts.{joined}
+use Rattle.report_text.specs.Parts.{chained}
 use Rattle.report_text.proofs.Readings.{head_within, report_no_end}
 use Rattle.report_text.proofs.Stages.{goes_to_lines, goes_to_end_line, is_text_read}
 use Rattle.report_text.proofs.ReadTexts.{read_is_written}
@@ -48,7 +48,7 @@ returns-in_err-read_end-clause-refused c =
     c.from_residual-in_err-read_end.ensures.1 in
     let kind = c.in_ok-head.head.kind in
     let calls = c.in_ok-head.head.calls in
-    let told = joined (lines_in c.in_ok-callers.callers.items) in
+    let told = chained (lines_in c.in_ok-callers.callers.items) in
     let so_far =
     goes_to_end_line c.args.bytes.now kind calls c.new-lines.result c.read_head.new.lines
     c.new-lines.ensures c.in_ok-head.ensures.found (lines_in c.in_ok-callers.callers.items)

@@ -2,7 +2,7 @@ use Rattle.std.proofs.Common.{◌≡◌, ◌∙◌, Some, decimal, sym, ap, arit
 use Rattle.std.specs.Prelude.{option_copied}
 use Rattle.std.proofs.lemmas.Option.{same_Some}
 use Rattle.text_fields.proofs.NumberTexts.{same_number}
-use Rattle.setbook_text.proofs.join_words.joined.Goals as goal
+use Rattle.setbook_text.proofs.join_words.join_number.Goals as goal
 
 pub returns-else-number-lt32-clause-none : goal.returns-else-number-lt32-clause-none
 returns-else-number-lt32-clause-none c = λ n small e.
