@@ -16,7 +16,7 @@ use std::alloc::Global;
 const MOST: u64 = 20_000;
 
 /// Tries the cuts within the record counts of the book with this text, at most the first `MOST` of
-/// them, and answers how many were tried. A cut at which the book has no legal order is an error.
+/// them, and returns how many were tried. It fails at a cut at which the book has no legal order.
 pub fn try_cuts(alloc: Global, text: &[u8]) -> Result<u64> {
     let (kind, book) = read_book(alloc, text).map_err(|_| anyhow!("the book can't be read"))?;
     let mut cut = Cut::zero(book.callers());
@@ -31,8 +31,8 @@ pub fn try_cuts(alloc: Global, text: &[u8]) -> Result<u64> {
     Ok(MOST)
 }
 
-// Whether the book at a cut has a legal order, by a search whose order is accepted. A cut that
-// isn't within the record counts of the book is an error.
+// Whether the search finds a legal order of the book at a cut, and the check of orders accepts it.
+// Fails where the cut isn't within the record counts of the book.
 fn is_legal_at(alloc: Global, kind: Kind, book: &Book, cut: &Cut) -> Result<bool> {
     if cut.n() != book.callers() || !is_within_records(book, cut) {
         return Err(anyhow!("the cut is outside of the records"));
@@ -69,8 +69,8 @@ fn is_within_records(book: &Book, cut: &Cut) -> bool
     true
 }
 
-// Makes a cut the next one within the record counts, where the count of the first caller rises
-// first. The answer is false after the last cut.
+// Changes a cut to the next one within the record counts: the first count that can rise does, and
+// those before it fall to 0. Returns false if the cut was the last one.
 fn step(book: &Book, cut: &mut Cut) -> bool {
     for i in 0..book.callers() {
         if i >= cut.n() {

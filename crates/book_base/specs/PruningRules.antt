@@ -118,7 +118,7 @@ held_back known call other =
           (max (slice_index call_bound.predecessor_bound other.caller) (other.number + 1));
     })
 
--- the pruning rules in which the limit of a call is raised to this one where it is lower
+-- the pruning rules in which a call's limit is raised to `limit`, if it is lower
 abbrev pub limited : Known → Call → ℕ → Known
 limited known call limit = let call_bound : CallBound = call_bound_of known call in
     with_call_bound known call (record call_bound { limit = max call_bound.limit limit })

@@ -45,8 +45,8 @@ pub fn orders_reach_place_by_place()
     // The empty order reaches the cut that holds no call, and the list with which the object
     // begins.
     ensures start { NoPlacesReachTheStart }
-    // An order with one more place, the next call of its caller, reaches the cut with that call and
-    // the list after its operation.
+    // Where an order reaches a cut and a list, the order with the next call of some caller as one
+    // more place reaches the cut with that call, and the list after its operation.
     ensures more { OneMorePlaceReachesOn }
     // An order reaches at most one cut of a given number of callers, and at most one list.
     ensures one { OneCutIsReached }

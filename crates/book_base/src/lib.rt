@@ -1,4 +1,4 @@
-//! Cuts, books, states and the trait of sequential objects, on which the crates above stand.
+//! Calls, cuts, books, states and the trait of sequential objects, on which most crates build.
 #![tactic(auto)]
 
 mod book;

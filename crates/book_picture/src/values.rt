@@ -1,4 +1,5 @@
-//! The values that calls show, and the classes that elements of calls have by these values.
+//! The values that calls show in the picture of a book, and the CSS classes of a call's SVG
+//! element: that of its value's colour, and that of a mark.
 
 ghost use Rattle.std.specs.Prelude.{◌≡◌, ◌==◌, [], ◌++◌, option_map, string_bytes, IfOk, OnOk};
 ghost use Rattle.std.specs.List.{position};
@@ -18,7 +19,7 @@ const COLOURS: usize = 8;
 /// Each value that a call shows is below this number.
 const VALUES: u64 = 1 << 32;
 
-/// The high word of a reply word that shows a value.
+/// The high 32 bits of a reply word that shows a value.
 const VALUE_TAG: u64 = 2;
 
 /// The values that the invoked calls of a list of events show, each once, in the order in which

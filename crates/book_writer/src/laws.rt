@@ -4,12 +4,12 @@
 
 ghost use Rattle.book_writer.specs.Laws.{WrittenBooksAreOne, NoBookTextBeginsAnother, NoSketchTextBeginsAnother};
 
-/// Two books with the same written text are equal, and so are their kinds, in both versions.
+/// In each version of the text two books with one written text are equal, and so are their kinds.
 pub fn written_books_are_one()
     ensures { WrittenBooksAreOne }
 {}
 
-/// No text of a book is a proper prefix of another's, in both versions.
+/// In each version no text of a book is a proper prefix of a text of another book.
 pub fn no_book_text_begins_another()
     ensures { NoBookTextBeginsAnother }
 {}

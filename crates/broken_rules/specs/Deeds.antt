@@ -26,7 +26,8 @@ counter_reading = record {
   values = λ list. [];
 }
 
--- How sets, maps and registers with compare-and-set are read: no operation is a put or a take.
+-- The reading by which no operation is a put or a take. Registers with compare-and-set are read so;
+-- sets and maps have this reading too, but what their calls did is told by the key (`did`).
 abbrev pub other_reading : Reading
 other_reading = record { deed = λ word. Neither; shown = shown_value; values = λ list. [] }
 
@@ -50,8 +51,8 @@ is_keyed _ = false
 abbrev pub key_of_word : Kind → ℕ → Option ℕ
 key_of_word kind word = if is_known_word kind word then Some (argument_of word) else None
 
--- Whether an operation word of a set or a map puts its key in: an `add` and a `put` have the
--- code 1.
+-- Whether an operation word of a set or a map puts its key in: whether it has the code 1, which is
+-- that of an `add` and of a `put`.
 abbrev pub puts_key : ℕ → Bool
 puts_key word = code_of word == 1
 
@@ -95,7 +96,7 @@ abbrev pub did : Kind → List Page → Call → Deal
 did kind book call =
     if is_keyed kind then deal_by_key kind book call else deal_of (reading_of kind) book call
 
--- The deal for which an act of the code stands.
+-- The deal that a value of the Rust enum `Act` stands for.
 abbrev pub deal_of_act : Act → Deal
 deal_of_act (acts.Put value) = deals.Put value
 deal_of_act (acts.Took value) = deals.Took value
@@ -109,7 +110,8 @@ value_by (deals.Put value) = value
 value_by (deals.Took value) = value
 value_by _ = 0
 
--- The value that a call of a book puts in, takes or shows, or 0 where it does none of these.
+-- The value that a call of a book puts in or takes, for a set or a map its key; 0 where the call
+-- does neither. An increment takes the count that it replies, and a read the value that it shows.
 abbrev pub value_at : Kind → List Page → Call → ℕ
 value_at kind book call = value_by (did kind book call)
 

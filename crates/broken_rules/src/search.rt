@@ -37,11 +37,11 @@ const RULES: [Rule; 12] = [
 /// For a rule of two calls all pairs of calls are tried, and for some pairs all calls of the book
 /// are looked at: the function is made for small books.
 pub fn broken_rule(kind: Kind, book: &Book) -> Option<BrokenRule>
-    // The book breaks the rule that is answered, by the calls that are answered.
+    // Where a rule is returned, the book breaks it by the two calls that are returned with it.
     ensures broken { IfSome result (λ broken. Breaks kind book.now broken) }
-    // A book of which a rule is answered has no legal order.
+    // Where a rule is returned, the book has no legal order.
     ensures illegal { IfSome result (λ _. ¬ HasLegalOrder (kind_spec kind) book.now) }
-    // Where none is answered, the book breaks no rule.
+    // Where `None` is returned, the book breaks no rule.
     ensures none { IfNone result ((broken : BrokenRule) → Breaks kind book.now broken → ⊥) }
 {
     let _callers = book.callers();

@@ -1,5 +1,5 @@
-//! The source that a program reads and the sink that it writes to, and the status that it ends
-//! with; and programs that read one input and write one output.
+//! Sources and sinks of bytes, the status that a program ends with, and programs that read one
+//! input and write one output.
 #![tactic(auto)]
 
 mod failed;

@@ -8,8 +8,8 @@ use frontier_check::{Verdict, check};
 use order_check::check_order;
 use std::alloc::Global;
 
-/// Whether a book has an order that `check` finds and `check_order` accepts. It has one exactly
-/// where it has a legal order: what `check` calls legal, `check_order` accepts.
+/// Whether the search `check` finds an order of a book that `check_order`, a test without a search,
+/// accepts. It does exactly where the book has a legal order.
 pub fn has_accepted_order<S: SeqObject>(
     alloc: Global,
     object: &S,

@@ -23,7 +23,8 @@ use Rattle.client_scripts.specs.Grammar.{call_words, stop_words, turns_words}
 
 -- ---- what the lines so far say
 
--- What the head says of calls, and what the lines after it say so far.
+-- What the lines of a script's text that are read so far say: how many calls the head gives each
+-- caller, and the operations and stops of the lines after it.
 pub record Begun : Type 0 where
   -- how many calls each caller makes
   pub calls : List ℕ
@@ -31,10 +32,12 @@ pub record Begun : Type 0 where
   pub operations : List ℕ
   -- for each caller its stop, where the lines so far give one
   pub stops : List (Option ℕ)
-  -- stops are given by rising callers: the callers from this one on may have a further stop
+  -- stops are listed in rising order of their callers: only callers from this number on may have a
+  -- stop in the remaining lines
   pub least : ℕ
 
--- what the head says of calls, with no operation and no stop yet
+-- what is known of a script once its head is read: how many calls each caller makes, no operation,
+-- and no stop
 abbrev pub begin : List ℕ → Begun
 begin calls =
     record { calls = calls; operations = []; stops = replicate (length calls) None; least = 0 }
@@ -77,8 +80,8 @@ pub data ScriptDue : Type 0 where
   Turned : Plan → ScriptDue
   AtEnd : Plan → ScriptDue
 
--- a state of reading the head as a state of reading the script: after the whole head the calls are
--- due
+-- the state of reading a script's text that a state of reading its head leads to; once the head is
+-- read whole, the lines of the calls are due
 abbrev pub after_head : HeadDue → ScriptDue
 after_head TitleDue = InHead TitleDue
 after_head ObjectDue = InHead ObjectDue
@@ -88,7 +91,7 @@ after_head (HeadRead kind calls) = InBody kind (begin calls) (all_calls 0 calls)
 
 -- ---- the lines of calls
 
--- a call whose caller and number can be written
+-- a call whose caller and number are below 2^64, as numbers in texts are
 abbrev pub IsNamedCall : Call → Type 0
 IsNamedCall call = AreNumbers (call.caller ∷ call.number ∷ [])
 
@@ -112,8 +115,9 @@ CallFails version kind call words _ = ⊥
 
 -- ---- the lines of stops and of turns
 
--- this stop may come next: its caller isn't below `least` and is one of the script's, and the
--- caller's calls have more phases than it makes before the stop
+-- a stop of `caller` after `phases` phases may come next: the caller is one of the script's, comes
+-- after each caller that has a stop already, and has more than `phases` phases in all its calls;
+-- both numbers are below 2^64
 pub record IsStop (begun : Begun) (caller phases : ℕ) : Type 0 where
   pub rising : begun.least ≤ caller
   pub inside : caller < length begun.calls

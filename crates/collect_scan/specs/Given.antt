@@ -48,8 +48,8 @@ CutsAreFew =
     → IsLocalOf s i after → HasScanned s.callers region opening cut before after
     → (j : ℕ) → slice_index cut j ≤ s.cap
 
--- What the cut of a scan serves, where the scan is one of this region and begins on the local
--- `before` with this opening: the row under way, the view, the seen cut, or nothing.
+-- What the cut of a scan of this region serves: the row under way, the view, the seen cut, or
+-- nothing. The scan begins on the local `before`, and `opening` says whether it is the view's scan.
 abbrev pub purpose_with : Local → Region → Opening → Purpose
 purpose_with before region opening =
     let l : Local = opened before region opening in
@@ -63,8 +63,8 @@ OwnEntriesAreCounts =
     → IsLocalOf s i after → HasScanned s.callers region opening cut before after
     → purpose_with before region opening ≢ For_nothing → slice_index cut i ≡ own_count after region
 
--- The cut's entry for each caller is at least each count of that caller in the region that the
--- caller with the local `l` has looked at.
+-- Each count of the region that the caller with the local `l` has looked at is at most the cut's
+-- entry for the caller whose count it is.
 abbrev pub HoldsLooks : Region → List ℕ → Local → Type 0
 HoldsLooks region cut l = (p : ℕ) (look : Looked) → slice_get l.looked p ≡ Some look
     → look.region ≡ region → look.count ≤ slice_index cut look.caller
@@ -92,7 +92,7 @@ GivenRowsAreKnown =
     (n : ℕ) (l : Local) (p j k : ℕ) (given : Given) → slice_get l.cuts p ≡ Some given
     → k < slice_index given.cut j → IsTrue (knows_row n l given.region j k)
 
--- In each local of a reachable world that isn't in the phase view, no view's scan is under way.
+-- In a local of a reachable world the view's scan is under way only if the local's phase is view.
 abbrev pub ViewScansHavePhase : Type 0
 ViewScansHavePhase = (s : Shape) (i : ℕ) (l : Local) → IsLocalOf s i l → l.phase ≢ Viewing
     → is_view_under_way l.scan ≡ false

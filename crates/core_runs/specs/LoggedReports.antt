@@ -1,4 +1,5 @@
--- What a report of callers says of the object inside the world that answered them.
+-- What the report of a run over an object inside the world says of the calls that this object
+-- answered.
 use Rattle.std.specs.Prelude.{ℕ, List, length, map, slice_index}
 use Rattle.book_base.specs.SeqSpec.{SeqSpec}
 use Rattle.world_core.specs.Local.{Local}

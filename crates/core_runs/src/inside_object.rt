@@ -31,8 +31,8 @@ impl<O: CoreObject> Asks for InsideObject<'_, O> {
     ghost fits = { λ asks. fits_inside (O.fits asks.object.now) };
 
     fn ask(&self, announced: Announced<O::P>, pass: &mut O::Pass) -> Answered<O::P>
-        // The caller is one of the rows on which the object makes its steps, and these rows were
-        // opened with the object's program.
+        // The announced call's caller belongs to the rows on which the object makes its steps, and
+        // these rows were opened with the object's program.
         requires table { (r : TheRows O.P)
             × ServesItsRows O.P.meaning (O.program_of self.now.object.now) self.now.rows.now r
             × IsCallerOf O.P.meaning r (caller_announced announced) }
@@ -43,7 +43,8 @@ impl<O: CoreObject> Asks for InsideObject<'_, O> {
             (caller_announced announced) }
         // The answered call is of the announced call's caller.
         ensures who { who_of (caller_answered result) ≡ who_announced announced }
-        // Where the caller is one of the rows on which the object makes its steps, it still is.
+        // Where the announced call's caller belongs to the rows on which the object makes its
+        // steps, the answered call's caller belongs to them too.
         ensures rows { (r : TheRows O.P)
             → ServesItsRows O.P.meaning (O.program_of self.now.object.now) self.now.rows.now r
             → IsCallerOf O.P.meaning r (caller_announced announced)

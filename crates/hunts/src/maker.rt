@@ -9,9 +9,9 @@ use std::alloc::Global;
 
 /// Makes the objects that a hunt runs over: a new one for each run.
 pub trait Maker<B: BlackBox> {
-    /// Opens an object for the callers of a script, with an unused pass for each caller, in order,
-    /// with which one call may be made for each of its operations. The object may keep the noise,
-    /// and pause with it inside its calls, at steps where it may be wrong.
+    /// Opens an object for the callers of a script, and an unused pass for each caller, in order,
+    /// for at least as many calls as the caller has operations. The object may keep `noise`, and
+    /// pause with it within its calls, at steps where it may be wrong.
     fn open(
         &self,
         alloc: Global,

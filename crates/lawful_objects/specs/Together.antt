@@ -21,9 +21,9 @@ LoadsFindTheLast history = (before rest : List Access) (who found : ℕ)
 abbrev pub increments_in : Transcript → ℕ
 increments_in t = count_by (λ pair. pair.0 == increment) t.pairs
 
--- The calls of all n callers of a tally are of this one history of increments. The history has as
--- many increments as the transcripts, each found the number of those before it, and the word is
--- left as the number of all, modulo 2^64.
+-- The transcripts are those of all n callers of a tally, and this lawful history has just the
+-- increments of their calls. Each increment found the number of those before it, and the word ends
+-- as the number of all increments, both modulo 2^64.
 pub record TellOneTally (n : ℕ) (history : List Access)
     (transcripts : List Transcript) : Type 0 where
   pub told : AreOfOneHistory tally_may (λ _. IsTallied) n history transcripts
@@ -31,16 +31,17 @@ pub record TellOneTally (n : ℕ) (history : List Access)
   pub all : length history ≡ sum_by increments_in transcripts
   pub word : word_at 0 history ≡ sum_by increments_in transcripts % 2 ^ 64
 
--- The calls of all n callers of a cell are of this one history of stores and loads. Each load found
--- what the last store before it stored, and the word is left as the last one stored; both are 0
--- where no store comes before.
+-- The transcripts are those of all n callers of a cell, and this lawful history has just the stores
+-- and loads of their calls. Each load found the word that the last store before it stored, or 0
+-- where there is none. The word ends as the last one stored, or as 0 where none was stored.
 pub record TellOneCell (n : ℕ) (history : List Access)
     (transcripts : List Transcript) : Type 0 where
   pub told : AreOfOneHistory cell_may (λ _. IsCellCall) n history transcripts
   pub found : LoadsFindTheLast history
   pub word : IsLastStored (word_at 0 history) history
 
--- In the history of a tally each increment found the number of those before it.
+-- In each lawful history of a tally each increment found the number of those before it, modulo
+-- 2^64.
 abbrev pub TalliesAreCounted : Type 0
 TalliesAreCounted = (history : List Access) → IsLawfulHistory tally_may history → AreCounted history
 

@@ -37,14 +37,15 @@ is_exchange total number l step =
     && (not (is_known (placed_at total (ticket_of number) (steps_now l)))
     && step.new == (if step.old == 0 then ticket_of number else step.old)))))
 
--- Whether an object word, by its place, is one of the operation of a call whose ticket is known to
--- be below place p of the log, that of a call's own ticket; no where the own ticket isn't placed.
+-- Whether `steps` show, below place p of the log, the ticket of a call whose operation has a word
+-- at `place` of the object words. p is the place of the asking call's own ticket; false without it.
 abbrev pub is_named_before : Option ℕ → ℕ → List Object_step → ℕ → Bool
 is_named_before None total steps place = false
 is_named_before (Some p) total steps place = is_named_below total steps place p
 
--- Whether a step loads, and leaves as it is, a word of the operation of a call whose ticket is
--- known to be below the own ticket of the call under way, which is placed.
+-- Whether a step loads a word of some call's operation, and leaves it as it is. The ticket of the
+-- call under way has a place in the log, and the caller knows that the ticket of the call whose
+-- word it loads stands below this place.
 abbrev pub is_load : ℕ → ℕ → Local → Object_step → Bool
 is_load total number l step =
     step.new == step.old && is_named_before (placed_at total (ticket_of number) (steps_now l)) total
@@ -63,8 +64,9 @@ reply_if_known spec operation None = None
 reply_if_known spec operation (Some operations) =
     Some (spec.next (list_of spec.next spec.init operations) operation).1
 
--- The reply to an operation whose ticket is at place p of the log; none where some steps don't show
--- all operations of the tickets below p, or the ticket has no place.
+-- The reply to an operation whose ticket is at place p of the log, after the operations of the
+-- tickets below p. None where the ticket has no place, or where `steps` don't show all these
+-- operations.
 abbrev pub known_reply : SeqSpec → ℕ → ℕ → List Object_step → Option ℕ → Option ℕ
 known_reply spec total operation steps None = None
 known_reply spec total operation steps (Some p) =

@@ -1,5 +1,5 @@
-//! Runs that are worked by hand, and beside them lists of steps that are no run, since a reply is
-//! another operation's, or comes too early or too late.
+//! Runs of six kinds that are worked by hand, and lists of operations with replies that are no
+//! runs: each has a reply that the object doesn't give after the operations before it.
 
 ghost use Rattle.std.specs.Prelude.{[], ◌∷◌};
 ghost use Rattle.seq_objects.specs.declared.kind.Kind.TheVariants as kinds;

@@ -75,9 +75,9 @@ progress_of l = record { calls = calls_in l; published = l.published; steps = al
 abbrev pub no_progress : Progress
 no_progress = record { calls = []; published = 0; steps = [] }
 
--- A caller with these operations has exactly this progress after its first p phases: its calls have
+-- A caller with these operations may have this progress after its first p phases: its calls have
 -- the first operations, in order; each call has come as far as these phases bring it; and as many
--- records are published as these phases publish.
+-- records are published as these phases publish. The object steps may be any.
 pub record IsProgressAfter (operations : List ℕ) (p : ℕ) (progress : Progress) : Type 0 where
   pub in_order : operations_of progress.calls ≡ take (begun p) operations
   pub marks : marks_of progress.calls ≡ marks_after p

@@ -16,25 +16,29 @@ ghost use Rattle.world_core.specs.Event.{Announce, Object, local_after};
 /// phases: the announcement is the first of a call's five phases, then come the object's answer,
 /// the view, the publication and the verdict.
 pub fn phases_are_five_for_each_call()
-    // After each of 0 to 11 phases 0, 1, 1, 1, 1, 1, 2, 2, 2, 2, 2 and 3 calls are announced.
+    // After 0, 1, 2 and so on up to 11 phases this many calls are announced: 0, 1, 1, 1, 1, 1, 2,
+    // 2, 2, 2, 2 and 3.
     ensures begun { map begun (range_with_len 0 12)
         ≡ 0 ∷ 1 ∷ 1 ∷ 1 ∷ 1 ∷ 1 ∷ 2 ∷ 2 ∷ 2 ∷ 2 ∷ 2 ∷ 3 ∷ [] }
-    // After each of 0 to 11 phases 0, 0, 1, 1, 1, 1, 1, 2, 2, 2, 2 and 2 calls were asked of the
-    // object.
+    // After 0, 1, 2 and so on up to 11 phases this many calls were asked of the object: 0, 0, 1, 1,
+    // 1, 1, 1, 2, 2, 2, 2 and 2.
     ensures asked { map asked (range_with_len 0 12)
         ≡ 0 ∷ 0 ∷ 1 ∷ 1 ∷ 1 ∷ 1 ∷ 1 ∷ 2 ∷ 2 ∷ 2 ∷ 2 ∷ 2 ∷ [] }
-    // After each of 0 to 11 phases 0, 0, 0, 1, 1, 1, 1, 1, 2, 2, 2 and 2 calls have their record.
+    // After 0, 1, 2 and so on up to 11 phases this many calls have their record: 0, 0, 0, 1, 1, 1,
+    // 1, 1, 2, 2, 2 and 2.
     ensures answered { map answered (range_with_len 0 12)
         ≡ 0 ∷ 0 ∷ 0 ∷ 1 ∷ 1 ∷ 1 ∷ 1 ∷ 1 ∷ 2 ∷ 2 ∷ 2 ∷ 2 ∷ [] }
-    // After each of 0 to 11 phases 0, 0, 0, 0, 1, 1, 1, 1, 1, 2, 2 and 2 records are published.
+    // After 0, 1, 2 and so on up to 11 phases this many records are published: 0, 0, 0, 0, 1, 1, 1,
+    // 1, 1, 2, 2 and 2.
     ensures published { map published_by (range_with_len 0 12)
         ≡ 0 ∷ 0 ∷ 0 ∷ 0 ∷ 1 ∷ 1 ∷ 1 ∷ 1 ∷ 1 ∷ 2 ∷ 2 ∷ 2 ∷ [] }
-    // After each of 0 to 11 phases 0, 0, 0, 0, 0, 1, 1, 1, 1, 1, 2 and 2 calls are judged.
+    // After 0, 1, 2 and so on up to 11 phases this many calls are judged: 0, 0, 0, 0, 0, 1, 1, 1,
+    // 1, 1, 2 and 2.
     ensures judged { map judged_by (range_with_len 0 12)
         ≡ 0 ∷ 0 ∷ 0 ∷ 0 ∷ 0 ∷ 1 ∷ 1 ∷ 1 ∷ 1 ∷ 1 ∷ 2 ∷ 2 ∷ [] }
 {}
 
-/// The marks of a caller's calls, after each of 0 to 11 phases.
+/// The marks of a caller's calls after each of 0 to 8 phases, and after 11.
 pub fn marks_tell_how_far_calls_are()
     // After no phase there is no mark.
     ensures none { marks_after 0 ≡ [] }
@@ -186,7 +190,7 @@ pub fn callers_are_given_phases()
     ensures with_stop { phases_for (Some 4) 3 ≡ 4 }
     // A caller that stops at once is given no phase.
     ensures stop_at_once { phases_for (Some 0) 3 ≡ 0 }
-    // A caller has as many turns as the list of turns names it.
+    // A caller has one turn for each time that the list of turns names it.
     ensures turns { map (turns_of (1 ∷ 0 ∷ 1 ∷ 2 ∷ 1 ∷ [])) (0 ∷ 1 ∷ 2 ∷ 3 ∷ [])
         ≡ 1 ∷ 3 ∷ 1 ∷ 0 ∷ [] }
     // Three callers with 2, 2 and 1 calls are given 6, 10 and 3 phases, where the first stops after
@@ -209,8 +213,8 @@ pub fn callers_are_given_phases()
     ensures published_later { published_in (6 ∷ 10 ∷ 4 ∷ []) worked_lines ≡ 1 ∷ 1 ∷ 1 ∷ [] }
 {}
 
-/// Which lines a caller with the operations 5 and 7 has for an allotment of 0 to 10 phases: one
-/// line for each call that it made, in order, and none after an error.
+/// Which lines a caller with the operations 5 and 7 has for an allotment of 0 to 6, of 10 and of 11
+/// phases: one line for each call that it made, in order, and none after an error.
 pub fn lines_are_those_of_the_allotment()
     // Without a phase a caller has no line.
     ensures none { IsAllotted (5 ∷ 7 ∷ []) 0 [] }
@@ -258,9 +262,9 @@ pub fn lines_are_those_of_the_allotment()
         (delivered 5 first [] ∷ delivered 7 first [] ∷ pending 0 ∷ []) }
 {}
 
-/// When seen cuts fit one another and the published records. A seen cut doesn't fit that has too
-/// few counts, lacks its own line's call, holds a later call of its own caller or a record that
-/// isn't published, or isn't comparable with another seen cut.
+/// When seen cuts fit one another and the published records. A seen cut doesn't fit where it has
+/// too few counts, lacks its own line's call, holds a later call of that line's caller or a record
+/// that isn't published, or isn't comparable with another seen cut.
 pub fn seen_cuts_fit()
     // The seen cuts of the worked lines fit one another and the published records.
     ensures worked { AreSeen (published_in (6 ∷ 10 ∷ 3 ∷ []) worked_lines) worked_lines }
@@ -275,9 +279,9 @@ pub fn seen_cuts_fit()
         (seen_by_second (1 ∷ 1 ∷ 1 ∷ [])) }
     // A seen cut with two counts for three callers doesn't fit.
     ensures narrow { ¬ AreSeen (1 ∷ 1 ∷ 0 ∷ []) (seen_by_second (1 ∷ 1 ∷ [])) }
-    // A seen cut that lacks its own call doesn't fit.
+    // A seen cut that lacks the call of its own line doesn't fit.
     ensures lacks_its_own { ¬ AreSeen (1 ∷ 1 ∷ 0 ∷ []) (seen_by_second (1 ∷ 0 ∷ 0 ∷ [])) }
-    // A seen cut with a later call of its own caller doesn't fit.
+    // A seen cut that holds a call of its line's caller after the line's own call doesn't fit.
     ensures own_later_one { ¬ AreSeen (1 ∷ 2 ∷ 0 ∷ []) (seen_by_second (1 ∷ 2 ∷ 0 ∷ [])) }
     // A seen cut that isn't comparable with another line's doesn't fit.
     ensures crossing { ¬ AreSeen (1 ∷ 1 ∷ 1 ∷ []) (seen_by_second (0 ∷ 1 ∷ 0 ∷ [])) }
@@ -298,16 +302,17 @@ pub fn seen_cuts_of_errors_fit()
         (failed_by_second (1 ∷ 1 ∷ 1 ∷ [])) }
     // An error's seen cut with two counts for three callers doesn't fit.
     ensures narrow { ¬ AreSeen (1 ∷ 1 ∷ 0 ∷ []) (failed_by_second (1 ∷ 1 ∷ [])) }
-    // An error's seen cut that lacks its own call doesn't fit.
+    // An error's seen cut that lacks the call of its own line doesn't fit.
     ensures lacks_its_own { ¬ AreSeen (1 ∷ 1 ∷ 0 ∷ []) (failed_by_second (1 ∷ 0 ∷ 0 ∷ [])) }
-    // An error's seen cut with a later call of its own caller doesn't fit.
+    // An error's seen cut that holds a call of its line's caller after the line's own call doesn't
+    // fit.
     ensures own_later_one { ¬ AreSeen (1 ∷ 2 ∷ 0 ∷ []) (failed_by_second (1 ∷ 2 ∷ 0 ∷ [])) }
     // An error's seen cut that isn't comparable with another line's doesn't fit.
     ensures crossing { ¬ AreSeen (1 ∷ 1 ∷ 1 ∷ []) (failed_by_second (0 ∷ 1 ∷ 0 ∷ [])) }
 {}
 
-/// The greatest delivered cut is the seen cut of a delivered line, in whatever place, and never an
-/// error line's; where no line is delivered, all its counts are 0.
+/// The greatest delivered cut has for each caller the greatest count in the delivered lines' seen
+/// cuts, or 0 where no line is delivered; the seen cuts of error lines don't count.
 pub fn greatest_delivered_cuts()
     // The delivered cuts of three delivered lines and an error line are the seen cuts of the three
     // delivered ones.

@@ -1,12 +1,13 @@
--- A worked caller that is back: its first call is judged, and its second one announced.
+-- Worked cases of a caller that is back on its bench after its second announcement, with its first
+-- call judged.
 use Rattle.std.specs.Prelude.{◌≡◌, ℕ, List, [], ◌∷◌, length, Option, Some, None}
 use Rattle.world_core.specs.Local.{Local, fresh}
 use Rattle.world_core.specs.Programs.{outside}
 use Rattle.script_workers.specs.Returns.{IsBackWith}
 
--- The local of a caller in its second call, with this operation and this number of published
--- records. The first call has the operation 5, was answered 50, and saw a cut after that; the
--- second one is announced.
+-- The local of a caller that has announced its second call, with the operation `second`, and
+-- published `published` records. The first call had the operation 5 and the reply 50, and the
+-- caller has seen one cut after it.
 abbrev pub in_second_call : ℕ → ℕ → Local
 in_second_call second published = record fresh {
   operations = 5 ∷ second ∷ [];
@@ -23,8 +24,8 @@ pub record Pass : Type 0 where
   pub made : ℕ
   pub told : Option (List (ℕ × ℕ))
 
--- The caller with the operations 5 and 7 that is given this many phases is back with this local and
--- this pass, and has made p of them.
+-- The only caller of a world, with the operations 5 and 7 and an allotment of `given` phases, is
+-- back on the bench with this local and this pass, after `p` phases.
 abbrev pub IsBackAfter : ℕ → ℕ → Local → Pass → Type 0
 IsBackAfter given p l pass =
     IsBackWith (record { callers = 1; cap = 2; program = outside })
@@ -32,7 +33,8 @@ IsBackAfter given p l pass =
     (λ (pass : Pass). Some (record { made = pass.made; room = 2; told = pass.told }))
     ((5 ∷ 7 ∷ []) ∷ []) (given ∷ []) 0 p l pass
 
--- The local `l`, but with an object step in its second call.
+-- The local `l` with one object step, made in its caller's second call, in place of its object
+-- steps.
 abbrev pub with_object_step : Local → Local
 with_object_step l =
     record l { object_steps = [] ∷ (record { place = 0; old = 0; new = 1 } ∷ []) ∷ [] }

@@ -25,8 +25,8 @@ use std::alloc::Global;
 use std::thread::Threads;
 use text_fields::{Lines, Version, Words, are_words, callers_of};
 
-/// Runs the script that the bytes read are the text of over the object of a behaviour, while two
-/// monitors watch, and writes what the monitors found.
+/// Reads a script from bytes, runs it over the object of a behaviour while two monitors watch, and
+/// writes what the monitors found, or the first fault of the bytes.
 pub(crate) fn monitor_script<R: Threads + Sync, K: Sink>(
     rt: &R,
     alloc: Global,
@@ -45,7 +45,8 @@ pub(crate) fn monitor_script<R: Threads + Sync, K: Sink>(
     }
 }
 
-/// The script that an input is the text of, where it leaves two callers for the monitors.
+/// The script whose text the bytes are, if it leaves two callers for the monitors; else the first
+/// fault, or that memory is lacking.
 fn read_monitored(alloc: Global, bytes: &[u8]) -> Result<Script, ReadFault>
     ensures short { IfOk result (λ _. length bytes.now ≤ INPUT_LIMIT) }
     ensures script { IfOk result (λ script. IsScriptText Second bytes.now script) }
@@ -62,8 +63,8 @@ fn read_monitored(alloc: Global, bytes: &[u8]) -> Result<Script, ReadFault>
     read_script(alloc, bytes)
 }
 
-/// Whether the first three lines are those of a script of too many callers to leave two for the
-/// monitors.
+/// Whether the first three lines are those of a script that has so many callers that the two
+/// monitors would be more than a table can have.
 fn is_crowded(bytes: &[u8]) -> bool
     ensures { IsTrue result ↔ IsCrowded bytes.now }
 {

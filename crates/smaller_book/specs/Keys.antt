@@ -22,8 +22,9 @@ abbrev pub value_shown : Option ℕ → Option ℕ
 value_shown None = None
 value_shown (Some reply) = shown_value reply
 
--- The value that an operation puts in, where `put` is its entry in the table of operations; for any
--- other operation the value that its reply shows, where it has a reply that shows one.
+-- The value that an operation puts in, if its entry in the table of operations is `put`, the entry
+-- of a kind's put. For any other operation the value that its reply shows, where it has a reply
+-- that shows one.
 abbrev pub value_moved : OperationEntry → ℕ → Option ℕ → Option ℕ
 value_moved put word reply =
     if is_operation_of word put then Some (argument_of word) else value_shown reply
@@ -46,8 +47,8 @@ key_by_kind kinds.CasRegister word reply = None
 abbrev pub key_of_step : Kind → ℕ → Option ℕ → Option ℕ
 key_of_step kind word reply = if is_known_word kind word then key_by_kind kind word reply else None
 
--- The key that a call of a book is about, by its operation and its recorded reply; an unanswered
--- take is about no key.
+-- The key that a call of a book is about, by its operation and its recorded reply. An unanswered
+-- take of a queue, a stack or a priority queue is about no key.
 abbrev pub key_of_call : Kind → List Page → Call → Option ℕ
 key_of_call kind book call = key_of_step kind (unwrap_or (operation_of book call) 0)
     (option_map (λ r. r.reply) (record_of book call))
@@ -107,8 +108,8 @@ IsWellFormed kinds.Register list = Unit {0}
 IsWellFormed kinds.Counter list = Unit {0}
 IsWellFormed kinds.CasRegister list = Unit {0}
 
--- From whichever well-formed list the object begins: where the book has a legal order, the part has
--- one from the list without the items of these keys.
+-- For each well-formed list: if the book has a legal order from this list on, the part has one from
+-- the list without the items of these keys.
 abbrev pub CarriesOverWithout : Kind → (ℕ → Bool) → List Page → List Page → Type 0
 CarriesOverWithout kind keys book part = (list : List ℕ) → IsWellFormed kind list
     → HasLegalOrder (spec_from list (kind_next kind)) book
@@ -126,9 +127,9 @@ EvidenceTells = (kind : Kind) (book part : List Page) → IsEvidence kind book p
     → HasLegalOrder (kind_spec kind) book
     → HasLegalOrder (kind_spec kind) part
 
--- Where each view holds at most one unanswered call of each caller, a legal order of the book gives
--- one of the part without all calls that are about these keys, from the list without the items of
--- these keys.
+-- Each view holds at most one unanswered call of each caller. If the book then has a legal order
+-- from a well-formed list on, the part without all calls that are about these keys has one from
+-- that list without the items of these keys.
 abbrev pub HasOneWithoutKeys : Type 0
 HasOneWithoutKeys = (kind : Kind) (keys : ℕ → Bool) (book part : List Page)
     → HasOneOpen book → IsPart book (all_without kind keys book) part

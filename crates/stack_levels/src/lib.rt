@@ -1,7 +1,7 @@
-//! Decides the books of stacks by levels, without a search of orders. The search is for pairs of a
-//! level and a cut; an order that it finds is judged before it is delivered. A book has no legal
-//! order where each call that has to be tried, at the pair of the start and at all pairs that
-//! follow from it, leads to one of these pairs.
+//! Decides the books of stacks by a search for pairs of a level and a cut, which keeps no lists of
+//! the stack. An order that it finds is checked before it is delivered. A book is said to have no
+//! legal order only where counts of puts and takes show it, or each call that has to be tried at a
+//! pair that was found leads to such pairs alone.
 #![tactic(auto)]
 
 pub mod cases;

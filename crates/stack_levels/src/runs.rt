@@ -14,47 +14,49 @@ use queue_pairs::Table;
 use stack_pruning::Top;
 use std::cmp::Reverse;
 
-/// A search as `LevelSearch` makes it, which leaves out more, so that it finds orders with far
-/// fewer nodes. What it leaves out is no matter of one cut and one list: of all orders that go on
-/// from a node it tries those that take what is on the list as soon as may be, and that put in as
-/// few items as may be before the forced put. The items that are put in right before a forced put
-/// are a *run*.
+/// A search for a node whose cut holds all answered calls, as `LevelSearch` makes it, but with more
+/// left out, so that it finds orders with far fewer nodes. The puts right before a forced put, none
+/// of them forced, are a *run*. A rule of the search looks at all orders that go on from a node,
+/// not at one cut and one list alone. Of these orders, the search tries those that take each item
+/// as early as possible and have runs as short as possible.
 ///
-/// - After a put of a run nothing is taken before the forced put.
-/// - What is put in on an item of a run, right after it, isn't taken within the view of the put of
-///   this item: that put could as well stand after that take, and the run would be shorter.
-/// - A take that could have been made before a put isn't made right after the item of that put was
-///   taken: it could as well stand before that put.
-/// - Nor does such a take take the item of that put, where an item of the same value lies right
-///   below: it could as well take that one before.
+/// - After a put of a run, only puts are tried until the forced put.
+/// - An item that is put in right after a put of a run isn't taken within the view of that put,
+///   since the put could stand after the take, which makes the run shorter.
+/// - Once the item of a put is taken, a take isn't tried next if it could have been made before
+///   that put, since it could stand there.
+/// - A take that could have been made before a put doesn't take that put's item where an item of
+///   the same value lies right below, since it could have taken the lower item before the put.
 ///
-/// By these rules an item stays on the list for a while: that of a run past the view of its put,
-/// and the last item of a list past each take of its value that may come next, where a put comes
-/// next. Meanwhile takes find what was put in meanwhile. So counts of puts and takes of each value
-/// tell of some puts that they needn't be tried.
+/// By these rules some items stay on the list for a while: the item of a put of a run past that
+/// put's view, and, where a put comes next, the last item past each take of its value that may come
+/// next. Meanwhile takes can only find what is put in meanwhile. So counts of puts and takes of
+/// each value rule out some puts.
 pub struct RunSearch<'a, R> {
     pub levels: LevelSearch<'a, R>,
     pub calls: &'a Table,
 }
 
-/// A beginning of a level, and the caller of the put that begins it, where this is a put of a run.
+/// The number of a cut and what is known of the lists after it. `run` is the caller of the put that
+/// leads to this cut and begins a level there, if that put is one of a run.
 #[derive(Clone, Copy, Debug, PartialEq, Eq, Hash)]
 struct RunBeginning {
     at: Beginning,
     run: Option<u32>,
 }
 
-/// How a level was laid on another one: the forced call at the put that began it, where takes that
-/// its view holds had been tried before this put; and the put of the level below, where that is a
-/// put of a run right before this one.
+/// How one level was laid on another by a put. `tried` is the forced call at the node where the put
+/// was made, unless one call sufficed there: then takes that its view holds were to be tried before
+/// the put. `over` is the put that began the level below, where it is one of a run and stands right
+/// before.
 #[derive(Clone, Copy, Debug, PartialEq, Eq)]
 struct Way {
     tried: Option<Call>,
     over: Option<Call>,
 }
 
-/// What is to be tried at a cut and a top: the forced call, whether one call suffices, and the
-/// calls.
+/// What is to be tried at a cut and a top: the forced call, whether only the next call of one
+/// caller has to be tried, and the calls to be tried.
 #[derive(Drop)]
 struct RunSteps {
     forced: Call,
@@ -62,8 +64,8 @@ struct RunSteps {
     steps: Vec<RunStep>,
 }
 
-/// A call that is to be tried, the number of the cut that it leads to, and where it puts in a value,
-/// whether some answered call takes this value, and whether the put is one of a run.
+/// A call to be tried and the number of the cut after it. Of a put, `is_taken` says whether an
+/// answered call takes its value, and `in_run` whether it is one of a run.
 #[derive(Clone, Copy)]
 struct RunStep {
     call: Call,
@@ -72,8 +74,8 @@ struct RunStep {
     in_run: bool,
 }
 
-/// A cut and what is known of a list after it, with what is to be tried there: the forced call, the
-/// moment of its view, and whether one call suffices.
+/// The counts of a cut and what is known of a list after it, with the forced call there, how many
+/// calls its view counts, and whether only the next call of one caller has to be tried.
 #[derive(Clone, Copy)]
 struct RunLook {
     counts: [u16; MAX_CALLERS],
@@ -83,9 +85,10 @@ struct RunLook {
     at_once: bool,
 }
 
-/// The levels that were found, with what began each and how it was laid on its parents; the nodes
-/// that are still to be looked at; for each node the call whose view holds the takes that needn't
-/// be tried there; and what is to be tried at the beginnings that were looked at.
+/// How far a search has come: the table of levels and nodes; of each level how it begins, and how
+/// it was laid on each parent; the numbers of the nodes still to be looked at; of each node, the
+/// call whose view holds the takes that needn't be tried there; how often a node was reached; and
+/// the beginnings that were looked at, each with what is to be tried at it.
 #[derive(Drop)]
 struct RunState {
     table: LevelTable,
@@ -98,9 +101,10 @@ struct RunState {
     steps: Vec<RunSteps>,
 }
 
-/// A node, its number, what is known of the lists that its level ends, the forced call, whether one
-/// call suffices, the put of the level where it is one of a run and nothing followed it yet, and
-/// the call whose view holds the takes that needn't be tried.
+/// A node that is looked at: its number and key, what is known of the lists that its level's item
+/// ends, the forced call, and whether only the next call of one caller has to be tried. `over` is
+/// the put of a run that leads to the node, where nothing came after it, and `tried` the call whose
+/// view holds the takes that needn't be tried there.
 #[derive(Clone, Copy)]
 struct RunHere {
     place: usize,
@@ -172,8 +176,8 @@ impl<R: Reader> RunSearch<'_, R> {
         Ok(progress)
     }
 
-    // Follows each call that is to be tried from a node. Answers whether no call is, since the cut
-    // holds all answered calls.
+    // Follows each call that is to be tried at a node. Answers `true` where the node's cut holds
+    // all answered calls, so that no call is.
     fn look_at(&self, progress: &mut RunState, place: usize) -> Result<bool, NoMemory>
         requires sight { ListsValues (R.reading self.now.levels.on.now.reader.now)
             self.now.levels.on.now.book.now self.now.levels.on.now.sight.now }
@@ -220,9 +224,9 @@ impl<R: Reader> RunSearch<'_, R> {
         Ok(false)
     }
 
-    // The number of the list of calls that are to be tried at a cut and a top; each such list is
-    // made once. There is none where the cut holds all answered calls. After a put of a run, only
-    // puts are to be tried.
+    // The number of the list of calls that are to be tried at a cut and a top, which is made once
+    // and kept; or `None` where the cut holds all answered calls. After a put of a run, the list
+    // has only puts.
     fn steps_at(&self, progress: &mut RunState, at: RunBeginning) -> Result<Option<usize>, NoMemory>
         requires sight { ListsValues (R.reading self.now.levels.on.now.reader.now)
             self.now.levels.on.now.book.now self.now.levels.on.now.sight.now }
@@ -273,9 +277,10 @@ impl<R: Reader> RunSearch<'_, R> {
         Ok(Some(looked))
     }
 
-    // Whether a put has to be tried, where several calls have to be: where the next call is a put,
-    // each take of the last word that may come next was tried, so that the last item is taken by
-    // another one. Up to then each take finds what is put in outside the cut.
+    // Whether puts have to be tried. Where the list has a last word and more than one call has to
+    // be tried, puts have to be only if the last item can stay on the list until a take of its
+    // value that the forced call's view doesn't hold: up to then, all takes outside the cut can
+    // have found what was put in outside the cut.
     fn may_put(&self, at: RunLook) -> Result<bool, NoMemory> {
         let Some(last) = at.top.last else {
             return Ok(true);
@@ -317,9 +322,9 @@ impl<R: Reader> RunSearch<'_, R> {
         }))
     }
 
-    // Whether a put of a run has to be tried: its item isn't taken within its view, nor by a take
-    // that the forced call's view holds. Up to then each take finds what is put in outside the cut
-    // by other calls. No unanswered put is one of a run.
+    // Whether an answered put has to be tried as one of a run: its item can stay until past the
+    // put's view, and until a take of its value that the forced call's view doesn't hold. Up to
+    // then, takes outside the cut can have found what other calls outside it put in.
     fn may_stay(&self, at: RunLook, put: Call, value: u64) -> Result<bool, NoMemory> {
         if self.view_of(put).is_none() {
             return Ok(false);
@@ -348,7 +353,9 @@ impl<R: Reader> RunSearch<'_, R> {
         }
     }
 
-    // Whether a call is the forced one, or serves for it: then both have the same view.
+    // Whether a call is the forced call or serves for it. A call that serves for the forced call
+    // has the same view, since no answered call outside the cut has a lesser one than the forced
+    // call.
     fn is_forced(&self, at: RunLook, call: Call) -> bool {
         call == at.forced
             || (self.levels.is_call(call)
@@ -367,7 +374,8 @@ impl<R: Reader> RunSearch<'_, R> {
         marked == 1
     }
 
-    // The puts that may come next, the one of the least turn last.
+    // The puts that may come next and for which no other one serves, in the order in which the
+    // search follows them: the nodes to which the last one leads are looked at first.
     fn puts(&self, look: &NextCallers, top: Top) -> Result<Vec<Turn>, NoMemory>
         requires wide { length look.now.cut ≡ length self.now.levels.on.now.book.now }
     {
@@ -434,7 +442,7 @@ impl<R: Reader> RunSearch<'_, R> {
         }
     }
 
-    // Whether a call is held by the view of another one, where there is another.
+    // Whether `tried` is an answered call whose view holds `call`.
     fn was_tried(&self, tried: Option<Call>, call: Call) -> bool {
         match tried {
             Some(by) => match self.view_of(by) {
@@ -445,9 +453,9 @@ impl<R: Reader> RunSearch<'_, R> {
         }
     }
 
-    // Follows a put, which leads to the level that it shares with all puts of its value that lead
-    // to the same cut, with the same answer to whether the list is kept, and whether the put is one
-    // of a run.
+    // Follows a put to the level that it begins, which is new or was begun before. Puts begin one
+    // level if they have the same value, lead to the same cut, agree in whether the list is kept,
+    // and are of one caller's run or of none.
     fn begin(
         &self,
         progress: &mut RunState,
@@ -498,8 +506,9 @@ impl<R: Reader> RunSearch<'_, R> {
         self.reach(progress, node, None, FirstReached::Begins)
     }
 
-    // Adds a level to those that may lie right below another one, with a put that leads from it:
-    // each take that ended the upper level leads to the lower one too, where it has to be tried.
+    // Records that a level may lie right below another one, with the put that leads from it to the
+    // upper level. Each take that has ended the upper level is followed to the lower one, where it
+    // has to be tried.
     fn lay_on(
         &self,
         progress: &mut RunState,
@@ -527,8 +536,8 @@ impl<R: Reader> RunSearch<'_, R> {
         Ok(())
     }
 
-    // Adds a take to those that ended a level: it leads to each of the levels that may lie right
-    // below, where it has to be tried.
+    // Adds a take of a level's last item, if the level has no take to the same cut yet, and follows
+    // it to each level that may lie right below, where it has to be tried.
     fn end(&self, progress: &mut RunState, level: usize, ending: LevelEnd) -> Result<(), NoMemory> {
         let node = NodeKey {
             level,
@@ -612,8 +621,8 @@ impl<R: Reader> RunSearch<'_, R> {
         true
     }
 
-    // Counts that something leads to a node; a new node is still to be looked at, and one at which
-    // more takes have to be tried than before is so again.
+    // Counts that something leads to a node. A new node is to be looked at; a known one is to be
+    // looked at again where this way leaves out fewer takes than the ways before.
     fn reach(
         &self,
         progress: &mut RunState,
@@ -638,8 +647,8 @@ impl<R: Reader> RunSearch<'_, R> {
         Ok(())
     }
 
-    // Whether a call's view is less than that of another one, or there is none, and there is
-    // another.
+    // Whether `other` is a call, and `tried` is none or has a view that doesn't contain the view of
+    // `other`.
     fn is_less(&self, tried: Option<Call>, other: Option<Call>) -> bool {
         let Some(other) = other else {
             return false;
@@ -657,7 +666,7 @@ impl<R: Reader> RunSearch<'_, R> {
     }
 }
 
-// The step with this number of those at a cut and a top.
+// Call number `k` of the list `looked` of calls that are to be tried.
 fn step_of(progress: &RunState, looked: usize, k: usize) -> Option<RunStep> {
     progress.steps.get(looked)?.steps.get(k).copied()
 }
@@ -667,7 +676,8 @@ fn tried_at(progress: &RunState, place: usize) -> Option<Call> {
     *progress.tried.get(place)?
 }
 
-// The put of a run that leads to a cut: the last call of its caller in the cut.
+// The put of a run that leads to the cut of `at`, if there is one: the last call of the caller
+// `at.run` that the cut holds.
 fn put_of_run(progress: &RunState, at: RunBeginning) -> Option<Call> {
     let caller = at.run?;
     let counts = progress.table.cuts.get_index(at.at.cut)?;
@@ -678,7 +688,7 @@ fn put_of_run(progress: &RunState, at: RunBeginning) -> Option<Call> {
     })
 }
 
-// Whether a level was laid on another one in this way.
+// Whether `level` is recorded as laid on `below` in the way `way`.
 fn lies_on(progress: &RunState, level: usize, below: usize, way: Way) -> bool {
     let Some(upper) = progress.table.levels.get(level) else {
         return false;

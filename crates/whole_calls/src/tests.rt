@@ -11,8 +11,8 @@ use std::test::Fail;
 use std::thread::Threads;
 use world_core::{Program, Scrap};
 
-// The findings of two callers that enqueue and dequeue at the log object of a kind. Each call
-// checks itself against a queue.
+// What two callers found of their calls, an enqueue and a dequeue, of a log object whose machine is
+// the sequential object of `object`. Each caller judges its own call by the rules of a queue.
 fn found_on<R: Threads>(
     rt: &R,
     alloc: Global,

@@ -1,5 +1,5 @@
-//! Texts that are read and written, reports, pictures and byte streams: tests across the crates
-//! below.
+//! Tests of texts that are read and written, of reports, of pictures and of byte streams. They use
+//! several of the crates below this one.
 #![tactic(auto)]
 
 #[cfg(test)]

@@ -12,8 +12,8 @@ use Rattle.smaller_book.specs.Keys.{IsEvidence}
 use Rattle.smaller_book.specs.Minimal.{IsMinimal}
 use Rattle.witness_texts.specs.declared.marking.TheConstants.{MOST_CALLS}
 
--- `names` has for each caller the numbers of its calls in a smaller book: a part of the book that
--- has no legal order, that shows that the book has none either, and that no rule makes smaller.
+-- `names` has for each caller the numbers, in the book, of its calls that make up a smaller book: a
+-- minimal part of the book that has no legal order, which shows that the book has none either.
 pub record AreOfASmallerBook (kind : Kind) (book : List Page) (names : List (List ℕ)) : Type 0 where
   pub part : List Page
   pub is_part : IsPart book names part
@@ -21,16 +21,18 @@ pub record AreOfASmallerBook (kind : Kind) (book : List Page) (names : List (Lis
   pub illegal : ¬ HasLegalOrder (kind_spec kind) part
   pub minimal : IsMinimal kind part
 
--- The marks of a book without a legal order: the calls of a smaller book are marked, or none where
--- the book has too many calls or memory was wanted.
+-- Which marks are right for a book without a legal order: those on the calls of a smaller book;
+-- `TooLarge`, where the book has more than `MOST_CALLS` calls; and `NoMemory`, for any book.
+-- `Unasked` never is.
 abbrev pub AreMarksOf : Kind → List Page → MarkedCalls → Type 0
 AreMarksOf kind book (Smaller numbers) = AreOfASmallerBook kind book (numbers_in numbers.items)
 AreMarksOf kind book TooLarge = MOST_CALLS < size_of book
 AreMarksOf kind book NoMemory = Unit {0}
 AreMarksOf kind book Unasked = ⊥
 
--- The marks in the picture of a book: none are asked for where the book has a legal order; else the
--- calls of a smaller book are marked, or none where the book is too large or memory was wanted.
+-- Which marks are right for the picture of a book: `Unasked` where the book has a legal order
+-- (`true`); else those on the calls of a smaller book, `TooLarge` where the book has more than
+-- `MOST_CALLS` calls, or `NoMemory` for any book.
 abbrev pub AreMarksFor : Kind → List Page → Bool → MarkedCalls → Type 0
 AreMarksFor kind book true Unasked = Unit {0}
 AreMarksFor kind book true (Smaller numbers) = ⊥

@@ -12,7 +12,8 @@ use Rattle.world_core.specs.World.{World, Step, local_of, count_of, IsRun, end_o
 abbrev pub counts_in : Shape → Region → World → List ℕ
 counts_in s region w = map (λ i. count_of s w region i) (range_with_len 0 s.callers)
 
--- Whether an opening begins a scan, the view's or another.
+-- Whether a look with this opening begins a scan. The scan may be that of a call's view, or any
+-- other one.
 abbrev pub is_opening : Opening → Bool
 is_opening Begins_none = false
 is_opening Begins_scan = true
@@ -35,13 +36,14 @@ gives_up Publish = true
 gives_up (Look region j x opening) = is_opening opening
 gives_up _ = false
 
--- Whether a step doesn't give up the scan of this caller: it is another caller's, or its event
--- gives up no scan.
+-- Whether a step leaves the scan of caller `who` under way: it is another caller's step, or its
+-- event gives up no scan.
 abbrev pub keeps_scan : ℕ → Step → Bool
 keeps_scan who step = not (step.who == who && gives_up step.event)
 
--- The steps of a run up to the end of a scan, in four parts: the steps before the scan, its first
--- look, the steps between, and its last step, which is a look, or the last peek at a borrowed cut.
+-- The steps of a run up to the end of a scan, in four parts: the steps before the scan; its first
+-- look; the steps between; and the scan's last step, a look or the last peek at a cut that another
+-- caller's row embeds.
 pub record ScanSpan : Type 0 where
   pub before : List Step
   pub first : Step
