@@ -2,10 +2,11 @@ use book_base::{Call, MAX_CALLERS, NoMemory};
 use queue_pairs::{QueueDeal, Table, TimedCall};
 use std::alloc::Global;
 
-/// How far past the forced call's moment puts and takes are counted, in calls that a view counts.
+/// How many moments past that of the forced call's view are looked at.
 const FAR: u64 = 32;
 
-/// A put that may have taken effect from a moment on, or a take that has by then, and its value.
+/// A put of a value, with the moment of the first view that holds it; or a take of a value, with the
+/// moment of its own view.
 #[derive(Clone, Copy, Debug, PartialEq, Eq, PartialOrd, Ord)]
 struct Dealt {
     value: u64,
@@ -13,8 +14,8 @@ struct Dealt {
     takes: bool,
 }
 
-/// The last moment before a take of a value may take effect that may not by a given moment, but none
-/// that is far past the given one. A take whose reply isn't known counts as a take of each value.
+/// The last moment before some call outside a cut may take `value` out that may not by `moment`, or
+/// the one `FAR` past `moment` where this is earlier.
 pub fn moment_before_take(
     calls: &Table,
     counts: &[u16; MAX_CALLERS],
@@ -29,8 +30,8 @@ pub fn moment_before_take(
     until
 }
 
-// The last moment before a take of a caller may take effect, of those from a number on, or `until`
-// where none may before.
+// The last moment before some call of a caller, from the number `from` on, may take `value` out
+// that may not by `moment`; or `until` where this is earlier.
 fn before_take_of(
     calls: &Table,
     caller: usize,
@@ -54,7 +55,7 @@ fn before_take_of(
     until
 }
 
-// Whether a call may take a value.
+// Whether a call takes `value` out, or is a take without a reply, which may.
 fn may_take(timed: TimedCall, value: u64) -> bool {
     match timed.deal {
         QueueDeal::Took(shown) => shown == value,
@@ -63,9 +64,9 @@ fn may_take(timed: TimedCall, value: u64) -> bool {
     }
 }
 
-/// Whether the takes outside a cut that have taken effect by a moment may all have found what was
-/// put in outside the cut, by other calls than `but`: none finds nothing, and of each value no more
-/// takes have taken effect by any moment up to this one than puts may have.
+/// Whether all takes outside a cut that have taken effect by the moment `until` may have found what
+/// puts outside the cut, other than `but`, have put in: none of these takes found nothing, and of
+/// each value, by each moment up to `until`, no more takes have taken effect than puts may have.
 pub fn lasts(
     alloc: Global,
     calls: &Table,
@@ -84,8 +85,9 @@ pub fn lasts(
     Ok(takes_follow(&dealt))
 }
 
-// Adds what a caller's calls from a number on put in, and what they have taken by a moment. Answers
-// whether none has found nothing by then.
+// Adds those of a caller's calls, from the number `from` on, that count up to the moment `until`:
+// the puts, but not `but`, that some view of such a moment holds, and the takes whose own view has
+// such a moment. The answer is `false` where one of these takes found nothing.
 fn add_dealt(
     dealt: &mut Vec<Dealt>,
     calls: &Table,
@@ -117,8 +119,8 @@ fn add_dealt(
     Ok(true)
 }
 
-// Whether each take of a list, which is by value and then by moment, follows a put of its value that
-// no earlier take follows.
+// Whether at no place of a list, which is sorted by value and then by moment, more takes of the
+// place's value than puts of it have come.
 fn takes_follow(dealt: &[Dealt]) -> bool {
     let mut value = 0;
     let mut held: u64 = 0;

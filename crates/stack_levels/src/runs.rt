@@ -324,7 +324,8 @@ impl<R: Reader> RunSearch<'_, R> {
 
     // Whether an answered put has to be tried as one of a run: its item can stay until past the
     // put's view, and until a take of its value that the forced call's view doesn't hold. Up to
-    // then, takes outside the cut can have found what other calls outside it put in.
+    // then, takes outside the cut can have found what other calls outside it put in. An unanswered
+    // put needn't be tried as one of a run.
     fn may_stay(&self, at: RunLook, put: Call, value: u64) -> Result<bool, NoMemory> {
         if self.view_of(put).is_none() {
             return Ok(false);
