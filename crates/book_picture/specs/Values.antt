@@ -85,8 +85,8 @@ EachValueAppears = (kind : Kind) (book : List Page) (events : List Event) (call 
 abbrev pub place_among : List ℕ → ℕ → ℕ
 place_among values value = unwrap_or (position (λ x. x == value) values) 0
 
--- The colour of a value: its index in the list of values, modulo the number of colours; `None` for
--- no value.
+-- The colour of a value: its index in the list of values, or 0 where the list lacks it, modulo the
+-- number of colours; `None` for no value.
 abbrev pub colour_of : List ℕ → Option ℕ → Option ℕ
 colour_of values None = None
 colour_of values (Some value) = Some (place_among values value % COLOURS)

@@ -16,7 +16,7 @@ const LEFT: usize = 100;
 const LEAST: usize = 28;
 
 /// The edges of the columns of a row, in pixels: each column is as wide as the labels of the bars
-/// that end in it need.
+/// that end in it need, and at least `LEAST` pixels wide.
 pub(crate) fn column_edges(
     alloc: Global,
     kind: Kind,

@@ -25,11 +25,12 @@ const LINE: usize = 18;
 
 /// The picture of a book of an object of this kind, with this verdict, as SVG.
 ///
-/// A legal order numbers its calls. Where there is no legal order, nothing in the picture orders
-/// the calls but the places of their bars. The places are folded into rows, which are read one
-/// after the other: a call has a bar in each row in which it has a place. Calls that show the same
-/// value have the same colour, and some are marked. Where the book is the witness of a run, the
-/// picture says of which error line it is the witness.
+/// Where the verdict has a legal order, the bar of each call in it shows the call's number in this
+/// order. Where there is no legal order, nothing in the picture orders the calls but the places of
+/// their bars. The places are folded into rows, which are read one after the other: a call has a
+/// bar in each row in which it has a place. Calls that show the same value have the same colour,
+/// and the calls that `marks` has are marked. Where the book is the witness of a run, `error` is
+/// the call of the run's first error line, and the picture says so.
 pub fn draw_book(
     alloc: Global,
     kind: Kind,
@@ -42,8 +43,8 @@ pub fn draw_book(
     // and a bar in each row in which it has a place.
     ensures calls { IfOk result (λ text.
         ShowsEachCall kind book.now marks.now (string_bytes text)) }
-    // The picture's first lines say whether the book is legal, whether calls are marked, and of
-    // which error line of a run the book is the witness.
+    // The picture's first lines say whether the book is legal, whether calls are marked, and, where
+    // `error` is a call, that the first error line of the run is that of this call.
     ensures says { IfOk result (λ text.
         SaysFirst (first_lines (is_legal verdict.now) marks.now error) (string_bytes text)) }
 {

@@ -19,13 +19,13 @@ pub fn a_dozen_calls_stay_on_one_row()
     ensures { ADozenStayOnOneRow }
 {}
 
-/// The operations that have an argument, by their codes, are those with a number in the tables of
-/// the kinds.
+/// An operation of a kind's table is said to have an argument, by its code, exactly where the table
+/// says that a number follows its name.
 pub fn arguments_are_of_the_table()
     ensures { ArgumentsAreOfTheTable }
 {}
 
-/// The list of the values that events show has the value of each call that the events invoke.
+/// The list of the values that events show has the value of each invoked call that shows one.
 pub fn each_value_appears()
     ensures { EachValueAppears }
 {}

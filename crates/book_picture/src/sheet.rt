@@ -82,8 +82,8 @@ struct Bar {
 }
 
 impl PictureSheet<'_> {
-    /// The text before the bars of a picture: the legend, and in each row the lanes with their
-    /// callers.
+    /// The text before the bars of a picture: the opening tag, the style and the background, the
+    /// legend, and in each row the lanes with their callers.
     pub fn head(&self) -> Result<String, NoMemory>
         ensures plain { IfOk result (λ text. HasNoGroup (string_bytes text)) }
         ensures says { IfOk result (λ text.

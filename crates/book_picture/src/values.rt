@@ -137,7 +137,8 @@ fn value_in_reply(reply: Option<u64>) -> Option<u64>
     }
 }
 
-/// The number of a value's colour: the value's index in `values`, modulo the number of colours.
+/// The number of a value's colour: the value's index in `values`, or 0 where `values` lacks it,
+/// modulo the number of colours; `None` for no value.
 pub(crate) fn colour_of(values: &[u64], value: Option<u64>) -> Option<usize>
     ensures { result ≡ colour_of values.now value }
 {

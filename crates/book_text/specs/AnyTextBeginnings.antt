@@ -1,5 +1,5 @@
 -- The place of the first fault of bytes, for any form of text: the first line such that no text
--- begins with the lines up to it.
+-- begins with the lines up to it, or that no line feed ends, or that follows a whole text.
 use Rattle.std.specs.Prelude.{◌≡◌, ◌≢◌, ◌⊎◌, ◌+◌, ℕ, List, [], ◌∷◌, ◌++◌, Some}
 use Rattle.book_base.specs.declared.fault.TextFault.{TextFault}
 use Rattle.book_base.specs.declared.fault.What.{What}
@@ -33,9 +33,10 @@ pub record GoesPast {Said : Type 0} (IsText : List ℕ → Said → Type 0) (pre
   pub text : IsText prefix said
   pub more : rest ≢ []
 
--- A fault is at the line where bytes stop being the beginning of a text. Some text begins with the
--- lines before the fault's line; and either no text begins with these lines and the fault's line,
--- or the fault's line isn't whole, or the lines before it are a whole text already.
+-- A fault is at the line where bytes, which are no text themselves, stop being the beginning of a
+-- text. Some text begins with the lines before the fault's line; and either no text begins with
+-- these lines and the fault's line, or no line feed ends the fault's line, or the lines before it
+-- are a whole text already, and bytes follow them.
 pub record LeavesAt {Said : Type 0} (IsText : List ℕ → Said → Type 0) (bytes : List ℕ)
     (fault : TextFault) : Type 0 where
   pub count : ℕ

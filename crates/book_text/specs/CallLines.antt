@@ -25,7 +25,8 @@ use Rattle.text_fields.specs.Faults.{Wanted, ALine, Nothing, Rules, GoesTo, IsFi
 abbrev pub place_words : Call → List (List ℕ)
 place_words call = decimal call.caller ∷ decimal call.number ∷ []
 
--- the words after the operation: none where the call is unanswered, and else the reply and the view
+-- the words after the operation: none where the call is unanswered, and else the reply, 'view', and
+-- the view's counts or pairs
 abbrev pub answer_words : Version → Option Record → List (List ℕ)
 answer_words version None = []
 answer_words version (Some answer) =
@@ -68,10 +69,10 @@ AreView version n view words = (length view ≡ n) × AreNumbers view
 abbrev pub LacksViewWord : List (List ℕ) → Type 0
 LacksViewWord words = (suffix : List (List ℕ)) → words ≢ codes "view" ∷ suffix
 
--- The words after a reply are no view. In version 1: they aren't 'view' and then a number for each
--- caller. In version 2: they don't begin with 'view'; or one of the words after it has no colon; or
--- one of these is no pair of a caller and a count above 0; or a pair's caller isn't above that of
--- the pair before it.
+-- The words after a reply are no view. In version 1: they aren't 'view' and then a number below
+-- 2^64 for each caller. In version 2: they don't begin with 'view'; or one of the words after it
+-- has no colon; or one of these is no pair of a caller below `n` and a count above 0 and below
+-- 2^64; or a pair's caller isn't above that of the pair before it.
 abbrev pub IsNoView : Version → ℕ → List (List ℕ) → Type 0
 IsNoView First n words = (view : List ℕ) → length view ≡ n → AreNumbers view
     → words ≢ codes "view" ∷ cut_words First view
@@ -105,7 +106,8 @@ EntryFails version operations n gap call words _ = ⊥
 
 -- ---- the tests of a view
 
--- the name in texts of the test of views that a book's fault names; `None` for other faults
+-- for a fault of a book that says which test a view failed, the name of this test in texts; `None`
+-- for any other fault
 abbrev pub view_test : BookFault → Option What
 view_test tests.TooManyCalls = None
 view_test tests.NoSuchCall = None
@@ -126,7 +128,8 @@ MayRefuse _ = Unit {0}
 abbrev pub IsUnanswered : List Page → Call → Type 0
 IsUnanswered book call = answers_of book call.caller ≤ call.number
 
--- the line's view fails a test of an answer to this call, in the book that the lines before it give
+-- the line's view fails the test with this name, as the view of an answer to this call in the book
+-- that the lines before it give
 pub record ViewFails (version : Version) (operations : Operations) (book : List Page) (call : Call)
     (words : List (List ℕ)) (name : What) : Type 0 where
   pub view : List ℕ
@@ -148,7 +151,8 @@ abbrev pub calls_from : ℕ → ℕ → ℕ → List Call
 calls_from i k zero = []
 calls_from i k (suc more) = record { caller = i; number = k } ∷ calls_from i (k + 1) more
 
--- the calls of all callers from this one on, by caller and then by number
+-- the calls of caller `i` and of the callers after it, as many of each as the list of counts says,
+-- by caller and then by number
 abbrev pub all_calls : ℕ → List ℕ → List Call
 all_calls i [] = []
 all_calls i (count ∷ counts) = calls_from i 0 count ++ all_calls (i + 1) counts
@@ -178,8 +182,8 @@ abbrev pub with_line : List Page → Call → ℕ → Option Record → List Pag
 with_line book call op None = with_operation book call op
 with_line book call op (Some answer) = with_operation (with_answer book call.caller answer) call op
 
--- a call of a book that texts can have: its caller is one of the book's, and its number can be
--- written
+-- a call that a line can name: its caller is one of the book's, of which there are at most
+-- `MAX_CALLERS`, and its number is below 2^64
 pub record IsNamedCall (book : List Page) (call : Call) : Type 0 where
   pub caller : call.caller < length book
   pub callers : length book ≤ MAX_CALLERS

@@ -30,8 +30,9 @@ abbrev pub book_lines : Version → Kind → List Page → List (List (List ℕ)
 book_lines version kind book = head_lines version (codes "book") kind (announced book)
     ++ (call_lines version (kind_operations version kind) book ++ end_words ∷ [])
 
--- A book and its kind can be written in a text of this version: it is valid, and within the
--- version's limits.
+-- A book and its kind can be written in a text of this version: the book is valid, its kind,
+-- callers, calls and operations are within the version's limits, and each of its replies is below
+-- 2^64.
 pub record IsWritable (version : Version) (kind : Kind) (book : List Page) : Type 0 where
   pub valid : IsValid book
   pub kind_known : has_kind version kind ≡ true

@@ -15,8 +15,9 @@ use book_base::{Book, BookFault, Call, Cut, ReadFault, Record, TextFault, What};
 use std::alloc::Global;
 use text_fields::{Lines, OpText, Version};
 
-/// Reads the lines of a book's calls, with the operations in the words that `operations` has for
-/// them, and answers the book; the lines after those of the calls are left unread.
+/// Reads the lines of a book's calls in a text of version 2, with the operations in the words that
+/// `operations` has for them, and answers the book; the lines after those of the calls are left
+/// unread.
 ///
 /// `calls` has the number of calls of each of the `n` callers. A text fault is the first fault of
 /// the lines of the calls. After a refusal the lines stay as they were.

@@ -48,9 +48,10 @@ pub fn first_faults_leave_texts()
         → IsFirstBookFault version bytes fault → LeavesTexts version bytes fault }
 {}
 
-/// The rules of a head, of the lines of calls and of a whole book are sharp: a right line leads to
-/// one state only, fails no test, and can be read back. The rules of a head are sharp for any title
-/// that is a word, and those of the lines of calls for the operations of any texts.
+/// The rules of a head, of the lines of calls and of a whole book are sharp: a right line comes
+/// only where a line is due, leads to one state only, fails no test, and can be read back. The
+/// rules of a head are sharp for any title that is a word, and those of the lines of calls for the
+/// operations of any kind of text (`OpText`).
 pub fn rules_are_sharp<T: OpText>()
     ensures head { (version : Version) (title : List ℕ)
         → IsSolid title → AreSharp (head_rules version title) }

@@ -34,8 +34,8 @@ abbrev pub IsBookVerdict : List ℕ → BookVerdict → Type 0
 IsBookVerdict bytes Legal = IsLegalBook bytes
 IsBookVerdict bytes Illegal = IsIllegalBook bytes
 
--- the bytes are the text of a book, and the text is that of a certificate with this book and a
--- legal order of it
+-- `bytes` is the text of a book, and `text` is that of a certificate with this book and a legal
+-- order of it
 unfoldable pub Certifies : List ℕ → List ℕ → Type 0
 Certifies bytes text = (kind : Kind) × (book : List Page) × (order : List Place)
     × Tells bytes kind book

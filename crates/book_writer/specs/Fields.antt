@@ -25,7 +25,8 @@ abbrev pub caller_text : Kind → List Page → ℕ → List ℕ
 caller_text kind book caller = text_of (map (line_of Second (kind_operations Second kind) book)
     (calls_from caller 0 (calls_of book caller)))
 
--- The operation and the reply of a call are words of 128 and of 64 bits, as a text can have them.
+-- The operation of a call is a word of 128 bits, and its reply, where it is answered, one of 64
+-- bits, as a text can have them.
 pub record HasWords (book : List Page) (call : Call) : Type 0 where
   pub operation : (op : ℕ) → operation_of book call ≡ Some op → IsOperationWord op
   pub reply : (answer : Record) → record_of book call ≡ Some answer → answer.reply < 2 ^ 64

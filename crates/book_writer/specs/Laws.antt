@@ -21,7 +21,9 @@ abbrev pub NoBookTextBeginsAnother : Type 0
 NoBookTextBeginsAnother = (version : Version) (bytes more : List ℕ) (k l : Kind) (a b : List Page)
     → IsBookText version bytes k a → IsBookText version (bytes ++ more) l b → more ≡ []
 
--- No sketch's text is a proper prefix of another's.
+-- No text of a list of events is a proper prefix of that of another list, where each list has
+-- events of a book that can be written in version 2. So no sketch's text is a proper prefix of
+-- another's.
 abbrev pub NoSketchTextBeginsAnother : Type 0
 NoSketchTextBeginsAnother =
     (more : List ℕ) (k l : Kind) (a b : List Page) (events others : List Event)

@@ -34,10 +34,10 @@ Meets kind book demands.OtherPutsFollow first second call =
 Meets kind book demands.OtherPutsOutside first second call =
     Puts kind book (value_at kind book second) call → Precedes book call first
     ⊎ Precedes book second call
--- only the first call puts in its value
+-- no call but the first one puts in the value of the first call
 Meets kind book demands.OnlyPut first second call = Puts kind book (value_at kind book first) call
     → call ≡ first
--- only the second call takes its value
+-- no call but the second one is answered and takes the value of the second call
 Meets kind book demands.OnlyTake first second call = Took kind book (value_at kind book second) call
     → call ≡ second
 -- a call that may take the value of the first call comes after the second call

@@ -172,7 +172,8 @@ pub record Breaks (kind : Kind) (book : List Page) (broken : BrokenRule) : Type 
   pub puts : AllMeet kind book (puts_demand broken.rule) broken.first broken.second
   pub takes : AllMeet kind book (takes_demand broken.rule) broken.first broken.second
 
--- A book that breaks a rule has no legal order.
+-- A book that breaks a rule has no legal order, where it has no more callers and calls than a book
+-- may have.
 abbrev pub WhatBreaksIsIllegal : Type 0
 WhatBreaksIsIllegal = (kind : Kind) (book : List Page) (broken : BrokenRule) → IsSmall book
     → Breaks kind book broken

@@ -19,9 +19,9 @@ pub(crate) enum Demand {
     OtherPutsFollow,
     /// The puts of the second call's value come before the first call, or after the second one.
     OtherPutsOutside,
-    /// The first call alone puts its value in.
+    /// No call but the first one puts in the first call's value.
     OnlyPut,
-    /// The second call alone takes its value.
+    /// No call but the second one is answered and takes the second call's value.
     OnlyTake,
     /// The takes that may take the first call's value come after the second call.
     TakesFollow,

@@ -1,4 +1,4 @@
-//! Which rule of its kind an illegal book breaks, and by which calls.
+//! Finds a rule of its kind that a book breaks, if it breaks one, and the calls by which it does.
 #![tactic(auto)]
 
 mod act;

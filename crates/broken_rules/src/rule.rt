@@ -16,8 +16,8 @@ pub enum Rule {
     /// What is taken was put in before: the first call takes a value, and each put of this value
     /// comes after the first call.
     TakenUnput,
-    /// A value that is put in once is taken once: the first call alone puts a value in, and both
-    /// the second call and another call take it.
+    /// A value that is put in once is taken at most once: the first call alone puts a value in, and
+    /// both the second call and another call take it.
     TakenTwice,
     /// A take finds what is there: the second call finds nothing, the first call precedes it and
     /// puts a value in, and each call that may take this value comes after the second call.
@@ -26,8 +26,9 @@ pub enum Rule {
     /// another value, which is only put in after the first call, while the first value is still
     /// there.
     PassedOver,
-    /// A stack gives the newest value: the first call puts a value in, and the second one takes
-    /// another value, which was put in before the first call, while the first value is still there.
+    /// A stack gives the newest value: the first call puts a value in and precedes the second one,
+    /// which takes another value while the first value is still there. Each put of that other value
+    /// comes before the first call or after the second one.
     TakenFromUnder,
     /// A priority queue gives the least value: the second call takes a value while a lesser one is
     /// there, which the first call put in before.

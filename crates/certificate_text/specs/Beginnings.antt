@@ -1,5 +1,6 @@
 -- The place of the first fault of bytes that are to be a certificate's text: the first line such
--- that no text of a certificate begins with the lines up to it.
+-- that no text of a certificate begins with the lines up to it, or that no line feed ends, or that
+-- follows a whole text.
 use Rattle.std.specs.Prelude.{◌≡◌, ◌≢◌, ◌⊎◌, ◌+◌, ℕ, List, [], ◌∷◌, ◌++◌, Some}
 use Rattle.book_base.specs.declared.call.Place.{Place}
 use Rattle.book_base.specs.declared.fault.TextFault.{TextFault}
@@ -39,9 +40,10 @@ pub record GoesOn (prefix rest : List ℕ) (what : What) : Type 0 where
   pub text : IsCertificateText prefix kind book order
   pub more : rest ≢ []
 
--- A fault is at the line where bytes stop being the beginning of a certificate's text. Some text
--- begins with the lines before the fault's line; and either no text begins with these lines and the
--- fault's line, or the fault's line isn't whole, or the lines before it are a whole text already.
+-- A fault is at the line where bytes, which are no certificate's text themselves, stop being the
+-- beginning of one. Some text of a certificate begins with the lines before the fault's line; and
+-- either none begins with these lines and the fault's line, or no line feed ends the fault's line,
+-- or the lines before it are a whole text already, and bytes follow them.
 pub record LeavesTexts (bytes : List ℕ) (fault : TextFault) : Type 0 where
   pub count : ℕ
   pub prefix : List ℕ

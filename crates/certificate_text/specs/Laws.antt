@@ -46,7 +46,9 @@ abbrev pub NoTextBeginsAnother : Type 0
 NoTextBeginsAnother = (bytes more : List ℕ) (k l : Kind) (a b : List Page) (p q : List Place)
     → IsCertificateText bytes k a p → IsCertificateText (bytes ++ more) l b q → more ≡ []
 
--- A first fault is where bytes stop being the beginning of a certificate's text.
+-- A first fault is where bytes stop being the beginning of a certificate's text: some text begins
+-- with the lines before the fault's line, and none begins with these and that line; or that line
+-- isn't whole, or bytes follow a whole text.
 abbrev pub FirstFaultsLeaveTexts : Type 0
 FirstFaultsLeaveTexts = (bytes : List ℕ) (fault : TextFault) → IsFirstCertificateFault bytes fault
     → LeavesTexts bytes fault

@@ -17,7 +17,8 @@ use Rattle.certificate_text.specs.CertificateRules.{CertificateDue, InBook, Orde
 abbrev pub Goes : CertificateDue → Unread → CertificateDue → Unread → Type 0
 Goes due text after left = GoesTo certificate_rules due text after left
 
--- a reader of a certificate stops from a state on for want of memory, or with the first fault
+-- a reader that reads a text from the state `due` on, as a certificate, stops for want of memory,
+-- or with the text's first fault
 abbrev pub Stops : CertificateDue → Unread → ReadFault → Type 0
 Stops due text fault = StopsFor certificate_rules due text fault
 

@@ -25,7 +25,7 @@ abbrev pub by_thirds : ℕ → ℕ → ℕ → ℕ → ℕ
 by_thirds k first second third =
     if k % 3 == 0 then first else (if k % 3 == 1 then second else third)
 
--- the operation of the call with the value `v` that is call `k` of its caller
+-- the operation that is generated for call `k` of a caller, where the value of this call is `v`
 abbrev pub generated_operation : Kind → ℕ → ℕ → ℕ
 generated_operation Queue v k = by_halves k (operation words.enq v 0) (operation words.deq 0 0)
 generated_operation Stack v k = by_halves k (operation words.push v 0) (operation words.pop 0 0)

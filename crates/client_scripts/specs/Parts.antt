@@ -32,14 +32,15 @@ abbrev pub IsCallFault : KindWords → Call → Unread → TextFault → Type 0
 IsCallFault words call text fault = (begun : Begun) (more : List Call)
     → IsFirstFault (script_rules words.version) (InBody words.kind begun (call ∷ more)) text fault
 
--- the next lines are those of this many calls of a caller, with these operations
+-- the next lines are those of the first `count` calls of caller `i`, with these operations
 abbrev pub AreCallsRead : KindWords → ℕ → ℕ → Unread → List ℕ → Unread → Type 0
 AreCallsRead words i count text ops left =
     (begun : Begun) (more : List Call)
     → GoesTo (script_rules words.version) (InBody words.kind begun (calls_from i 0 count ++ more))
     text (InBody words.kind (with_operations begun ops) more) left
 
--- a reader stops with this fault where the lines of this many calls of a caller are due next
+-- a reader stops with this fault where the lines of the first `count` calls of caller `i` are due
+-- next
 abbrev pub AreCallsStopped : KindWords → ℕ → ℕ → Unread → ReadFault → Type 0
 AreCallsStopped words i count text e = (begun : Begun) (more : List Call) → StopsFor
     (script_rules words.version) (InBody words.kind begun (calls_from i 0 count ++ more)) text e

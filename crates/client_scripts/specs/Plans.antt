@@ -19,7 +19,7 @@ pub record Plan : Type 0 where
   -- the callers that take turns, one after the other
   pub turns : List ℕ
 
--- the operations of a caller, of which there are none where the plan has no such caller
+-- the operations of caller `i` of a plan, or none where the plan has no such caller
 abbrev pub operations_of : Plan → ℕ → List ℕ
 operations_of plan i = slice_index_or plan.operations i []
 

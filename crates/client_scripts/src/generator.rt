@@ -14,8 +14,8 @@ use std::alloc::Global;
 /// The script made from a number: this many callers with this many calls each, no stop and no
 /// turns.
 ///
-/// Operation `k` of caller `i` is decided by the kind, and its value is
-/// `(number mod 2^20) * 4096 + i * 256 + k`.
+/// Operation `k` of caller `i` is decided by the kind, by `k`, and by the value `(number mod 2^20)
+/// * 4096 + i * 256 + k`.
 pub fn make_script(
     alloc: Global,
     number: u64,
@@ -63,7 +63,8 @@ fn make_operations(
     Ok(ops)
 }
 
-/// The operation of the call with this value that is call `k` of its caller.
+/// The operation that is generated for call `k` of a caller, where the value of this call is
+/// `value`.
 fn operation(kind: Kind, value: u64, k: u64) -> OpWord
     requires { value < 2 ^ 32 }
     ensures { result ≡ generated_operation kind value k }

@@ -20,6 +20,6 @@ pub use reader::{read_script, read_script1};
 pub use script::Script;
 pub use writer::write_script;
 
-/// The phases of a call: it is announced, the object is asked, a view is taken, the record is
+/// How many phases a call has: it is announced, the object is asked, a view is taken, the record is
 /// published, and the record is judged.
 pub const PHASES: u64 = 5;

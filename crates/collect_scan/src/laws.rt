@@ -50,8 +50,8 @@ pub fn given_rows_are_known()
     ensures { GivenRowsAreKnown }
 {}
 
-/// In each local of a reachable world that isn't in the phase view, no view's scan is under way,
-/// which would keep another scan from beginning.
+/// In a local of a reachable world the view's scan is under way only if the local's phase is view.
+/// While it is under way no other scan may begin.
 pub fn view_scans_have_phase()
     ensures { ViewScansHavePhase }
 {}

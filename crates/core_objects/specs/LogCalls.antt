@@ -51,8 +51,8 @@ module _ {P : Type 0} where
     pub progress : progress_of (announced_local b)
         ≡ after_steps steps (progress_of (announced_local a))
 
-  -- The announced call has stored the low and the high word of its operation in the log's object
-  -- words.
+  -- The announced call has stored the low and the high word of its operation in the two object
+  -- words of the log that belong to its number.
   pub record HasStored (r : Rows P) (a : Announced P) : Type 0 where
     pub low_now : known (low_place (number_on r a)) (steps_now (announced_local a))
         ≡ Some (low_of (op_announced a))
@@ -77,8 +77,8 @@ module _ {P : Type 0} where
   abbrev pub KnowsLog : Rows P → Announced P → List ℕ → Type 0
   KnowsLog r a log = KnowsOperations (places_on r) log (all_steps_of (announced_local a))
 
-  -- The announced call has placed its ticket in the log, and this ticket is the last one of
-  -- `tickets`, the tickets from the first place of the log on.
+  -- The announced call has placed its ticket at a place of the log, and `tickets` ends with this
+  -- ticket: the list has one ticket for each place of the log up to this one.
   pub record HasPlaced (r : Rows P) (a : Announced P) (tickets : List ℕ) : Type 0 where
     pub place : ℕ
     pub last : length tickets ≡ place + 1

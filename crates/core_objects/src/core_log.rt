@@ -16,8 +16,8 @@ use std::alloc::Global;
 use world_core::{InWorld, Program};
 
 /// The program of the log of a sequential object: a call stores its operation, places its ticket in
-/// the log, loads the operations of the tickets before its own one, and gets the reply that the
-/// sequential object gives after these operations.
+/// the log, loads the operations of the tickets before its own one that its caller doesn't know
+/// yet, and gets the reply that the sequential object gives after these operations.
 #[derive(Clone, Copy)]
 pub struct LogProgram<S> {
     /// The sequential object.
@@ -80,8 +80,8 @@ impl<S: SeqObject + Copy> CoreLog<S> {
     }
 
     // The reply to the operation `op` after the operations of `log`, where the state is the list
-    // after the first `made` operations of the log. Applies only the operations of the log from
-    // there on, and then `op`.
+    // after the first `made` operations of the log. Applies only the operations of the log after
+    // these, and then `op`.
     fn reply_after(&self, state: &mut State, log: &[OpWord], made: usize, op: OpWord) -> u64
         requires made { made ≤ length log.now }
         requires state { state.old.words ≡ list_of (S.spec self.now.object).next

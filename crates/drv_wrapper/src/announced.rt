@@ -7,10 +7,11 @@ use book_base::OpWord;
 use row_table::Caller;
 use world_core::Outside;
 
-/// A call that is announced: its operation is in the table, and the object isn't asked yet.
+/// A call that is announced: its operation is in the table, and it has no reply yet.
 ///
-/// It is continued by [`ask`](crate::ask), or ended by `stop`. One that is dropped stays announced,
-/// and its caller makes no more steps.
+/// It is continued by [`ask`](crate::ask), or, where the object is inside the world, by `answer`;
+/// or it is ended by `stop`. One that is dropped stays announced, and its caller makes no more
+/// steps.
 #[derive(Drop)]
 pub struct Announced<P = Outside> {
     pub(crate) caller: Caller<P>,

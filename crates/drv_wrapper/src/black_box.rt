@@ -64,7 +64,7 @@ use crate::object_pass::ObjectPass;
 ///
 /// - It returns, and is safe beside calls of other callers: it takes `&self`, and one pass.
 /// - The pass counts: `made` is one more, and its caller and its cap are as before. So an object
-///   is asked exactly once for each announcement.
+///   is asked at most once for each announcement.
 /// - The pass stays one of the object's own. `is_own` is yours to choose, as the condition that
 ///   `call` needs of a pass, such as that it comes from this object's `open`. An object that leaves
 ///   it out takes any pass.

@@ -9,7 +9,8 @@ use world_core::Outside;
 
 /// A call that has its record, of a reply and a view, and whose record isn't published yet.
 ///
-/// The state has to be used up: by the publication of the record, or by `stop`.
+/// The state has to be used up: by `into_caller`, with which the publication of the record begins,
+/// or by `stop`.
 pub struct Viewed<P = Outside> {
     pub(crate) caller: Caller<P>,
     pub(crate) op: OpWord,

@@ -63,16 +63,17 @@ abbrev pub reply_of_outcome : {P : Type 0} → Result (Caller P × Judged) (Unju
 reply_of_outcome (Ok r) = (record_judged r.1).reply
 reply_of_outcome (Err u) = u.reply
 
--- Where the judged book is at hand (`judged_book`), the counter of steps has risen from `before` to
--- `after` by the number of words of the judged book that the book kept before lacks, as
--- `TicksForNew` says.
+-- Where there is a judged book (`judged_book`), the counter of steps has risen from `before` to
+-- `after` by the number of its words that the book `kept` before the call lacks, if that book is of
+-- n callers and its cut is within that of the judged book. If no book was kept before, the counter
+-- has risen by the number of all words of the judged book.
 abbrev pub TicksForJudged : ℕ → Option Gathered → Judged → Option Gathered → ℕ → ℕ → Type 0
 TicksForJudged n kept judged gathered before after =
     IfSome (judged_book judged gathered) (λ g. TicksForNew n kept g before after)
 
 -- The counter of steps has risen from `before` to `after` in two parts: by at most the words that
--- four scans may take, and then by the words of the judged book that the book kept before lacks, as
--- `TicksForJudged` says.
+-- four scans may take, and then by the number of words of the judged book that the book `kept`
+-- before the call lacks, under the conditions of `TicksForJudged`.
 abbrev pub TicksForCallAfter : ℕ → Option Gathered → Judged → Option Gathered → ℕ → ℕ → Type 0
 TicksForCallAfter n kept judged gathered before after =
     (scanned : ℕ) × (before ≤ scanned) × (scanned ≤ before + 4 * most_words n)

@@ -36,8 +36,8 @@ reply_of (Ok r) = (record_in r.1).reply
 reply_of (Err u) = u.reply
 
 -- The counter of steps has risen from `before` to `after` in two parts: by at most the words that
--- four scans may take, and then by the words of the call's book that the book kept before lacks, as
--- `TicksForNewAfter` says.
+-- four scans may take, and then by the number of words of the call's book that the book `kept`
+-- before the call lacks, under the conditions of `TicksForNewAfter`.
 abbrev pub TicksForWholeCall : ℕ → Option Gathered → Outcome → Option Gathered → ℕ → ℕ → Type 0
 TicksForWholeCall n kept outcome gathered before after =
     (scanned : ℕ) × (before ≤ scanned) × (scanned ≤ before + 4 * most_words n)
@@ -52,9 +52,9 @@ OutcomesAreVerdicts =
     (spec : SeqSpec) (n : ℕ) (l : Local) (outcome : Outcome)
     → IsRightByPeeks spec n l outcome → IsJudgedBy spec n l (end_of outcome)
 
--- An error is final: where the book at the cut `lower`, taken from the book of all callers' calls,
--- has no legal order, an outcome that is right for the book at a cut which contains `lower` is an
--- error.
+-- An error is final. In a reachable world in which the book at the cut `lower`, taken from the book
+-- of all callers' calls, has no legal order, an outcome is an error if its seen cut contains
+-- `lower` and it is right for the book at its seen cut.
 abbrev pub ErrorsAreFinal : Type 0
 ErrorsAreFinal =
     (spec : SeqSpec) (s : Shape) (locals : List Local)

@@ -9,9 +9,9 @@ use Rattle.collect_scan.specs.Given.{given_with, HoldsLooks}
 
 -- The local `after` is the local `before` of one of n callers, changed by a scan of M, the
 -- publication of the row that was staged, and no other event but stages. The row embeds the cut
--- that this scan gave. This cut is the last one that was given to the caller, and no count of M
--- that the caller had looked at before the scan is above the cut's entry for the caller whose count
--- it is.
+-- that this scan gave. This cut is the last one that was given to the caller. Each count in M that
+-- the scanning caller had looked at before the scan is at most the cut's count for the caller that
+-- was looked at.
 pub record IsPublication (n : ℕ) (before after : Local) : Type 0 where
   pub cut : List ℕ
   pub scanned : Local
@@ -22,9 +22,9 @@ pub record IsPublication (n : ℕ) (before after : Local) : Type 0 where
   pub looked : HoldsLooks M cut before
 
 -- The local `after` is the local `before` of one of n callers, changed by a scan of M that ended
--- with this cut, and no other event. The cut is the last one that was given and the last seen cut,
--- and no count of M that the caller had looked at before the scan is above the cut's entry for the
--- caller whose count it is.
+-- with this cut, and no other event. The cut is the last one that was given and the last seen cut.
+-- Each count in M that the scanning caller had looked at before the scan is at most the cut's count
+-- for the caller that was looked at.
 pub record IsSight (n : ℕ) (cut : List ℕ) (before after : Local) : Type 0 where
   pub scan : HasScanned n M Begins_scan cut before after
   pub given : after.cuts ≡ before.cuts ++ given_with before M cut ∷ []

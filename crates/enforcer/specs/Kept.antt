@@ -14,9 +14,10 @@ IsKeptAfterOutcome n (Delivered reply view seen order) gathered =
 IsKeptAfterOutcome n (Illegal reply view seen book) gathered = gathered ≡ None
 
 -- The counter of steps has risen from `before` to `after` by the number of words of the judged book
--- that the book `kept` before the call lacks, as `TicksForNew` says. After `Delivered` the judged
--- book is the one that is kept after the call, where one is, and after `Illegal` the one that the
--- outcome carries.
+-- that the book `kept` before the call lacks, if that book is of n callers and its cut is within
+-- that of the judged book. If no book was kept before, the counter has risen by the number of all
+-- words of the judged book. After `Delivered` the judged book is the one that is kept after the
+-- call, where one is, and after `Illegal` the one that the outcome carries.
 abbrev pub TicksForNewAfter : ℕ → Option Gathered → Outcome → Option Gathered → ℕ → ℕ → Type 0
 TicksForNewAfter n kept (Delivered reply view seen order) gathered before after =
     IfSome gathered (λ g. TicksForNew n kept g before after)

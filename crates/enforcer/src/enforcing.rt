@@ -31,9 +31,9 @@ use world_core::{Outside, Program};
 /// view, is published; then a cut of the published records is seen, and the book at that cut is
 /// judged.
 ///
-/// This is the call to make instead of the object's own. Two callers of a queue, one after the
-/// other, over an object `Replies` and its `RepliesPass` that are written as on the page of
-/// [`BlackBox`]:
+/// This is the call to make instead of the object's own. In this example two callers make a call of
+/// a queue each, one after the other, over an object `Replies` with its `RepliesPass`; both are
+/// written as on the page of [`BlackBox`]:
 ///
 /// ```text
 /// // What a caller found, and whether it is live afterwards.

@@ -26,11 +26,10 @@ use world_core::Program;
 /// Gathers the book at the seen cut of a call: the records that this cut holds, of all callers, and
 /// the calls that some of their views hold.
 ///
-/// The book that the caller has gathered before, where it hands one in, grows to the new one where
-/// the seen cut contains the cut of that book, as each later seen cut of the same caller does; then
-/// only the words that the earlier book lacks are peeked. Where memory is lacking, the caller may
-/// have peeked some of these words, the book that it handed in is gone, and nothing else has
-/// changed.
+/// The caller may hand in a book that it has gathered before. That book grows to the new one where
+/// the seen cut contains its cut, as each later seen cut of the same caller does; then only the
+/// words that the earlier book lacks are peeked. Where memory is lacking, the caller may have
+/// peeked some of these words, the book that it handed in is gone, and nothing else has changed.
 pub fn gather<P: Program, L: Ledger>(
     alloc: Global,
     rows: &Rows<P>,
@@ -126,10 +125,11 @@ pub(crate) fn halted<P: Program>(rows: &Rows<P>, caller: Caller<P>) -> Caller<P>
 /// comes for want of memory alone. The guide keeps the last order that was found; it costs or saves
 /// time, and never changes a verdict.
 ///
-/// `gathered` is the book that this caller has gathered before, or `None`: the new book grows from
-/// it, and only the words that it lacks are peeked. After `Delivered` it is the book that was
-/// judged, for the caller's next call; after `Illegal`, which carries its book, and after
-/// `Unjudged` it is `None`.
+/// `gathered` is the book that this caller has gathered before, or `None`. Where the seen cut
+/// contains the cut of that book, as each later seen cut of the same caller does, the new book
+/// grows from it, and only the words that it lacks are peeked. After `Delivered` `gathered` is the
+/// book that was judged, for the caller's next call; after `Illegal`, which carries its book, and
+/// after `Unjudged` it is `None`.
 pub fn judge<P: Program, S: SeqObject, L: Ledger>(
     alloc: Global,
     object: &S,

@@ -12,9 +12,9 @@ pub fn outcomes_are_verdicts()
     ensures { OutcomesAreVerdicts }
 {}
 
-/// An error is final: where the book at a cut, taken from the book of all callers' calls, has no
-/// legal order, an outcome that is right for the book at a cut which contains that cut is an error
-/// (Castañeda and Rodríguez 2023).
+/// An error is final. In a reachable world in which the book at a cut, taken from the book of all
+/// callers' calls, has no legal order, an outcome is an error if its seen cut contains that cut and
+/// it is right for the book at its seen cut (Castañeda and Rodríguez 2023).
 #[tactic(auto, using(crate::proofs::Outcomes::errors_are_final))]
 pub fn errors_are_final()
     ensures { ErrorsAreFinal }

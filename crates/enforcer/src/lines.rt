@@ -25,9 +25,10 @@ use std::alloc::Global;
 use std::sync::ledger::Ledger;
 use world_core::Program;
 
-/// The kept order, where a book of `n` callers is kept and `cut` contains the cut that is kept with
-/// that book; otherwise `None`. The order that is returned also stands in the book that its caller
-/// gathers at `cut`, since that book grows from the kept one.
+/// The order `standing`, if there is one, where a book of `n` callers is kept and `cut` contains
+/// the cut that is kept with that book; otherwise `None`. A returned order that stands in the kept
+/// book also stands in the book that its caller gathers at `cut`, since that book grows from the
+/// kept one.
 pub fn standing_in(
     n: u32,
     gathered: &Option<Gathered>,

@@ -17,9 +17,9 @@ use world_core::{Program, Region};
 
 /// Publishes the record of a call: scans M, stages the reply and the view with the cut of this scan
 /// in the caller's row of M, and raises the caller's count in M. The scan begins after the view was
-/// taken, and no count of M that the caller had looked at before is above the cut's entry for the
-/// caller whose count it is. Each scan of M that begins after the publication gives a cut that
-/// holds the record.
+/// taken. Each count in M that the scanning caller had looked at before the scan is at most the
+/// cut's count for the caller that was looked at. Each scan of M that begins after the publication
+/// gives a cut that holds the record.
 ///
 /// The counter of steps rises by at most the most words that one scan may take, and no memory is
 /// taken.
@@ -39,8 +39,8 @@ pub fn publish<P: Program, L: Ledger>(
         × (view_published result ≡ view_viewed viewed) }
     // The caller's local is the one that it had before, changed by a scan of M, the publication of
     // the row that was staged, and no other event but stages. The row embeds the cut of that scan.
-    // This cut is the last one that the caller was given, and no count of M that the caller had
-    // looked at before the scan is above the cut's entry for the caller whose count it is.
+    // This cut is the last one that the caller was given. Each count in M that the scanning caller
+    // had looked at before the scan is at most the cut's count for the caller that was looked at.
     ensures published { IsPublication rows.now.callers (local_with (caller_viewed viewed))
         (local_with (caller_published result)) }
     // The caller's progress is the one before the publication, with one published record more.

@@ -39,8 +39,8 @@ pub fn seen<P: Program, L: Ledger>(
     ensures own { HoldsOwn (cut_seen result) (caller_seen result) }
     // The caller's local is the one that it had before, changed by a scan of M that ended with the
     // seen cut, and no other event. This cut is the last one that the caller was given and its last
-    // seen cut, and no count of M that the caller had looked at before the scan is above the cut's
-    // entry for the caller whose count it is.
+    // seen cut. Each count in M that the scanning caller had looked at before the scan is at most
+    // the cut's count for the caller that was looked at.
     ensures seen { IsSight rows.now.callers (cut_seen result)
         (local_with (caller_published published)) (local_with (caller_seen result)) }
     // The caller's progress is the one before the scan, except that the caller's last call has this

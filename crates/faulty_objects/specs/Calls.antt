@@ -6,11 +6,11 @@ use Rattle.shared_log.specs.Entries.{entry}
 use Rattle.seq_objects.specs.Words.{code_of}
 use Rattle.lawful_objects.specs.Replays.{list_after}
 
--- Whether an operation is a put by its code, whether or not an object knows the operation.
+-- Whether an operation is a put: its code is 1, whether or not an object knows the operation.
 abbrev pub is_put : ℕ → Bool
 is_put op = code_of op == 1
 
--- Whether an operation is a take by its code, whether or not an object knows the operation.
+-- Whether an operation is a take: its code is 2, whether or not an object knows the operation.
 abbrev pub is_take : ℕ → Bool
 is_take op = code_of op == 2
 

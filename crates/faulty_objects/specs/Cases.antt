@@ -54,7 +54,8 @@ both_raise_first =
     ∷ access 1 (Loaded 0 up)
     ∷ []
 
--- Caller 0 finds the flag of caller 1 up before it is raised.
+-- Caller 0 raises its flag, and finds the flag of caller 1 up before caller 1 raises it. Then
+-- caller 1 raises its flag, and finds that of caller 0 up.
 abbrev pub found_too_early : List Access
 found_too_early =
     access 0 (Stored 0 up)
@@ -63,7 +64,8 @@ found_too_early =
     ∷ access 1 (Loaded 0 up)
     ∷ []
 
--- Caller 0 raises the flag of caller 1, and finds it up.
+-- Caller 0 raises the flag of caller 1, not its own, and finds it up. Then caller 1 raises its
+-- flag, and finds that of caller 0 up, though nobody has raised it.
 abbrev pub raises_the_other : List Access
 raises_the_other =
     access 0 (Stored 1 up)

@@ -7,9 +7,9 @@ use Rattle.lawful_objects.specs.Forms.{operation, increment, IsTallyReply, IsLas
 use Rattle.shared_words.specs.Deeds.{Deed, Added, Stored, Loaded, Swapped, AreCalls}
 use Rattle.shared_words.specs.Histories.{Access, access, word_at, IsLawfulHistory}
 
--- A call of a split tally: an increment loads the word, and then stores one more than it found, in
--- two steps; its reply is the word found. Any other operation makes no step, and its reply is
--- `bad`.
+-- A call of a split tally: an increment loads the word, and then stores one more than it found,
+-- modulo 2^64, in two steps; its reply is the word found. Any other operation makes no step, and
+-- its reply is `bad`.
 pub record IsSplit (op reply : ℕ) (before after : List Deed) : Type 0 where
   pub counts : op ≡ increment → (found : ℕ)
       × (after ≡ before ++ Loaded 0 found ∷ Stored 0 ((found + 1) % 2 ^ 64) ∷ [])
@@ -18,7 +18,7 @@ pub record IsSplit (op reply : ℕ) (before after : List Deed) : Type 0 where
 
 -- The history ends with an increment of caller `who` in two steps: a load, which found the word
 -- that the last store before it stored, or 0 where there is no store before it; and later a store
--- of one more. The reply gives the loaded word.
+-- of one more, modulo 2^64. The reply gives the loaded word.
 pub record IsTorn (who reply : ℕ) (history : List Access) : Type 0 where
   pub before : List Access
   pub between : List Access

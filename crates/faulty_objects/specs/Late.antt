@@ -23,7 +23,8 @@ waiting_from i waits (e ∷ log) =
 abbrev pub waiting_of : ℕ → List Entry → Option ℕ
 waiting_of i log = waiting_from i None log
 
--- The waiting operation of a caller as a list of no or one call.
+-- The list of the one call of caller `i` with its waiting operation, or the empty list where no
+-- operation waits.
 abbrev pub waiting_call : ℕ → Option ℕ → List Entry
 waiting_call i None = []
 waiting_call i (Some op) = entry i op ∷ []

@@ -5,8 +5,9 @@ use Rattle.book_base.specs.SeqSpec.{SeqSpec}
 use Rattle.shared_log.specs.declared.entry.Entry.{Entry}
 use Rattle.faulty_objects.specs.Calls.{is_put, earlier, last_call, unless, reply_after}
 
--- Whether the next put after a call is a second one, which is dropped. `second` says whether the
--- next put was a second one before the call, and `put` whether the call is a put.
+-- Whether the next put after a call is a second one, which is dropped. `second` says whether it was
+-- one before the call, and `put` whether the call is a put: a put turns the answer into its
+-- opposite, and any other call leaves it.
 abbrev pub turned : Bool → Bool → Bool
 turned second put = if put then not second else second
 

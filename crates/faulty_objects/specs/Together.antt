@@ -39,15 +39,16 @@ pub record IsPutAt (place word : ℕ) (history : List Access) : Type 0 where
   pub put : history ≡ before ++ access who (Stored (item_index place) word) ∷ later
   pub left : All (λ a. place_of a.deed ≢ item_index place) later
 
--- Each exchange that found an item in a place took one that a store had put into this place and no
--- access had taken since.
+-- Each exchange that found an item in a place took the one that the last access to this place
+-- before it, a store, had put there.
 abbrev pub TakesTakeWhatWasPut : List Access → Type 0
 TakesTakeWhatWasPut history = (before rest : List Access) (who place found : ℕ)
     → history ≡ before ++ access who (Swapped (item_index place) 0 found) ∷ rest → found ≢ 0
     → IsPutAt place found before
 
--- The history ends with an exchange of caller `who` that took an item out of the place into which a
--- store had put it; and `reply` gives this item.
+-- The history ends with an exchange of caller `who` that took an item out of a place. The last
+-- access to this place before it was the store that put the item there, and `reply` gives this
+-- item.
 pub record IsGiven (who reply : ℕ) (history : List Access) : Type 0 where
   pub before : List Access
   pub place : ℕ
@@ -56,8 +57,8 @@ pub record IsGiven (who reply : ℕ) (history : List Access) : Type 0 where
   pub ends : history ≡ before ++ access who (Swapped (item_index place) 0 word) ∷ []
   pub told : reply ≡ reply_value (word - 1)
 
--- The reply to a dequeue is `none`, or gives the item that the last access of the history took out
--- of the place into which a store had put it.
+-- The reply to a dequeue is `none`, or gives the item that the last access of the history, an
+-- exchange of caller `who`, took out of the place into which a store had put it.
 abbrev pub IsNoneOrGiven : ℕ → ℕ → List Access → Type 0
 IsNoneOrGiven who reply history = (reply ≡ reply_none) ⊎ IsGiven who reply history
 
@@ -86,8 +87,8 @@ abbrev pub QueuesGivePlacesInOrder : Type 0
 QueuesGivePlacesInOrder = (history : List Access) → IsLawfulHistory queue_may history
     → PlacesAreInOrder history
 
--- In the history of a one-pass queue each exchange that found an item took one that was put into
--- this place and not taken since.
+-- In the history of a one-pass queue each exchange that found an item in a place took the one that
+-- the last access to this place before it, a store, had put there.
 abbrev pub QueuesGiveWhatWasPut : Type 0
 QueuesGiveWhatWasPut = (history : List Access) → IsLawfulHistory queue_may history
     → TakesTakeWhatWasPut history

@@ -37,8 +37,8 @@ pub fn flags_are_raised()
 pub fn takes_take_what_was_put()
     // Each addition to the queue's counter found the number of additions before it, modulo 2^64.
     ensures places { QueuesGivePlacesInOrder }
-    // Each exchange that found an item in a place took one that a store had put into this place and
-    // no access had taken since.
+    // Each exchange that found an item in a place took the one that the last access to this place
+    // before it, a store, had put there.
     ensures items { QueuesGiveWhatWasPut }
 {}
 

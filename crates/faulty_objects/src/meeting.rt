@@ -33,7 +33,7 @@ impl Usage for Flags {
 
 /// A meeting of two callers: each raises its own flag, and waits a while for the other one's flag
 /// to be up. It shows whether callers are at work at the same time: a caller whose call ends before
-/// the other caller's begins waits in vain, and its reply is `bad`.
+/// the other caller's first call begins waits in vain, and its reply is `bad`.
 #[derive(Drop)]
 pub struct Meeting {
     pub(crate) words: SharedWords<Flags>,

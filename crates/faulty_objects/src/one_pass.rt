@@ -153,8 +153,9 @@ impl OnePass {
         // The reply is `done` to an enqueue, a value or `none` to the dequeue, and `bad` to any
         // other operation.
         ensures form { IsQueueReply op result }
-        // The reply to a dequeue is `none`, or gives the item that the call's last access took: a
-        // store had put this item into its place, and no access had taken it since.
+        // The reply to a dequeue is `none`, or gives the item that the call's last access took out
+        // of a place: the last access to this place before it was the store that put the item
+        // there.
         ensures given { op ≡ dequeue
             → IsNoneOrGiven (caller_of_pass pass.old) result (history_in pass.new) }
     {
@@ -171,8 +172,8 @@ impl OnePass {
         // Each pass belongs to this queue.
         requires own { All (IsQueuePass self) passes.items }
         // The passes are of one history. The additions to the counter found 0, 1 and so on, modulo
-        // 2^64, so that the places are given in order; and each item that an exchange found in a
-        // place had been put into this place and not taken since.
+        // 2^64, so that the places are given in order; and each exchange that found an item in a
+        // place took the one that the last access to this place before it, a store, had put there.
         ensures history { (history : List Access)
             × TellOneQueue (callers_of self.words * cap_of self.words) (callers_of self.words)
             history (map transcript_of passes.items) }

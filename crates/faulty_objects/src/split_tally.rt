@@ -54,8 +54,8 @@ impl SplitTally {
         Ok((SplitTally { words }, passes))
     }
 
-    // Makes the two steps of an increment, and none of any other operation, and returns the reply
-    // to it.
+    // Makes the two steps of an increment, or no step for any other operation, and returns the
+    // reply to the operation.
     fn reply(&self, seat: &mut WordSeat, op: OpWord) -> u64
         requires { IsSeatOf cell_may self.now.words seat.old }
         ensures seat { IsSeatOf cell_may self.now.words seat.new }
@@ -89,8 +89,9 @@ impl SplitTally {
         // The history that the pass knew before the call is a prefix of the one that it knows after
         // it.
         ensures history { IsPrefix (history_in pass.old) (history_in pass.new) }
-        // An increment loads the word and later stores one more, maybe with accesses of other
-        // callers between them, and its reply gives the loaded word.
+        // An increment loads the word and later stores one more, modulo 2^64, maybe with accesses
+        // of other callers between the two. The load found what the last store before it stored, or
+        // 0 where there is none, and the reply gives the loaded word.
         ensures torn { op ≡ increment
             → IsTorn (caller_of_pass pass.old) result (history_in pass.new) }
         // The reply is a value to the increment, and `bad` to any other operation.

@@ -55,8 +55,8 @@ pub record IsOpen (book : List Page) (next : List ℕ → ℕ → List ℕ × �
 abbrev pub IsRankIn : List (ℕ × ℕ) → List ℕ → ℕ → Type 0
 IsRankIn ranks list rank = (limit : ℕ) → rank < limit → HasEarly ranks list limit
 
--- From a cut and a list, some places that begin with one of `places` continue an order, or at most
--- `few` places continue one.
+-- From a cut and a list, some places that begin with one of `places` continue an order, or some
+-- list of at most `few` places continues one.
 abbrev pub IsServed : List Page → (List ℕ → ℕ → List ℕ × ℕ) → List ℕ → List ℕ → List Place
     → ℕ → Type 0
 IsServed book next cut list places few =
@@ -119,10 +119,10 @@ abbrev pub AllDead : List Page → (List ℕ → ℕ → List ℕ × ℕ) → Wa
 AllDead book next walk = (cut list : List ℕ) → Remembers walk.memo cut list
     → IsDeadEnd book next cut list
 
--- A walk of a search that begins after a prefix is sound: its frames lead from the prefix's cut and
--- list to the walk's; the places `places` are still to be tried at the walk's cut and list; its
--- memo remembers only dead ends, and is for as many callers as the book has; and its state has the
--- capacity `CAPACITY`.
+-- A walk of a search that begins after a prefix is sound: `IsPrefix` holds of the prefix; the
+-- walk's frames lead from the prefix's cut and list to the walk's; the places `places` are still to
+-- be tried at the walk's cut and list; its memo is sound as `IsMemo` says, remembers only dead
+-- ends, and is for as many callers as the book has; and its state has the capacity `CAPACITY`.
 pub record IsWalk (book : List Page) (prefix : Prefix) (spec : SeqSpec) (walk : Walk)
     (places : List Place) : Type 0 where
   pub begins : IsPrefix spec book prefix

@@ -187,8 +187,8 @@ fn better_of(
 }
 
 // The place of some caller's unanswered next call after a prefix, if `view` holds the call and
-// after it the object gives the recorded reply of another caller's next call. `None` comes where no
-// caller's next call is of this kind.
+// after it the object gives the recorded reply of another caller's next call, which `view` holds
+// too. `None` comes where no caller's next call is of this kind.
 fn enabling_place<S: SeqObject>(
     object: &S,
     book: &Book,

@@ -7,8 +7,8 @@ use book_base::{Book, Call, Cut, NoMemory, SeqObject, State};
 use std::alloc::Global;
 
 /// What a guess of the next call after a cut goes by. `counts` has for each caller how many calls
-/// the view of its next call counts. `taken` has for each caller whose next call puts a word in how
-/// many calls are counted by the view of the take of this word.
+/// the view of its next call counts. `taken` is about the callers whose next calls put words in: it
+/// has for each such caller how many calls are counted by the view of the take of this word.
 ///
 /// A number that isn't known is `u64::MAX`. No clause says what the numbers are: they only decide
 /// how long a search takes.

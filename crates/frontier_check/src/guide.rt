@@ -4,11 +4,11 @@ use book_base::{NoMemory, Place};
 use std::alloc::Global;
 use std::marker::Model;
 
-/// The last legal order that was found, with whose places the next search tries to begin; no places
-/// where no order was found yet.
+/// The last legal order that was found. The next search first tries to begin with its places. A
+/// guide has no places where no order was found yet.
 ///
 /// Clauses see a guide as the list of its places. A search is right with any places: they only
-/// decide how long it takes.
+/// decide how long it takes, and which legal order it finds where a book has several.
 #[derive(Debug, Drop)]
 pub struct Guide {
     order: Vec<Place>,

@@ -39,9 +39,9 @@ impl Prefix {
         })
     }
 
-    /// A prefix of the first places of `places`: those before the first place that isn't next after
-    /// the places before it, or whose call is preceded by an answered call that is at none of the
-    /// places.
+    /// A prefix of the first places of `places`. It ends before the first place that isn't next, as
+    /// `IsNext` says, after the ones that precede it, and before the first place whose call is
+    /// preceded by an answered call that is at none of the places.
     ///
     /// `None` comes where the object gives another reply than a place has, or where an answered
     /// call is its caller's next after the prefix and has a view that doesn't hold the prefix's

@@ -60,9 +60,9 @@ impl Takes {
         Ok(takes)
     }
 
-    // Lists the takes of a caller, from the call with the number `first` on, until one has another
-    // operation than those before it. Of the caller's other answered calls, the operations are kept
-    // as `list_put` says.
+    // Lists the takes of a caller, from the call with the number `first` on, up to the first one
+    // that has another operation than those before it. Of the caller's other answered calls, the
+    // operations are kept as `list_put` says.
     fn list_caller<S: SeqObject>(
         &mut self,
         object: &S,

@@ -47,8 +47,8 @@ pub fn check<S: SeqObject>(alloc: Global, object: &S, book: &Book) -> Result<Ver
 ///
 /// The guide keeps the order that is found, for the next book: a book with a few more calls than
 /// the last one mostly has an order that begins like the last one's. Those places are put one by
-/// one, and a search looks only among the calls after them; where it finds no order soon, a search
-/// looks everywhere.
+/// one, and a search looks only among the calls after them. Where it finds no order soon, a search
+/// begins after fewer of those places, and at last one looks everywhere.
 pub fn check_from<S: SeqObject>(
     alloc: Global,
     object: &S,

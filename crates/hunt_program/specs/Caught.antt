@@ -57,9 +57,10 @@ IsShown kind catch Smaller text = IsSmallerText kind catch.witness text
 IsShown kind catch Report text = IsReportShown kind catch text
 IsShown kind catch Picture text = IsSmallerPicture kind catch.witness text
 
--- A text with a status is the output of a hunt that made `runs` runs. With `Found` the last run is
--- the first with an error, and the text is what is shown of its catch. With `Fine` the hunt made
--- all the runs that it may make, all were quiet, and the text says that no run had an error.
+-- A text with a status is the output of a hunt that made `runs` runs. With `Found` these are at
+-- most as many as the hunt may make, the last one is the first with an error, and the text is what
+-- is shown of its catch. With `Fine` the hunt made all the runs that it may make, all were quiet,
+-- and the text says that no run had an error. With any other status no text is an output.
 abbrev pub IsHuntOutput : {T : Type 0} → (T → ℕ) → (T → Option (List (ℕ × ℕ))) → Settings → Shown
     → ℕ → Status → List ℕ → Type 0
 IsHuntOutput made told settings shown runs Found text =
@@ -71,8 +72,9 @@ IsHuntOutput made told settings shown runs Fine text =
 IsHuntOutput made told settings shown runs status text = ⊥
 
 -- A hunt has ended with a status after some number of runs. Its output for these runs was appended
--- to the bytes that the sink had taken; with `WriteFault` some first bytes of it, with `NoMemory`
--- nothing. Unless the status is `NoMemory`, the onlooker was told the seed of each run, in order.
+-- to the bytes that the sink had taken; with `WriteFault` some first bytes of it and not all, with
+-- `NoMemory` nothing. Unless the status is `NoMemory`, the onlooker was told the seed of each run,
+-- in order.
 pub record EndsHunt {T : Type 0} (made : T → ℕ) (told : T → Option (List (ℕ × ℕ)))
     (settings : Settings) (shown : Shown) (status : Status) (taken taken' : Option (List ℕ))
     (heard heard' : Option (List ℕ)) : Type 0 where

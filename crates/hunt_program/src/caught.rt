@@ -44,7 +44,7 @@ fn report_and_witness(alloc: Global, kind: Kind, catch: &Catch) -> Result<Vec<u8
     Ok(text)
 }
 
-/// The smaller book of a witness: a part of it without a legal order.
+/// The smaller book of a witness: a part of it without a legal order, which no rule makes smaller.
 fn smaller(alloc: Global, kind: Kind, witness: &Book) -> Result<Book, NoMemory>
     requires { ¬ HasLegalOrder (kind_spec kind) witness.now }
     ensures { IfOk result (IsSmallerWitness kind witness.now) }

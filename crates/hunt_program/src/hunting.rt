@@ -50,8 +50,9 @@ where
 
     // With `Found` the last run is the first that has an error, and what is shown of its catch was
     // written; its witness has no legal order. With `Fine` all runs of the settings were made, and
-    // it was written that none has an error. At most as many runs were made as the settings say.
-    // The onlooker was told of each run, in order, unless memory was wanted.
+    // it was written that none has an error. With `WriteFault` only some first bytes of one of
+    // these outputs were written, and with `NoMemory` nothing. Unless memory was wanted, at most as
+    // many runs were made as the settings say, and the onlooker was told of each run, in order.
     ensures ends { EndsHunt B.Pass.made B.Pass.told settings.now shown result
         (K.taken sink.old) (K.taken sink.new) (W.heard watch.old) (W.heard watch.new) }
 

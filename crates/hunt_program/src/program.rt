@@ -1,4 +1,4 @@
-//! The call to which the `main` of a crate with an object of one's own hands everything.
+//! The one call that the `main` of a crate needs to hunt over an object of its own.
 
 ghost use Rattle.std.specs.Prelude.{None};
 ghost use Rattle.random_scripts.specs.Drawn.{IsWorkload};
@@ -15,7 +15,8 @@ use std::process::ExitCode;
 use std::rt::Env;
 use std::thread::Threads;
 
-/// The code that the program ends with where the system doesn't hand over the command words.
+/// The code that the program ends with where the system doesn't hand over the command words, for
+/// another reason than want of memory.
 const NO_WORDS: u8 = 7;
 
 /// The output for command words that ask for nothing that can be shown.
@@ -37,10 +38,12 @@ impl Onlooker for RunCount {
     }
 }
 
-/// Hunts over the objects that a maker makes, and writes the catch to standard output: the smaller
-/// book of its witness; with the command word `report` the report of its run, and the whole witness
-/// after it; with `picture` the picture of the smaller book. How many runs were made is written to
-/// standard error.
+/// Hunts over the objects that a maker makes, and writes the catch to standard output, or that no
+/// run had an error. Of a catch it writes the smaller book of its witness; with the command word
+/// `report` the report of its run, and the whole witness after it; with `picture` the picture of
+/// the smaller book. How many runs were made is written to standard error, with the seed of the
+/// last one where its catch was written. With other command words no run is made, and standard
+/// output gets a line on the usage.
 pub fn run_hunt<
     R: Env + Print + Eprint + AllocGlobal + Threads + Sync,
     B: BlackBox + Sync + Drop,
@@ -85,8 +88,8 @@ where
     status
 }
 
-// Writes to standard error how many runs were made. The program's output is complete without this
-// line.
+// Writes to standard error how many runs were made, and, where `status` is `Found`, the seed of the
+// last one. The program's output is complete without this line.
 fn tell<R: Eprint>(rt: &R, settings: &Settings, tally: &RunCount, status: Status) {
     let most = settings.runs;
     let RunCount { runs, seed } = tally;

@@ -7,8 +7,8 @@ use Rattle.lawful_objects.specs.declared.scratch.Scratch.{Scratch}
 abbrev pub empty_state : ℕ → Contents
 empty_state room = record { words = []; room = room }
 
--- The scratch is new: both its states are empty, with capacity for one word more than n callers
--- with `cap` calls each have calls, and no operation waits.
+-- The scratch is new: both its states are empty, with capacity for n * `cap` + 1 words, and no
+-- operation of any of the n callers waits.
 pub record IsClear (n cap : ℕ) (s : Scratch) : Type 0 where
   pub state : s.state ≡ empty_state (n * cap + 1)
   pub other : s.other ≡ empty_state (n * cap + 1)

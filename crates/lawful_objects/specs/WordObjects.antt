@@ -5,10 +5,12 @@ use Rattle.lawful_objects.specs.declared.tally.Tally.{Tally}
 use Rattle.lawful_objects.specs.declared.word_cell.WordCell.{WordCell}
 use Rattle.lawful_objects.specs.Forms.{tally_may, cell_may, IsTallied, IsCellCall}
 
--- The pass belongs to this tally.
+-- The pass belongs to this tally, and its calls are calls of a tally, made of just the deeds of its
+-- caller.
 abbrev pub IsTallyPass : Tally → WordsPass → Type 0
 IsTallyPass t p = IsPassOf tally_may (λ _. IsTallied) t.word p
 
--- The pass belongs to this cell.
+-- The pass belongs to this cell, and its calls are calls of a cell, made of just the deeds of its
+-- caller.
 abbrev pub IsCellPass : WordCell → WordsPass → Type 0
 IsCellPass c p = IsPassOf cell_may (λ _. IsCellCall) c.word p

@@ -5,8 +5,9 @@ use crate::scratch::Scratch;
 use book_base::{SeqObject, State};
 use shared_log::Entry;
 
-/// The machine that answers as a sequential object does: it replays the operations of the log,
-/// beginning with the list that it reached at its last answer.
+/// The machine that answers as a sequential object does: it replays the operations of the log, all
+/// of them from the list that the object begins with, or only the later ones from the list that it
+/// reached at its last answer.
 #[derive(Debug, Drop)]
 pub struct Plain<S: SeqObject> {
     pub object: S,

@@ -11,7 +11,7 @@ use std::alloc::Global;
 pub struct Scratch {
     pub state: State,
     pub other: State,
-    /// For each caller the operation of it that waits, where one does.
+    /// For each caller its operation that waits to be applied, where there is one.
     pub waiting: Vec<Option<OpWord>>,
 }
 

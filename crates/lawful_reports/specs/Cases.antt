@@ -26,7 +26,8 @@ abbrev pub after_an_error : List (List Line)
 after_an_error =
     (failed 5 fifty (1 ∷ 0 ∷ []) ∷ pending 7 ∷ []) ∷ (failed 6 sixty (1 ∷ 1 ∷ []) ∷ []) ∷ []
 
--- The lines are no lawful report, whatever the callers, their operations and their allotments.
+-- The lines are no lawful report, whatever the shape of the world, the operations and the
+-- allotments.
 abbrev pub AreNoReport : SeqSpec → List (List Line) → Type 0
 AreNoReport spec lines = (s : Shape) (operations : List (List ℕ)) (allotments : List ℕ)
     → ¬ IsLawful spec s operations allotments lines

@@ -16,7 +16,7 @@ ghost use Rattle.lawful_reports.specs.Errors.{NoLinearizableRunHasTheseCalls, No
 ghost use Rattle.lawful_reports.specs.Cases.{with_second, with_first, after_an_error, AreNoReport, StandInOrder, first_place};
 
 /// Delivered lines have places in the order of their calls, and not in an order that leaves one of
-/// them out or has another reply. Lines of which none is delivered have places in the empty order.
+/// them out or has another reply. Where no line is delivered, the empty order leaves out none.
 pub fn delivered_lines_stand_in_an_order()
     // Both delivered lines have places in the order of the two calls, each with its reply.
     ensures both { StandInOrder both_delivered (first_place 0 50 ∷ first_place 1 60 ∷ []) }
@@ -30,9 +30,9 @@ pub fn delivered_lines_stand_in_an_order()
 {}
 
 /// Two error lines are no lawful report for the object that gives ten times the operation, since a
-/// run with their calls has a linearizable history. To ask that no run with a linearizable history
-/// has the lines with right verdicts isn't enough: each false error meets that, since no run leaves
-/// one.
+/// run with their calls has a linearizable history. A weaker demand wouldn't refuse them: that no
+/// run with a linearizable history has these lines as its calls with their right verdicts. Lines
+/// with a false error meet it, since they are the lines of no run.
 pub fn false_errors_are_refused()
     // Of two error lines at least one is an error.
     ensures errors { list_any any_error both_failed ≡ true }
@@ -44,7 +44,7 @@ pub fn false_errors_are_refused()
     // the operation.
     ensures linearizable { IsLinearizable tenfold (history_of pair two_calls) }
     // Two error lines are no lawful report for the object that gives ten times the operation,
-    // whatever the callers, the operations and the allotments.
+    // whatever the shape of the world, the operations and the allotments.
     ensures no_report { AreNoReport tenfold both_failed }
     // No run with a linearizable history has two error lines, each with the right verdict, for the
     // object that gives ten times the operation.

@@ -30,7 +30,8 @@ pub record IsCallOf (s : Shape) (w : World) (i k operation : ℕ) : Type 0 where
   pub few : k < s.cap
   pub there : slice_get (local_of w i).operations k ≡ Some operation
 
--- An object word, by its place, is for a word of the operation of an announced call, and has it.
+-- The object word at this place is the one for the low or the high word of an announced call's
+-- operation, and is equal to that word.
 pub record HoldsOperation (s : Shape) (w : World) (place : ℕ) : Type 0 where
   pub i : ℕ
   pub k : ℕ
@@ -49,8 +50,8 @@ pub record HasPlaced (s : Shape) (w : World) (i k ticket : ℕ) : Type 0 where
   pub high : 2 * total_of s ≤ step.place
   pub left : step.new ≡ ticket
 
--- The ticket at place p of the log names an announced call, both of whose words are stored, and
--- which has placed it.
+-- The ticket at place p of the log names an announced call. Both words of that call's operation are
+-- stored, and the call has made a step that left the ticket in the log.
 pub record NamesCall (s : Shape) (w : World) (p : ℕ) : Type 0 where
   pub i : ℕ
   pub k : ℕ
@@ -61,15 +62,16 @@ pub record NamesCall (s : Shape) (w : World) (p : ℕ) : Type 0 where
   pub high : object_word s w (high_place (number_of s.cap i k)) ≡ high_of operation
   pub placed : HasPlaced s w i k (ticket_of (number_of s.cap i k))
 
--- The word that a step left is still at its place, and is one that never changes: a word of an
--- announced call's operation, or a ticket.
+-- The word that a step left is still at its place, and is a word of an announced call's operation
+-- or a ticket.
 pub record IsLasting (s : Shape) (w : World) (step : Object_step) : Type 0 where
   pub stands : object_word s w step.place ≡ step.new
   pub kind : HoldsOperation s w step.place
       ⊎ ((2 * total_of s ≤ step.place) × (step.place < 3 * total_of s) × (step.new ≢ 0))
 
 -- The rules of a log: the filled places are a prefix, each ticket names a call whose words are
--- stored, no ticket is at two places, and the word that a step left is still at its place.
+-- stored, no ticket is at two places, and the word that a step left is still at its place, as a
+-- word of an announced call's operation or as a ticket.
 pub record IsLog (s : Shape) (w : World) : Type 0 where
   pub prefix : (p : ℕ) → p + 1 < total_of s → ticket_at s w (p + 1) ≢ 0 → ticket_at s w p ≢ 0
   pub named : (p : ℕ) → p < total_of s → ticket_at s w p ≢ 0 → NamesCall s w p
@@ -77,7 +79,9 @@ pub record IsLog (s : Shape) (w : World) : Type 0 where
       → ticket_at s w p ≡ ticket_at s w q → p ≡ q
   pub lasting : (i : ℕ) → i < s.callers → Each (Each (IsLasting s w)) (local_of w i).object_steps
 
--- The rules hold in every reachable world of a log.
+-- In every reachable world of a log the filled places are a prefix, each ticket names a call whose
+-- words are stored, no ticket is at two places, and the word that a step left is still at its
+-- place, as a word of an announced call's operation or as a ticket.
 abbrev pub LogRulesHold : Type 0
 LogRulesHold =
     (spec : SeqSpec) (n cap : ℕ) (w : World)
@@ -92,7 +96,8 @@ TicketsStay =
     → ticket_at (log_shape spec n cap) (end_of (log_shape spec n cap) (before ++ later)) p
     ≡ ticket_at (log_shape spec n cap) (end_of (log_shape spec n cap) before) p
 
--- While the call under way of a caller has no place in the log, some place of the log is free.
+-- While a caller is in the phase ask and its call has no place in the log, some place of the log is
+-- free.
 abbrev pub SomePlaceIsFree : Type 0
 SomePlaceIsFree =
     (spec : SeqSpec) (n cap : ℕ) (w : World) (i : ℕ)

@@ -25,8 +25,8 @@ ticket_place total p = 2 * total + p
 abbrev pub ticket_of : ℕ → ℕ
 ticket_of number = number + 1
 
--- The word that the first of some object steps at a place left there; none where no step is at this
--- place.
+-- Of some object steps, the word that the first one at this place left there; none where no step is
+-- at this place.
 abbrev pub known : ℕ → List Object_step → Option ℕ
 known place [] = None
 known place (step ∷ more) = if step.place == place then Some step.new else known place more
@@ -73,25 +73,26 @@ is_named_below total steps place zero = false
 is_named_below total steps place (suc p) =
     names (known (ticket_place total p) steps) place || is_named_below total steps place p
 
--- The operation of a low and a high word, where both are known.
+-- The operation of a low and a high word; none where one of them isn't known.
 abbrev pub joined_if_known : Option ℕ → Option ℕ → Option ℕ
 joined_if_known (Some low) (Some high) = Some (joined low high)
 joined_if_known _ _ = None
 
--- The operation of the call that a ticket names; none where the ticket or a word of the operation
--- isn't known.
+-- The operation of the call that a ticket names; none where the ticket is 0, as a free place has,
+-- or where the ticket or a word of the operation isn't known.
 abbrev pub known_operation : Option ℕ → List Object_step → Option ℕ
 known_operation None steps = None
 known_operation (Some zero) steps = None
 known_operation (Some (suc number)) steps =
     joined_if_known (known (low_place number) steps) (known (high_place number) steps)
 
--- A list of operations with one more at its end, where the list and the operation are known.
+-- A list of operations with one more at its end; none where the list or the operation isn't known.
 abbrev pub with_operation : Option (List ℕ) → Option ℕ → Option (List ℕ)
 with_operation (Some operations) (Some operation) = Some (operations ++ operation ∷ [])
 with_operation _ _ = None
 
--- The operations of the tickets below place p of the log, in order, where all of them are known.
+-- The operations of the tickets below place p of the log, in order; none where one of them isn't
+-- known.
 abbrev pub known_log : ℕ → List Object_step → ℕ → Option (List ℕ)
 known_log total steps zero = Some []
 known_log total steps (suc p) = with_operation (known_log total steps p)

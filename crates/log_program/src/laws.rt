@@ -14,7 +14,8 @@ pub fn log_rules_hold()
     ensures tickets { TicketsStay }
 {}
 
-/// A call finds a place in the log: as long as its ticket isn't placed, some place is free.
+/// While a caller is in the phase ask and the ticket of its call isn't placed, some place of the
+/// log is free.
 pub fn some_place_is_free()
     ensures { SomePlaceIsFree }
 {}

@@ -88,8 +88,9 @@ where
         (IsToldAll B.Pass.made B.Pass.told script.now (locals_on bench.new)) passes.new.items }
     // Unless the status is `NoMemory`, the cuts that each monitor was given in this run are those
     // of its rounds over the calls of all callers. Their number is at most the number of the
-    // script's calls plus 1. At each cut but the last the book has a legal order. Where the number
-    // of cuts is less than that, the book at the last cut has no legal order.
+    // script's calls plus 1. At each cut but the last the book has a legal order. Where there are
+    // fewer cuts than the number of the script's calls plus 1, the book at the last cut has no
+    // legal order.
     ensures rounds { ¬ (result ≡ Status.NoMemory) → (i : ℕ) (l : Local) → IsMonitor script.now i
         → on_bench bench.old i ≡ Some l
         → HasMonitored (kind_spec script.now.kind) script.now (locals_on bench.new) i l }

@@ -32,9 +32,9 @@ TellOwnCalls told phases calls passes =
     AreInOrder (λ i pass. IfSome (told pass) (IsTold (phases i) (calls i))) passes
 
 -- The object of a behaviour, for scripts of a kind, answered the calls of n callers, of which
--- caller `i` made `phases i` phases. Where the object answers from a log, all calls went into one
--- log and each reply is its machine's answer. Where it doesn't, each reply has the form that the
--- object's replies to the operation have.
+-- caller `i` made `phases i` phases. Where the object answers from a log, all calls that it was
+-- asked for went into one log, and each reply is its machine's answer to the log up to the call.
+-- Otherwise each reply has the form that the object's replies to the operation have.
 abbrev pub IsOfBehaviour : Behaviour → Kind → ℕ → (ℕ → ℕ) → (ℕ → List Made) → Type 0
 IsOfBehaviour Lawful kind n phases calls =
     IsLoggedBy (last_reply (kind_next kind) (kind_init kind)) n phases calls

@@ -22,7 +22,7 @@ inside_of Tally Counter = Some (λ n. one_word_shape n MAX_CALLS tally)
 inside_of Cell Register = Some (λ n. one_word_shape n MAX_CALLS cell)
 inside_of behaviour kind = None
 
--- The shape of the world of a run of n callers of a script of a kind, over the object of a
+-- The shape of the world in which n callers run a script of this kind over the object of this
 -- behaviour.
 abbrev pub world_of : Behaviour → Kind → ℕ → Shape
 world_of behaviour kind = unwrap_or (inside_of behaviour kind) outside_shape

@@ -41,7 +41,7 @@ macro_rules! over_behaviour {
     };
 }
 
-// Runs a script over the object of a behaviour that is outside the world.
+// Runs a script over the object of a behaviour, as an object outside the world.
 fn run_outside<R: Threads + Sync, K: Sink>(
     rt: &R,
     alloc: Global,

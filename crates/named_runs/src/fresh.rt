@@ -41,13 +41,14 @@ pub fn run_fresh<R: Threads + Sync, B: BlackBox + Sync, K: Sink>(
 ) -> Status
 where
     B::Pass: Send,
-    // Each of the script's callers has its pass of the object, in order, and none was used.
+    // For each caller of the script, in order, there is a pass of the object's own. No call was
+    // made with it, and it may make a call for each operation of its caller.
     requires passes { AreUnusedPasses (B.is_own object.now) B.Pass.caller B.Pass.made B.Pass.cap
         script.now.operations passes.old.items }
 
     // Whatever the answer, there is one pass for each caller of the script.
     ensures all_passes { vec_len passes.new ≡ length script.now.operations }
-    // The passes are those of the script's callers, in order.
+    // Each pass is the object's own, and the pass of the caller at its place.
     ensures passes { AreInOrder (IsOwnPass (B.is_own object.now) B.Pass.caller) passes.new.items }
 
     // The returned status and the text written are those of a lawful report that agrees with the
@@ -86,13 +87,14 @@ pub fn replay_fresh<B: BlackBox, K: Sink>(
     form: Form,
     sink: &mut K,
 ) -> Status
-    // Each of the script's callers has its pass of the object, in order, and none was used.
+    // For each caller of the script, in order, there is a pass of the object's own. No call was
+    // made with it, and it may make a call for each operation of its caller.
     requires passes { AreUnusedPasses (B.is_own object.now) B.Pass.caller B.Pass.made B.Pass.cap
         script.now.operations passes.old.items }
 
     // Whatever the answer, there is one pass for each caller of the script.
     ensures all_passes { vec_len passes.new ≡ length script.now.operations }
-    // The passes are those of the script's callers, in order.
+    // Each pass is the object's own, and the pass of the caller at its place.
     ensures passes { AreInOrder (IsOwnPass (B.is_own object.now) B.Pass.caller) passes.new.items }
 
     // The returned status and the text written are those of a lawful report that agrees with the
@@ -134,7 +136,8 @@ where
     B::Pass: Send,
     // A table can have two callers more than the script has.
     requires few { length script.now.operations + 2 ≤ MAX_CALLERS }
-    // Each of the script's callers has its pass of the object, in order, and none was used.
+    // For each caller of the script, in order, there is a pass of the object's own. No call was
+    // made with it, and it may make a call for each operation of its caller.
     requires passes { AreUnusedPasses (B.is_own object.now) B.Pass.caller B.Pass.made B.Pass.cap
         script.now.operations passes.old.items }
 
@@ -142,7 +145,7 @@ where
     ensures all_passes { vec_len passes.new ≡ length script.now.operations }
     // The list of passes has at least the capacity that it had.
     ensures capacity { vec_capacity passes.old ≤ vec_capacity passes.new }
-    // The passes are those of the script's callers, in order.
+    // Each pass is the object's own, and the pass of the caller at its place.
     ensures passes { AreInOrder (IsOwnPass (B.is_own object.now) B.Pass.caller) passes.new.items }
 
     // The returned status and the text written are right for the records of callers whose calls

@@ -45,8 +45,9 @@ pub record AreEven (steps : List (ℕ × ℕ)) : Type 0 where
   pub first : (prefix rest : List (ℕ × ℕ)) → steps ≡ prefix ++ rest
       → length (given_out stack_reading prefix) ≤ length (put_in stack_reading prefix)
 
--- A value is the newest one on a stack after some steps: one of the steps puts it in, and all that
--- is put in after this step is given out again.
+-- A value is the newest one on a stack after some steps: one of the steps puts it in, and the steps
+-- after this one are even, which means that they give out as many values as they put in, and no
+-- prefix of them gives out more than it puts in.
 pub record IsNewest (steps : List (ℕ × ℕ)) (value : ℕ) : Type 0 where
   pub before : List (ℕ × ℕ)
   pub push : ℕ × ℕ
@@ -55,13 +56,15 @@ pub record IsNewest (steps : List (ℕ × ℕ)) (value : ℕ) : Type 0 where
   pub puts : put_by stack_reading push ≡ Some value
   pub even : AreEven later
 
--- A pop gives the newest value on the stack, or none where the steps before it are even.
+-- A pop gives the newest value on the stack, or none where the steps before it give out as many
+-- values as they put in, and no prefix of them gives out more than it puts in.
 abbrev pub GivesTheNewest : List (ℕ × ℕ) → ℕ → Type 0
 GivesTheNewest before reply = ((reply ≡ reply_none) × AreEven before)
     ⊎ ((value : ℕ) × (reply ≡ reply_value value) × IsNewest before value)
 
 -- In each run of a stack, a pop gives the newest value on the stack after the steps before it, or
--- none where these steps are even.
+-- none where these steps give out as many values as they put in, and no prefix of them gives out
+-- more than it puts in.
 abbrev pub PopsGiveTheNewest : Type 0
 PopsGiveTheNewest = (before rest : List (ℕ × ℕ)) (step : ℕ × ℕ)
     → IsRunOfKind Stack (before ++ step ∷ rest) → does pop step ≡ true

@@ -30,7 +30,7 @@ pub fn runs_of_a_stack()
     ensures run { IsRunOfKind kinds.Stack ((operation words.push 1, reply_done)
         ∷ (operation words.push 2, reply_done) ∷ (operation words.pop 0, reply_value 2)
         ∷ (operation words.pop 0, reply_value 1) ∷ (operation words.pop 0, reply_none) ∷ []) }
-    // A value that was put in first doesn't come out first.
+    // Of two values that are put in, the first one doesn't come out first.
     ensures first_first { ¬ IsRunOfKind kinds.Stack ((operation words.push 1, reply_done)
         ∷ (operation words.push 2, reply_done) ∷ (operation words.pop 0, reply_value 1) ∷ []) }
     // A value that was put in once doesn't come out twice.

@@ -32,7 +32,7 @@ write_nine = 2 ^ 32 + 9
 abbrev pub read : ℕ
 read = 2 * 2 ^ 32
 
--- An operation word of code 3, which neither object knows.
+-- An operation word of code 3, which neither the tally nor the cell knows.
 abbrev pub unknown : ℕ
 unknown = 3 * 2 ^ 32
 
@@ -90,7 +90,7 @@ refused_before_adding = finds_and_leaves 0 0 2 ∷ finds_and_leaves 0 0 0 ∷ fi
 abbrev pub refused_after_adding : List Step
 refused_after_adding = finds_and_leaves 1 1 2 ∷ gets 1 1 (value 1) ∷ gets 1 1 bad ∷ []
 
--- Caller 0 announces an operation that neither object knows.
+-- Caller 0 announces an operation that neither the tally nor the cell knows.
 abbrev pub unknown_announced : List Step
 unknown_announced = announcement 0 unknown (0 ∷ 0 ∷ [])
 

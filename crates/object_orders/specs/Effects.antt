@@ -41,7 +41,8 @@ abbrev pub IsQuietOrTakesEffect : (List ℕ → ℕ → List ℕ × ℕ) → Sha
     → World → Type 0
 IsQuietOrTakesEffect next s e w v = IsQuiet e w v ⊎ ((d : Done) × TakesEffect next s e w v d)
 
--- The calls of every run take effect one at a time.
+-- The calls of every run take effect one at a time, on the lists of a sequential object from its
+-- first list on; and a call that returns has taken effect before, with the reply that it returns.
 pub record HasEffects (spec : SeqSpec) (s : Shape) (e : Effects) : Type 0 where
   -- at the start the sequential object has its first list, and no call has taken effect
   pub first : e.list (start s) ≡ spec.init
@@ -54,7 +55,7 @@ pub record HasEffects (spec : SeqSpec) (s : Shape) (e : Effects) : Type 0 where
       → IsTrue (is_possible s w (return_of i x reply))
       → e.reply w (call_of i (length (local_of w i).replies)) ≡ Some reply
 
--- At some moment of a run one call has taken effect and the other hasn't.
+-- At some moment of a run call a has taken effect and call b hasn't.
 pub record TakesEffectBefore (s : Shape) (e : Effects) (steps : List Step)
     (a b : Call) : Type 0 where
   pub before : List Step

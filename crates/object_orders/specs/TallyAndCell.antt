@@ -10,7 +10,8 @@ use Rattle.world_core.specs.World.{Step, IsRun}
 use Rattle.world_core.specs.History.{IsLinearizable, history_of}
 use Rattle.object_orders.specs.OneWord.{OneWord, Serves, one_word_shape}
 
--- The tally: an increment adds 1 to its word of 64 bits, and replies the word that it found.
+-- The tally: an increment adds 1 to its word, modulo 2 ^ 64, and replies the word that it found,
+-- modulo 2 ^ 32.
 abbrev pub tally : OneWord
 tally =
     record {
@@ -19,11 +20,13 @@ tally =
       replies = λ operation x. reply_value x;
     }
 
--- The list of the counter that a word of the tally represents: the count modulo 2 ^ 32.
+-- The list of the counter that a word of the tally represents: its one item is the word modulo 2 ^
+-- 32.
 abbrev pub count_in : ℕ → List ℕ
 count_in x = x % 2 ^ 32 ∷ []
 
--- The cell: a write stores its argument, and a read leaves the word and replies it.
+-- The cell: a write stores its argument and replies `done`, and a read leaves the word as it is and
+-- replies it, modulo 2 ^ 32.
 abbrev pub cell : OneWord
 cell =
     record {

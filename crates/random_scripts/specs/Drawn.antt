@@ -22,8 +22,9 @@ pub record IsWorkload (w : Workload) : Type 0 where
   pub values : 1 ≤ w.values
   pub weights : 1 ≤ w.weights.first + w.weights.second + w.weights.third
 
--- Whether a draw chooses the first, the second or the third operation: its remainder modulo the sum
--- of the weights is below the first weight, else below the sum of the first two, or else not.
+-- Which operation a draw chooses, by its remainder modulo the sum of the weights: the first one
+-- where the remainder is below the first weight, else the second one where it is below the sum of
+-- the first two weights, else the third one.
 abbrev pub chosen : Weights → ℕ → OperationChoice
 chosen w draw =
     let share = draw % (w.first + w.second + w.third) in

@@ -10,8 +10,8 @@ use client_scripts::{Script, read_script};
 use std::alloc::Global;
 
 /// The script of a seed: each caller makes as many calls as the workload says, none stops, and
-/// there are no turns. The operation of each call is drawn by itself, so that with more calls a
-/// caller of the script of a seed has the same first operations.
+/// there are no turns. The operation of each call is drawn by itself: a workload that differs only
+/// in having more calls gives each caller the same first operations for a seed.
 pub fn random_script(alloc: Global, workload: &Workload, seed: u64) -> Result<Script, NoMemory>
     // The workload is within the limits of scripts' texts, with at least one value to draw, and a
     // weight above 0.

@@ -30,7 +30,7 @@ pub struct Workload {
     pub callers: u32,
     /// How many calls each caller makes: at most 256.
     pub calls: u64,
-    /// The arguments of operations are below this number, which is at least 1.
+    /// Each number that an operation takes is below this one, which is at least 1.
     pub values: u32,
     /// How often each operation comes. One of them is at least 1.
     pub weights: Weights,

@@ -4,8 +4,8 @@ use Rattle.book_base.specs.declared.call.Record.{Record}
 use Rattle.report_lines.specs.Phases.{Progress, no_progress, IsProgressAfter}
 use Rattle.report_lines.specs.Progress.{after_announcing, after_viewing, after_publishing, after_seeing}
 
--- The progress of a caller before its first phase has no call, no published record and no object
--- step.
+-- A caller whose progress has no call, no published record and no object step may be one that has
+-- made no phase yet.
 abbrev pub NoPhaseIsMade : Type 0
 NoPhaseIsMade = (operations : List ℕ) → IsProgressAfter operations 0 no_progress
 

@@ -15,8 +15,8 @@ ghost use Rattle.report_laws.specs.Working.{HaveWorked};
 ghost use Rattle.report_laws.specs.Cases.{five_and_six, both_delivered, both_failed, first_failed, seen_otherwise, sixty, stopped, nothing, one_unchecked, second_begun, one_judging};
 
 /// A run of two whole calls has two lawful reports: where the object should give ten times the
-/// operation, both calls are delivered; where it should always give 0, both are errors. Every other
-/// verdict makes an unlawful report.
+/// operation, both calls are delivered; where it should always give 0, both are errors. Each other
+/// list of lines that is tried is no lawful report.
 pub fn a_run_is_reported()
     // The steps of the two whole calls are a run.
     ensures run { IsRun pair two_calls }

@@ -7,7 +7,8 @@ ghost use Rattle.report_laws.specs.Working.{VerdictsStay, WorkersGoThrough, Work
 
 /// How each of the five phases of a call changes its caller's progress.
 pub fn phases_are_made_one_by_one()
-    // Before its first phase a caller has no call, no published record and no object step.
+    // A caller with no call, no published record and no object step may be one that has made no
+    // phase yet.
     ensures none { NoPhaseIsMade }
     // A caller that has judged k calls, and has an operation left, comes one phase further by
     // announcing it.

@@ -44,15 +44,18 @@ worked_operations = (5 ∷ 7 ∷ []) ∷ (6 ∷ 9 ∷ []) ∷ (8 ∷ []) ∷ []
 abbrev pub worked_stops : List (Option ℕ)
 worked_stops = Some 6 ∷ None ∷ Some 3 ∷ []
 
--- The record of the first caller's first call.
+-- The record of the first caller's first call in the worked lines, with the reply 50 and a view
+-- that holds this call alone.
 abbrev pub first : Record
 first = answer 50 (1 ∷ 0 ∷ 0 ∷ [])
 
--- The record of the second caller's call.
+-- The record of the second caller's call in the worked lines, with the reply 61 and a view that
+-- holds the first calls of the first two callers.
 abbrev pub second : Record
 second = answer 61 (1 ∷ 1 ∷ 0 ∷ [])
 
--- The record of the third caller's call.
+-- The record of the third caller's call in the worked lines, with the reply 80 and a view that
+-- holds the first call of each caller.
 abbrev pub third : Record
 third = answer 80 (1 ∷ 1 ∷ 1 ∷ [])
 
@@ -77,7 +80,7 @@ recorded op r = record { operation = op; reached = Has_record r }
 abbrev pub judged : ℕ → Record → List ℕ → Made
 judged op r cut = record { operation = op; reached = Has_seen r cut }
 
--- The calls of the worked lines.
+-- The calls that the lines of `worked_lines` tell of, as one list for each of the three callers.
 abbrev pub worked_calls : List (List Made)
 worked_calls = (judged 5 first (1 ∷ 0 ∷ 0 ∷ []) ∷ made 7 ∷ [])
     ∷ (judged 6 second (1 ∷ 1 ∷ 0 ∷ []) ∷ []) ∷ (recorded 8 third ∷ []) ∷ []
@@ -86,17 +89,18 @@ worked_calls = (judged 5 first (1 ∷ 0 ∷ 0 ∷ []) ∷ made 7 ∷ [])
 abbrev pub page : List ℕ → List Record → Page
 page operations records = record { operations = operations; records = records }
 
--- The book of the worked lines.
+-- The book of the lines of `worked_lines`, with a page for each of the three callers.
 abbrev pub worked_book : List Page
 worked_book =
     page (5 ∷ 7 ∷ []) (first ∷ []) ∷ page (6 ∷ []) (second ∷ []) ∷ page (8 ∷ []) (third ∷ []) ∷ []
 
--- The worked lines, but with a delivered line of the second caller whose seen cut is `cut`.
+-- The lines of `worked_lines`, but with a delivered line of the second caller whose seen cut is
+-- `cut`.
 abbrev pub seen_by_second : List ℕ → List (List Line)
 seen_by_second cut = (delivered 5 first (1 ∷ 0 ∷ 0 ∷ []) ∷ pending 7 ∷ [])
     ∷ (delivered 6 second cut ∷ []) ∷ (unchecked 8 third ∷ []) ∷ []
 
--- The worked lines, but with `cut` as the seen cut of the second caller's error line.
+-- The lines of `worked_lines`, but with `cut` as the seen cut of the second caller's error line.
 abbrev pub failed_by_second : List ℕ → List (List Line)
 failed_by_second cut = (delivered 5 first (1 ∷ 0 ∷ 0 ∷ []) ∷ pending 7 ∷ [])
     ∷ (failed 6 second cut ∷ []) ∷ (unchecked 8 third ∷ []) ∷ []

@@ -83,7 +83,8 @@ pub record IsProgressAfter (operations : List ℕ) (p : ℕ) (progress : Progres
   pub marks : marks_of progress.calls ≡ marks_after p
   pub published : progress.published ≡ published_by p
 
--- A caller with these operations and this local has made exactly its first p phases.
+-- The local of a caller with these operations shows a progress that the caller may have after its
+-- first p phases.
 abbrev pub HasMade : List ℕ → ℕ → Local → Type 0
 HasMade operations p l = IsProgressAfter operations p (progress_of l)
 

@@ -157,22 +157,24 @@ pub fn objects_tell_of_what_they_were_asked()
 
 /// What lines with all four ends tell: their calls, their book, their seen cuts, and their errors.
 pub fn lines_tell_of_calls()
-    // The calls of the worked lines are a judged and an announced one of the first caller, a judged
-    // one of the second, and a recorded one of the third.
+    // Lines of three callers with all four ends tell of these calls: a judged and an announced one
+    // of the first caller, a judged one of the second, and a recorded one of the third.
     ensures calls { calls_of worked_lines ≡ worked_calls }
-    // The book of the worked lines has each call, and the records of the calls that have one.
+    // The book of lines with all four ends has each call, and the records of the calls that have
+    // one.
     ensures book { book_of_lines worked_lines ≡ worked_book }
-    // Of the worked lines the delivered one and the error have seen cuts, and a call without a line
-    // has none.
+    // Of four lines, one with each end, the delivered one and the error have seen cuts, and the
+    // others have none. A call without a line has none either.
     ensures seen { map (seen_at worked_lines)
         (call 0 0 ∷ call 0 1 ∷ call 1 0 ∷ call 2 0 ∷ call 2 1 ∷ call 3 0 ∷ [])
         ≡ Some (1 ∷ 0 ∷ 0 ∷ []) ∷ None ∷ Some (1 ∷ 1 ∷ 0 ∷ []) ∷ None ∷ None ∷ None ∷ [] }
-    // Of four worked lines only the first caller's first one is delivered, with the seen cut 1, 0,
-    // 0.
+    // Of four lines, one with each end, only the first caller's first one is delivered, with the
+    // seen cut 1, 0, 0.
     ensures delivered { map (delivered_at worked_lines)
         (call 0 0 ∷ call 0 1 ∷ call 1 0 ∷ call 2 0 ∷ [])
         ≡ Some (1 ∷ 0 ∷ 0 ∷ []) ∷ None ∷ None ∷ None ∷ [] }
-    // Of four worked lines only the second caller's one is an error, with the seen cut 1, 1, 0.
+    // Of four lines, one with each end, only the second caller's one is an error, with the seen cut
+    // 1, 1, 0.
     ensures error { map (error_at worked_lines) (call 0 0 ∷ call 0 1 ∷ call 1 0 ∷ call 2 0 ∷ [])
         ≡ None ∷ None ∷ Some (1 ∷ 1 ∷ 0 ∷ []) ∷ None ∷ [] }
     // Of the three callers the second one has an error.
@@ -200,7 +202,8 @@ pub fn callers_are_given_phases()
     ensures no_stops { allotments_of worked_operations [] ≡ 10 ∷ 10 ∷ 5 ∷ [] }
     // A caller without calls is given no phase.
     ensures no_calls { allotments_of ([] ∷ []) [] ≡ 0 ∷ [] }
-    // A caller that takes turns is given one phase for each of its turns, up to its stop.
+    // A caller that takes turns is given one phase for each of its turns, but no more phases than
+    // it is given without turns.
     ensures by_turns { allotments_by_turns worked_operations worked_stops
         (0 ∷ 1 ∷ 2 ∷ 2 ∷ 1 ∷ 2 ∷ 2 ∷ []) ≡ 1 ∷ 2 ∷ 3 ∷ [] }
     // A caller without an error makes all phases that it is given.
@@ -266,7 +269,8 @@ pub fn lines_are_those_of_the_allotment()
 /// too few counts, lacks its own line's call, holds a later call of that line's caller or a record
 /// that isn't published, or isn't comparable with another seen cut.
 pub fn seen_cuts_fit()
-    // The seen cuts of the worked lines fit one another and the published records.
+    // The seen cut 1, 0, 0 of a delivered line and the seen cut 1, 1, 0 of another caller's error
+    // line fit one another and the published records.
     ensures worked { AreSeen (published_in (6 ∷ 10 ∷ 3 ∷ []) worked_lines) worked_lines }
     // A seen cut with a record of caller 2 doesn't fit where that caller wasn't given the phase
     // that publishes it.
@@ -288,8 +292,8 @@ pub fn seen_cuts_fit()
 {}
 
 /// When an error line's seen cut fits the other seen cuts and the published records. It doesn't fit
-/// where it has too few counts, lacks its own line's call, holds a later call of its own caller or
-/// a record that isn't published, or isn't comparable with another seen cut.
+/// where it has too few counts, lacks its own line's call, holds a later call of that line's caller
+/// or a record that isn't published, or isn't comparable with another seen cut.
 pub fn seen_cuts_of_errors_fit()
     // An error's seen cut with a record of caller 2 doesn't fit where that caller wasn't given the
     // phase that publishes it.
@@ -318,8 +322,8 @@ pub fn greatest_delivered_cuts()
     // delivered ones.
     ensures cuts { delivered_cuts three_delivered
         ≡ (1 ∷ 0 ∷ []) ∷ (2 ∷ 1 ∷ []) ∷ (1 ∷ 1 ∷ []) ∷ [] }
-    // The greatest delivered cut of three delivered lines is that of the second one, which contains
-    // the two others.
+    // The greatest delivered cut of three delivered lines is the seen cut of the second line, which
+    // contains the seen cuts of the two others.
     ensures three { delivered_cut 2 three_delivered ≡ 2 ∷ 1 ∷ [] }
     // Where one line is delivered, the greatest delivered cut is its seen cut.
     ensures one { delivered_cut 3 worked_lines ≡ 1 ∷ 0 ∷ 0 ∷ [] }

@@ -38,9 +38,9 @@ SayAnswer n words None suffix = words ≡ codes "pending" ∷ []
 SayAnswer n words (Some r) suffix = IsAnswer n r × NoPairFirst suffix
     × (words ≡ reply_word r.reply ∷ codes "view" ∷ (pair_words 0 r.view ++ suffix))
 
--- The words after the operation say no answer, and this is the test that they fail: `Reply`, where
--- they neither are 'pending' alone nor begin with a reply; `View`, where 'view' doesn't follow the
--- reply, or one of the pairs after 'view' is bad.
+-- The words after the operation neither are 'pending' alone nor begin with an answer, and this is
+-- the test that they fail: `Reply`, where they don't begin with a reply either; `View`, where
+-- 'view' doesn't follow the reply, or one of the pairs after 'view' is bad.
 abbrev pub IsNoAnswer : ℕ → List (List ℕ) → What → Type 0
 IsNoAnswer n words what.Reply = (words ≢ codes "pending" ∷ [])
     × ((reply : ℕ) (others : List (List ℕ)) → reply < 2 ^ 64 → words ≢ reply_word reply ∷ others)
@@ -65,7 +65,7 @@ abbrev pub IsPrefixRefused : Kind → ℕ → Call → List (List ℕ) → What 
 IsPrefixRefused kind n call words name = (counts : List ℕ) (told : List Line) → length counts ≡ n
     → IsFirstTest (LineFails kind counts told call words) name
 
--- The words that a line with this end has after its view.
+-- The words that a line with this end has after its view; none where the line is pending.
 abbrev pub verdict_words : LineEnd → List (List ℕ)
 verdict_words Pending = []
 verdict_words (Unchecked r) = codes "unchecked" ∷ []

@@ -93,7 +93,7 @@ BeginAsVerdict words suffix = (words ≡ codes "ok" ∷ codes "seen" ∷ suffix)
 
 -- ---- how a line fits those before it
 
--- The lines have one for this call, and it is pending.
+-- There is a line for this call among the lines, and it is pending.
 abbrev pub IsPendingAt : List (List Line) → Call → Type 0
 IsPendingAt lines call = (line : Line) × (line_at lines call ≡ Some line) × (line.end ≡ Pending)
 

@@ -63,7 +63,7 @@ fn join(seen: &mut Cut, cut: &Cut)
 
 /// The first of two tests that a line of this call fails: `Seen`, whether it fits the seen cuts and
 /// pending lines before it; and `Last`, whether it is delivered or is the last of its caller, which
-/// has `count` calls.
+/// has `count` calls. None where the line passes both.
 pub(crate) fn misfit(limits: &Cut, seen: &Cut, call: Call, count: u64, line: &Line) -> Option<What>
     requires caller { call.caller < length limits.now }
     requires wide { length seen.now ≡ length limits.now }

@@ -24,7 +24,7 @@ pub record Findings : Type 0 where
 abbrev pub sizes : List (List Line) → List ℕ
 sizes lines = map (λ own. length own) lines
 
--- The lines have one for this call.
+-- There is a line for this call.
 abbrev pub HasLine : List (List Line) → Call → Type 0
 HasLine lines call = call.number < length (lines_at lines call.caller)
 

@@ -19,7 +19,7 @@ impl Report {
     pub fn sizes(&self) -> Cut
         // The answer is how many lines each caller has.
         ensures counts { result ≡ sizes self.now.lines }
-        // The report is one that texts of version 2 can have.
+        // A text of version 2 can say the report.
         ensures report { IsReport self.now }
     {
         sizes_of(self.all())
@@ -49,11 +49,12 @@ fn sizes_of(callers: &[Own]) -> Cut
 
 /// The book of lines, each caller's by number: their calls, and the records of those that have one.
 ///
-/// There are no more callers and calls than a book may have, and each line has its record, but for
-/// a caller's last, which may have none.
+/// There is at least one caller, and no more callers and calls than a book may have. Each line has
+/// its record, but for a caller's last, which may have none, and the book is valid.
 pub fn book_of(alloc: Global, callers: &[Own]) -> Result<Book, NoMemory>
-    // The lines make a book: there are no more callers and calls than a book may have, each line
-    // but a caller's last has its record, and the book of the lines is valid.
+    // The lines make a book: there is at least one caller, there are no more callers and calls than
+    // a book may have, each line but a caller's last has its record, and the book of the lines is
+    // valid.
     requires { AreOfABook (lines_in callers.now) }
     ensures { IfOk result (λ book. book ≡ book_of_lines (lines_in callers.now)) }
 {

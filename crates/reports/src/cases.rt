@@ -17,21 +17,22 @@ use std::alloc::Global;
 
 /// Lines with all four ends are a report, and the second caller's error has its witness.
 pub fn a_report_has_a_witness()
-    // The worked lines are a report of a queue.
+    // Lines of three callers with all four ends are a report of a queue.
     ensures report { IsReport worked }
-    // The first error of the worked lines is that of caller 1, which saw a record of each of the
-    // first two callers.
+    // Where only caller 1 has an error line, that line is the first error, and its seen cut counts
+    // one record of each of the first two callers.
     ensures first { IsFirstError worked_lines (call 1 0) (1 ∷ 1 ∷ 0 ∷ []) }
-    // The witness of the worked lines is the book with one record of each of the first two callers
-    // and the calls that their views hold.
+    // The witness of lines whose one error saw a record of each of the first two callers is the
+    // book with these two records and the calls that their views hold.
     ensures witness { IsWitness worked_lines worked_witness }
-    // One of the worked lines is an error.
+    // Of lines with all four ends at least one is an error.
     ensures any { list_any any_error worked_lines ≡ true }
-    // The worked lines have four calls, of which one is delivered and one is an error.
+    // Four lines, one with each end, count as four calls, of which one is delivered and one is an
+    // error.
     ensures counts { counts_of worked_lines ≡ record { calls = 4; delivered = 1; errors = 1 } }
 {}
 
-/// Of two errors the earlier caller's is the first, whatever their seen cuts are.
+/// Of two errors of two callers, that of the caller with the lower number is the first.
 pub fn the_earlier_callers_error_is_first()
     // Of two errors, one of caller 0 and one of caller 1, that of caller 0 is the first.
     ensures first { IsFirstError two_errors (call 0 0) (1 ∷ 0 ∷ []) }
@@ -42,7 +43,8 @@ pub fn the_earlier_callers_error_is_first()
 {}
 
 /// Lines are no report where one follows a line that isn't delivered, where a seen cut doesn't fit
-/// the book of the lines, or where a text can't have their words.
+/// the book of the lines, where two views aren't comparable, where an operation or a reply is no
+/// word of a text, or where there are no callers, or more callers or calls than a text may have.
 pub fn lines_that_are_no_report()
     // Lines with one after a pending line are no report.
     ensures after_pending { ¬ IsReport (of_queue after_pending) }

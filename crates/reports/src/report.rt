@@ -57,7 +57,7 @@ impl Report {
     pub fn callers(&self) -> u32
         // The answer is how many callers the report has.
         ensures count { result ≡ length self.now.lines }
-        // The report is one that texts of version 2 can have.
+        // A text of version 2 can say the report.
         ensures report { IsReport self.now }
     {
         self.callers.len() as u32

@@ -35,8 +35,8 @@ module _ {P : Type 0} where
   abbrev pub KnowsRecords : Rows P → Caller P → List ℕ → Type 0
   KnowsRecords r c cut = (j : ℕ) → j < r.callers → KnowsFirst r c M j (slice_index cut j)
 
-  -- The caller `c` knows that the row in N of each call is counted whose number is below the entry
-  -- of `counts` for the call's caller.
+  -- For each caller `j`, the caller `c` knows that the first rows of `j` in N are counted, as many
+  -- as `counts` has for `j`.
   abbrev pub KnowsCalls : Rows P → Caller P → List ℕ → Type 0
   KnowsCalls r c counts = (j : ℕ) → j < r.callers → KnowsFirst r c N j (slice_index counts j)
 

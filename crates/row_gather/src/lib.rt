@@ -1,5 +1,6 @@
-//! Gathers books: reads the records that a cut holds from the rows of a table, as exactly the book
-//! at that cut. The book grows from the one that its caller gathered before.
+//! Gathers books: reads from the rows of a table the book at a cut, with the records that the cut
+//! holds and the calls that some of their views hold. The book grows from the one that its caller
+//! gathered before.
 #![tactic(auto)]
 
 mod answers;

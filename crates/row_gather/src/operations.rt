@@ -75,8 +75,8 @@ fn add_calls_of<P: Program, L: Ledger>(
     Ok(())
 }
 
-// Adds to the book, for each caller `j`, the calls that it lacks among the first ones that `counts`
-// counts for `j`, and peeks their operations.
+// Adds to the book the calls that it lacks of each caller `j`, up to the number that `counts` has
+// for `j`, and peeks their operations.
 pub fn add_calls<P: Program, L: Ledger>(
     rows: &Rows<P>,
     caller: &mut Caller<P>,

@@ -14,7 +14,7 @@ use std::alloc::Global;
 use std::sync::ledger::Ledger;
 use world_core::{Program, Region};
 
-// Peeks the view of a call, each of whose entries is one word.
+// Peeks the view of a call: one word for each entry.
 fn peek_view<P: Program, L: Ledger>(
     rows: &Rows<P>,
     caller: &mut Caller<P>,

@@ -23,8 +23,8 @@ impl Model for Holding {
     ghost view = { λ _. [] };
 }
 
-/// What the table is told once: its program, its callers and its cap, and how many object words it
-/// has.
+/// What a table of rows is made with: its program, its number of callers, its cap and its number of
+/// object words.
 #[derive(Drop)]
 pub struct Key<P> {
     pub program: P,

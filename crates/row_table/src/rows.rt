@@ -77,7 +77,8 @@ impl<P: Program> Rows<P> {
     ghost use Rattle.world_core.specs.Shape.{words_of};
     ghost use Rattle.world_core.specs.Calls.{AreTogether};
 
-    // A load that is this action of the seat's caller.
+    // Makes the step `action` of the seat's caller, which loads the word at the index `word`, and
+    // answers this word.
     pub(crate) fn load_as<J: StepEvent>(
         &self,
         seat: &mut CallerSeat,
@@ -97,7 +98,7 @@ impl<P: Program> Rows<P> {
         self.table.shared.load::<Does<J>>(&mut seat.seat, word)
     }
 
-    // A store that is this action of the seat's caller.
+    // Makes the step `action` of the seat's caller, which stores `new` at the index `word`.
     pub(crate) fn store_as<J: StepEvent>(
         &self,
         seat: &mut CallerSeat,
@@ -120,7 +121,8 @@ impl<P: Program> Rows<P> {
             .store::<Writes<J>>(&mut seat.seat, word, new)
     }
 
-    // An addition that is this action of the seat's caller.
+    // Makes the step `action` of the seat's caller, which adds `add`, modulo 2^64, to the word at
+    // the index `word`, and answers the word that it found.
     pub(crate) fn add_as<J: StepEvent>(
         &self,
         seat: &mut CallerSeat,
@@ -143,7 +145,8 @@ impl<P: Program> Rows<P> {
             .fetch_add::<Does<J>>(&mut seat.seat, word, add)
     }
 
-    // A compare-exchange that is this action of the seat's caller.
+    // Makes the step `action` of the seat's caller, which puts `new` at the index `word` where it
+    // finds `old` there, and answers the word that it found.
     pub(crate) fn exchange_as<J: StepEvent>(
         &self,
         seat: &mut CallerSeat,

@@ -45,17 +45,17 @@ pub record IsOpening (bytes : List ℕ) (callers : ℕ) : Type 0 where
 abbrev pub IsCrowded : List ℕ → Type 0
 IsCrowded bytes = (callers : ℕ) × IsOpening bytes callers × (MAX_CALLERS < callers + 2)
 
--- The first fault of bytes that are no text of a script that leaves two callers for the monitors:
--- in the third line where this has too many callers, whatever follows it, and otherwise the first
--- fault of a script's text.
+-- The first fault of bytes that are no text of a script that leaves two callers for the monitors.
+-- Where their first three lines are those of a script of too many callers, it is `Callers` in line
+-- 3, whatever follows; otherwise it is the first fault of a script's text.
 unfoldable pub IsFirstMonitorFault : List ℕ → TextFault → Type 0
 IsFirstMonitorFault bytes fault =
     (IsCrowded bytes × (fault ≡ record { line = 3; what = Callers }))
     ⊎ ((¬ IsCrowded bytes) × IsFirstScriptFault Second bytes fault)
 
--- What `monitor` says of the text of a script: a status and a text that are right for the records
--- that the script's callers, each in a thread, published, where the object of the behaviour
--- answered their calls.
+-- What `monitor` answers to the text of a script: a status and a text that are right for the
+-- records that the script's callers published in a run, where the object of the behaviour answered
+-- their calls.
 abbrev pub IsMonitoredOf : Behaviour → List ℕ → Status → List ℕ → Type 0
 IsMonitoredOf behaviour bytes status text =
     (plan : Plan) × IsScriptText Second bytes plan × LeavesTwo plan

@@ -5,7 +5,8 @@ use Rattle.text_fields.specs.Lines.{line_text}
 use Rattle.order_check.specs.declared.fault.OrderFault.{OrderFault}
 use Rattle.order_check.specs.declared.fault.OrderFault.TheVariants.{Unknown, Twice, Skipped, Late, Record, Run, Missing}
 
--- The words of the fault of an order: its name, its places or its call, and its replies.
+-- The words that tell the fault of an order: its name, then its places or its call, and then, where
+-- it has them, the reply wanted and the reply found.
 abbrev pub fault_words : OrderFault → List (List ℕ)
 fault_words (Unknown p) = codes "Unknown" ∷ decimal p ∷ []
 fault_words (Twice p) = codes "Twice" ∷ decimal p ∷ []

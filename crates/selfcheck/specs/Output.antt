@@ -32,8 +32,9 @@ use Rattle.selfcheck.specs.SetInput.{IsSetInput, IsLegalSetInput, IsIllegalSetIn
 use Rattle.byte_streams.specs.Told.{HasRead, AppendsPart, read_of}
 use Rattle.selfcheck.specs.Upgrade.{IsOldInput, IsFirstOldFault, IsUpgraded}
 
--- The form of text that a command takes as its input; `NoForm` is for a command that reads no
--- source.
+-- The form of text that a command takes as its input: the text of a book, of a certificate, of a
+-- script or a book in version 1 (`OldForm`), of a set book, of a script, or of a script that leaves
+-- two callers for the monitors; `NoForm` is for a command that reads no source.
 pub data InputForm : Type 0 where
   BookForm : InputForm
   CertificateForm : InputForm
@@ -56,7 +57,7 @@ form_of (Certify behaviour) = ScriptForm
 form_of (Monitor behaviour) = MonitorForm
 form_of (Soak number) = NoForm
 
--- The bytes are a text of this form.
+-- The bytes are a text of this form; for `NoForm` there are no bytes.
 abbrev pub IsTextOf : InputForm → List ℕ → Type 0
 IsTextOf BookForm bytes = IsTextOfBook bytes
 IsTextOf CertificateForm bytes = IsTextOfCertificate bytes
@@ -66,7 +67,7 @@ IsTextOf ScriptForm bytes = IsScriptInput bytes
 IsTextOf MonitorForm bytes = IsMonitorInput bytes
 IsTextOf NoForm bytes = bytes ≡ []
 
--- The first fault of bytes that are no text of this form.
+-- The first fault of bytes that are no text of this form; for `NoForm` bytes have no fault.
 abbrev pub IsFirstFaultOf : InputForm → List ℕ → TextFault → Type 0
 IsFirstFaultOf BookForm bytes fault = IsFirstBookFault Second bytes fault
 IsFirstFaultOf CertificateForm bytes fault = IsFirstCertificateFault bytes fault
@@ -81,13 +82,14 @@ IsFirstFaultOf NoForm bytes fault = ⊥
 abbrev pub IsTaken : Command → List ℕ → Type 0
 IsTaken command bytes = (length bytes ≤ INPUT_LIMIT) × IsTextOf (form_of command) bytes
 
--- What `verify` says of the text of a book: a status and a text.
+-- What `verify` answers to the text of a book, a status and a text: `Fine` and `legal` where the
+-- book has a legal order, and `Found` and `illegal` where it has none.
 abbrev pub IsVerdict : List ℕ → Status → List ℕ → Type 0
 IsVerdict bytes Fine text = IsLegalBook bytes × (text ≡ codes "legal\n")
 IsVerdict bytes Found text = IsIllegalBook bytes × (text ≡ codes "illegal\n")
 IsVerdict bytes _ text = ⊥
 
--- The text is that of the sketch of the book that the bytes are the text of.
+-- The bytes are the text of a book, and the text is that of the sketch of this book.
 pub record IsSketchText (bytes text : List ℕ) : Type 0 where
   pub kind : Kind
   pub book : List Page
@@ -96,24 +98,29 @@ pub record IsSketchText (bytes text : List ℕ) : Type 0 where
   pub sketched : IsSketch book events
   pub text_is : text ≡ text_of (sketch_lines kind book events)
 
--- What `sketch` says of the text of a book: a status and a text.
+-- What `sketch` answers to the text of a book: the status `Fine`, and the text of the book's
+-- sketch.
 abbrev pub IsSketchOutput : List ℕ → Status → List ℕ → Type 0
 IsSketchOutput bytes Fine text = IsSketchText bytes text
 IsSketchOutput bytes _ text = ⊥
 
--- What `order` says of the text of a certificate: a status and a text.
+-- What `order` answers to the text of a certificate, a status and a text: `Fine` and `legal` where
+-- the certificate's list is a legal order of its book, and otherwise `Found` and the line that
+-- tells the first fault of the list.
 abbrev pub IsJudgement : List ℕ → Status → List ℕ → Type 0
 IsJudgement bytes Fine text = IsLegalCertificate bytes × (text ≡ codes "legal\n")
 IsJudgement bytes Found text = (fault : OrderFault) × IsFaultyCertificate bytes fault
     × (text ≡ order_fault_text fault)
 IsJudgement bytes _ text = ⊥
 
--- What `upgrade` says of a text of version 1: a status and a text.
+-- What `upgrade` answers to a text of version 1: the status `Fine`, and the text of version 2 of
+-- the same script or book.
 abbrev pub IsRewritten : List ℕ → Status → List ℕ → Type 0
 IsRewritten bytes Fine text = IsUpgraded bytes text
 IsRewritten bytes _ text = ⊥
 
--- What `sets` says of the text of a set book: a status and a text.
+-- What `sets` answers to the text of a set book, a status and a text: `Fine` and `legal` where the
+-- book has a legal set order, and `Found` and `illegal` where it has none.
 abbrev pub IsSetVerdict : List ℕ → Status → List ℕ → Type 0
 IsSetVerdict bytes Fine text = IsLegalSetInput bytes × (text ≡ codes "legal\n")
 IsSetVerdict bytes Found text = IsIllegalSetInput bytes × (text ≡ codes "illegal\n")
@@ -139,15 +146,16 @@ IsRefusal command bytes text = (fault : TextFault)
     × IsRefusedFor (IsFirstFaultOf (form_of command)) bytes fault × (text ≡ refusal_text fault)
 
 -- An output of a command for the bytes that it works on: a status and a text. With the status
--- `Refused` the text tells the fault of the bytes; with any other status the bytes aren't too many,
--- and the text is an answer of the command to them.
+-- `Refused` the text tells the fault of the bytes; with any other status there are at most
+-- `INPUT_LIMIT` bytes, and the status and the text are an answer of the command to them.
 abbrev pub IsOutputOf : Command → List ℕ → Status → List ℕ → Type 0
 IsOutputOf command bytes Refused text = IsRefusal command bytes text
 IsOutputOf command bytes status text = (length bytes ≤ INPUT_LIMIT)
     × IsAnswerOf command bytes status text
 
--- The command makes a run over an object inside the world: of the script that the bytes are the
--- text of, or, where the command is a soak, of the script made from its number.
+-- The command makes a run over an object inside the world: it is a soak; or it is a `run` or a
+-- `certify`, and where the bytes are the text of a script, its object is inside the world in a run
+-- of that script.
 abbrev pub RunsInside : Command → List ℕ → Type 0
 RunsInside (Run behaviour) bytes = IsRunInside behaviour bytes
 RunsInside (Certify behaviour) bytes = IsRunInside behaviour bytes
@@ -193,23 +201,25 @@ input_of command held = if reads_source command then read_of held else []
 
 -- A command works on `bytes`: those read from the source, where the command reads one; otherwise
 -- none, and the source is left as it was. `old` and `new` are the bytes that the source had left
--- before and afterwards.
+-- before and afterwards; where the source doesn't tell them (`None`), nothing is said of what was
+-- read from it.
 abbrev pub ReadsFor : Command → Option (List ℕ) → Option (List ℕ) → List ℕ → Type 0
 ReadsFor command old new bytes =
     MatchBool (reads_source command) (HasRead old new bytes) (Keeps old new × (bytes ≡ []))
 
--- The program works on `bytes`, where the command that the words name does. Where the words name no
--- command, the source is left as it was, whatever `bytes` are. `old` and `new` are the bytes that
+-- Where the words name a command, this command works on `bytes`, as `ReadsFor` says. Where they
+-- name none, the source is left as it was, whatever `bytes` are. `old` and `new` are the bytes that
 -- the source had left before and afterwards.
 abbrev pub Reads : List (String Global) → Option (List ℕ) → Option (List ℕ) → List ℕ → Type 0
 Reads words old new bytes =
     MatchOption (command_of words) (Keeps old new) (λ command. ReadsFor command old new bytes)
 
--- The program has ended with a status: what it read, of the bytes that the source had left, and
--- what it wrote, after those that the sink had taken.
+-- What the program has read and written when it ends with a status. `left` and `left'` are the
+-- bytes that the source had left before and afterwards, and `taken` and `taken'` those that the
+-- sink had taken.
 abbrev pub Ends : List (String Global) → Status → Option (List ℕ) → Option (List ℕ)
     → Option (List ℕ) → Option (List ℕ) → Type 0
--- nothing is written where a read failed or memory was wanted
+-- where a read failed or memory was lacking, nothing is written
 Ends words ReadFault left left' taken taken' = Keeps taken taken'
 Ends words NoMemory left left' taken taken' = Keeps taken taken'
 -- where a write failed, a prefix of the output is written, and not all of it

@@ -21,33 +21,36 @@ use Rattle.run_writer.specs.Runs.{IsRunOutput}
 unfoldable pub IsScriptInput : List ℕ → Type 0
 IsScriptInput bytes = (plan : Plan) × IsScriptText Second bytes plan
 
--- What a form shows of the script that the bytes are the text of: a status and a text, of a report
--- that `IsReportFor` allows for this script.
+-- A status and a text, which the form shows of a report. The bytes are the text of a script, for
+-- which `IsReportFor` allows this report.
 abbrev pub IsShownOf : (Plan → Findings → Type 0) → Form → List ℕ → Status → List ℕ → Type 0
 IsShownOf IsReportFor form bytes status text =
     (plan : Plan) × IsScriptText Second bytes plan
     × IsRunOutput (kind_spec plan.kind) (IsReportFor plan) form status text
 
--- The object of a behaviour is inside the world in a run of the script that the bytes are the text
--- of.
+-- Where the bytes are the text of a script, the object of the behaviour is inside the world in a
+-- run of that script.
 abbrev pub IsRunInside : Behaviour → List ℕ → Type 0
 IsRunInside behaviour bytes = (plan : Plan) → IsScriptText Second bytes plan
     → IsSome (inside_of behaviour plan.kind)
 
--- What `run` says of the text of a script: a status and a text, of a lawful report of its callers,
--- each in a thread, whose calls the object of the behaviour answered.
+-- What `run` answers to the text of a script: a status, and the text of a lawful report, with the
+-- text of its witness where the report has an error. In the report each caller goes by itself, and
+-- the object of the behaviour answered the calls.
 abbrev pub IsRunOf : Behaviour → List ℕ → Status → List ℕ → Type 0
 IsRunOf behaviour bytes status text =
     IsShownOf (IsNamedRunReport behaviour) Report bytes status text
 
--- What `replay` says of the text of a script: a status and a text, of a lawful report of its
--- callers by its turns, whose calls the object of the behaviour answered.
+-- What `replay` answers to the text of a script: a status, and the text of a lawful report, with
+-- the text of its witness where the report has an error. In the report the callers take the
+-- script's turns, and the object of the behaviour answered the calls.
 abbrev pub IsReplayOf : Behaviour → List ℕ → Status → List ℕ → Type 0
 IsReplayOf behaviour bytes status text =
     IsShownOf (IsNamedReplayReport behaviour) Report bytes status text
 
--- What `certify` says of the text of a script: a status, and a certificate of what a lawful report
--- of its callers, each in a thread, delivered.
+-- What `certify` answers to the text of a script: a status, and a certificate of what a lawful
+-- report delivered. In the report each caller goes by itself, and the object of the behaviour
+-- answered the calls.
 abbrev pub IsCertifiedOf : Behaviour → List ℕ → Status → List ℕ → Type 0
 IsCertifiedOf behaviour bytes status text =
     IsShownOf (IsNamedRunReport behaviour) Certificate bytes status text

@@ -25,24 +25,29 @@ unfoldable pub IsOldInput : List ℕ → Type 0
 IsOldInput bytes = ByTitle bytes ((plan : Plan) × IsScriptText First bytes plan)
     ((kind : Kind) × (book : List Page) × IsBookText First bytes kind book)
 
--- The first fault of bytes that are to be the text of a script or of a book, in version 1.
+-- The first fault of bytes that are no text of a script or of a book in version 1: the first one of
+-- a script's text where the first line is the title of a script, and otherwise the first one of a
+-- book's text.
 abbrev pub IsFirstOldFault : List ℕ → TextFault → Type 0
 IsFirstOldFault bytes fault =
     ByTitle bytes (IsFirstScriptFault First bytes fault) (IsFirstBookFault First bytes fault)
 
--- The text is that of version 2 of the script whose text of version 1 the bytes are.
+-- The bytes are the text of a script in version 1, and the text is that of the same script in
+-- version 2.
 pub record IsUpgradedScript (bytes text : List ℕ) : Type 0 where
   pub plan : Plan
   pub old : IsScriptText First bytes plan
   pub new : scripts.IsWrittenText Second text plan
 
--- The text is that of version 2 of the book whose text of version 1 the bytes are.
+-- The bytes are the text of a book in version 1, and the text is that of the same book in version
+-- 2.
 pub record IsUpgradedBook (bytes text : List ℕ) : Type 0 where
   pub kind : Kind
   pub book : List Page
   pub old : IsBookText First bytes kind book
   pub new : books.IsWrittenText Second text kind book
 
--- The text is that of version 2 of the script or the book whose text of version 1 the bytes are.
+-- The bytes are the text of a script or a book in version 1, and the text is that of the same
+-- script or book in version 2.
 abbrev pub IsUpgraded : List ℕ → List ℕ → Type 0
 IsUpgraded bytes text = ByTitle bytes (IsUpgradedScript bytes text) (IsUpgradedBook bytes text)

@@ -62,7 +62,7 @@ pub fn sets_has_one_output()
 /// A number determines the output of its soak: its 128 calls are all delivered.
 #[tactic(auto, using(crate::proofs::OutputLemmas::soak_is_determined, crate::proofs::OutputLemmas::soaks_deliver_all))]
 pub fn soak_has_one_output()
-    // A soak has one output, and one status, for each number.
+    // For each number a soak has at most one output, a status and a text.
     ensures determined { (number : ℕ) → IsDetermined (Soak number) }
     // All 128 calls of a soak are delivered, none is an error, and its status is `Fine`.
     ensures delivered { SoaksDeliverAll }

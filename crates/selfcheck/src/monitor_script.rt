@@ -63,8 +63,8 @@ fn read_monitored(alloc: Global, bytes: &[u8]) -> Result<Script, ReadFault>
     read_script(alloc, bytes)
 }
 
-/// Whether the first three lines are those of a script that has so many callers that the two
-/// monitors would be more than a table can have.
+/// Whether the first three lines are those of a script with so many callers that a table can't have
+/// two monitors beside them.
 fn is_crowded(bytes: &[u8]) -> bool
     ensures { IsTrue result ↔ IsCrowded bytes.now }
 {
@@ -74,7 +74,8 @@ fn is_crowded(bytes: &[u8]) -> bool
     }
 }
 
-/// The number of callers in the first three lines, where these are those of a script.
+/// The number of callers that the first three lines tell, where they are those of a script;
+/// otherwise `None`.
 fn callers_told(bytes: &[u8]) -> Option<u32>
     ensures found { IfSome result (IsOpening bytes.now) }
     ensures none { IfNone result ((callers : ℕ) → ¬ IsOpening bytes.now callers) }

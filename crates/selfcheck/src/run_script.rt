@@ -19,8 +19,9 @@ use faulty_objects::Behaviour;
 use std::alloc::Global;
 use std::thread::Threads;
 
-/// Does a task with the script that the bytes read are the text of, over the object of a behaviour,
-/// and writes its output.
+/// Does a task with the script that the bytes are the text of, over the object of a behaviour, and
+/// writes its output. Where they are the text of no script, or are too many, it writes their first
+/// fault.
 pub(crate) fn run_script<R: Threads + Sync, K: Sink>(
     rt: &R,
     alloc: Global,

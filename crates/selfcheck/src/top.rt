@@ -85,7 +85,8 @@ fn answer<R: Threads + Sync, K: Sink>(
     }
 }
 
-/// Runs the command with these words: reads the source, and writes the output to the sink.
+/// Runs the command that the words name: reads the source, where the command reads it, and writes
+/// the output to the sink. For words that name no command it writes how the program is used.
 pub fn selfcheck<R: Threads + Sync, S: Source, K: Sink>(
     rt: &R,
     alloc: Global,

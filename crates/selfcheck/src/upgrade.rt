@@ -35,7 +35,8 @@ pub(crate) fn upgrade(alloc: Global, bytes: &[u8]) -> Result<Output, NoMemory>
     }
 }
 
-/// The text of version 2 of the script or the book whose text of version 1 the input is.
+/// The text in version 2 of a script or a book. The input is the text of this script or book in
+/// version 1.
 fn upgraded(alloc: Global, bytes: &[u8]) -> Result<Vec<u8>, ReadFault>
     ensures short { IfOk result (λ _. length bytes.now ≤ INPUT_LIMIT) }
     ensures text { IfOk result (λ text. IsUpgraded bytes.now text.items) }
@@ -56,7 +57,7 @@ fn begins_as_script(bytes: &[u8]) -> bool
     bytes.starts_with(b"script 1\n")
 }
 
-/// The text of version 2 of the script whose text of version 1 the bytes are.
+/// The text in version 2 of a script. The bytes are the text of this script in version 1.
 fn upgraded_script(alloc: Global, bytes: &[u8]) -> Result<Vec<u8>, ReadFault>
     ensures text { IfOk result (λ text. IsUpgradedScript bytes.now text.items) }
     ensures refused { IfErr result (IsFaultOf (IsFirstScriptFault First bytes.now)) }
@@ -65,7 +66,7 @@ fn upgraded_script(alloc: Global, bytes: &[u8]) -> Result<Vec<u8>, ReadFault>
     Ok(write_script(alloc, &script)?)
 }
 
-/// The text of version 2 of the book whose text of version 1 the bytes are.
+/// The text in version 2 of a book. The bytes are the text of this book in version 1.
 fn upgraded_book(alloc: Global, bytes: &[u8]) -> Result<Vec<u8>, ReadFault>
     ensures text { IfOk result (λ text. IsUpgradedBook bytes.now text.items) }
     ensures refused { IfErr result (IsFaultOf (IsFirstBookFault First bytes.now)) }

@@ -11,7 +11,8 @@ use std::thread::Threads;
 /// The code that the program ends with where the system doesn't hand over the command words.
 const NO_WORDS: u8 = 7;
 
-// The command words without the program's name, or the code that the program ends with.
+// The command words without the program's name, or, where they can't be had, the code that the
+// program ends with.
 fn command_words<R: Env + AllocGlobal>(rt: &R) -> Result<Vec<String>, u8> {
     match env::args(rt) {
         Ok(args) => args

@@ -27,8 +27,10 @@ cas_register_operation word =
     then Some (CompareAndSet (argument_of word) (extra_of word))
     else None
 
--- The list of a register with compare-and-set after an operation, and the reply. An unknown
--- operation doesn't change the list, and gets the reply `bad`.
+-- The list of a register with compare-and-set after an operation, and the reply. A write makes its
+-- value the only item of the list, and replies `done`; a read replies the first item modulo 2 ^ 32,
+-- or 0 for an empty list; a compare-and-set is made as `compared_and_set` says; an unknown
+-- operation gets the reply `bad`. A read and an unknown operation don't change the list.
 abbrev pub cas_register_after : List ℕ → Option CasRegisterOperation → List ℕ × ℕ
 cas_register_after list (Some (Write value)) = (value ∷ [], reply_done)
 cas_register_after list (Some Read) = (list, reply_value (first_or_zero list))

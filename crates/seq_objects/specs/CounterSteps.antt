@@ -14,9 +14,10 @@ use Rattle.seq_objects.specs.Items.{first_or_zero, not-found}
 abbrev pub counter_operation : ℕ → Option CounterOperation
 counter_operation word = if is_operation_of word words.inc then Some Increment else None
 
--- The list of a counter after an operation, and the reply. An increment makes the count greater by
--- 1, modulo 2 ^ 32, and replies the count before it; an unknown operation doesn't change the list,
--- and gets the reply `bad`.
+-- The list of a counter after an operation, and the reply. The count is the first item, or 0 for an
+-- empty list. An increment makes the count plus 1, modulo 2 ^ 32, the only item, and replies the
+-- count before it, modulo 2 ^ 32; an unknown operation doesn't change the list, and gets the reply
+-- `bad`.
 abbrev pub counter_after : List ℕ → Option CounterOperation → List ℕ × ℕ
 counter_after list (Some Increment) =
     ((first_or_zero list + 1) % 2 ^ 32 ∷ [], reply_value (first_or_zero list))
@@ -41,8 +42,9 @@ pub counter_after-unknown : (list : List ℕ) (word : ℕ) → is_known_word kin
 counter_after-unknown list word unknown =
     ap (counter_after list) (counter_operation-unknown word unknown)
 
--- The word of an increment makes the count greater by 1, modulo 2 ^ 32, and gets the count before
--- it as its reply.
+-- The word of an increment makes the count plus 1, modulo 2 ^ 32, the only item of a counter's
+-- list, and gets the count before it, modulo 2 ^ 32, as its reply. The count is the first item, or
+-- 0 for an empty list.
 pub counter_after-inc : (list : List ℕ) (word : ℕ) → is_operation_of word words.inc ≡ true
     → counter_after list (counter_operation word)
     ≡ ((first_or_zero list + 1) % 2 ^ 32 ∷ [], reply_value (first_or_zero list))

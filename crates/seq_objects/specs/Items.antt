@@ -8,14 +8,14 @@ abbrev pub first_or_zero : List ℕ → ℕ
 first_or_zero [] = 0
 first_or_zero (x ∷ rest) = x
 
--- The list without its first item, and the reply that gives this item; for the empty list, the
--- empty list and the reply `none`.
+-- The list without its first item, and the reply that gives this item modulo 2 ^ 32; for the empty
+-- list, the empty list and the reply `none`.
 abbrev pub first_taken : List ℕ → List ℕ × ℕ
 first_taken [] = ([], reply_none)
 first_taken (x ∷ rest) = (rest, reply_value x)
 
--- The list without its last item, and the reply that gives this item; for the empty list, the empty
--- list and the reply `none`.
+-- The list without its last item, and the reply that gives this item modulo 2 ^ 32; for the empty
+-- list, the empty list and the reply `none`.
 abbrev pub last_taken : List ℕ → List ℕ × ℕ
 last_taken [] = ([], reply_none)
 last_taken (x ∷ rest) =

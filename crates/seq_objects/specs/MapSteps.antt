@@ -53,8 +53,10 @@ map_operation word =
     else if is_operation_of word words.del then Some (Delete (argument_of word))
     else None
 
--- The list of a map after an operation, and the reply: the value that the operation's key has
--- before it, or `none`. An unknown operation doesn't change the list, and gets the reply `bad`.
+-- The list of a map after an operation, and the reply. A put gives its key the value, a get doesn't
+-- change the list, and a delete takes out the first item with its key; each replies the value that
+-- the key has before it, or `none` where no item has the key. An unknown operation doesn't change
+-- the list, and gets the reply `bad`.
 abbrev pub map_after : List ℕ → Option MapOperation → List ℕ × ℕ
 map_after list (Some (Put key value)) = put_in list key value
 map_after list (Some (Get key)) = (list, value_at list (place_of_key list key))

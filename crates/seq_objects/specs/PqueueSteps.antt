@@ -18,8 +18,9 @@ pqueue_operation word =
     else None
 
 -- The list of a priority queue after an operation, and the reply. An insert puts its value before
--- the first greater item, or at the end, and a min takes the first item out; an unknown operation
--- doesn't change the list, and gets the reply `bad`.
+-- the first greater item, or at the end, and replies `done`; a min takes the first item out and
+-- replies it modulo 2 ^ 32, or replies `none` for an empty list; an unknown operation doesn't
+-- change the list, and gets the reply `bad`.
 abbrev pub pqueue_after : List ℕ → Option PqueueOperation → List ℕ × ℕ
 pqueue_after list (Some (Insert value)) = (inserted list value, reply_done)
 pqueue_after list (Some Min) = first_taken list

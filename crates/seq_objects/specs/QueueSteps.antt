@@ -18,8 +18,8 @@ queue_operation word =
     else None
 
 -- The list of a queue after an operation, and the reply. An enqueue puts its value at the end, and
--- a dequeue takes the first item out; an unknown operation doesn't change the list, and gets the
--- reply `bad`.
+-- replies `done`; a dequeue takes the first item out and replies it modulo 2 ^ 32, or replies
+-- `none` for an empty list; an unknown operation doesn't change the list, and gets the reply `bad`.
 abbrev pub queue_after : List ℕ → Option QueueOperation → List ℕ × ℕ
 queue_after list (Some (Enqueue value)) = (list ++ value ∷ [], reply_done)
 queue_after list (Some Dequeue) = first_taken list

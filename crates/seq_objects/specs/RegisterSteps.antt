@@ -17,9 +17,10 @@ register_operation word =
     else if is_operation_of word words.read then Some Read
     else None
 
--- The list of a register after an operation, and the reply. A write leaves its value alone in the
--- list, and a read replies the first item, or 0 for an empty list; an unknown operation doesn't
--- change the list, and gets the reply `bad`.
+-- The list of a register after an operation, and the reply. A write makes its value the only item
+-- of the list, and replies `done`; a read replies the first item modulo 2 ^ 32, or 0 for an empty
+-- list; an unknown operation gets the reply `bad`. A read and an unknown operation don't change
+-- the list.
 abbrev pub register_after : List ℕ → Option RegisterOperation → List ℕ × ℕ
 register_after list (Some (Write value)) = (value ∷ [], reply_done)
 register_after list (Some Read) = (list, reply_value (first_or_zero list))
@@ -54,8 +55,8 @@ pub register_after-write : (list : List ℕ) (word : ℕ) → is_operation_of wo
 register_after-write list word write =
     ap (register_after list) (cond-true (is_operation_of word words.write) _ _ write)
 
--- The word of a read changes no list of a register, and gets the first item as its reply, or 0 for
--- an empty list.
+-- The word of a read changes no list of a register, and gets the first item modulo 2 ^ 32 as its
+-- reply, or 0 for an empty list.
 pub register_after-read : (list : List ℕ) (word : ℕ) → is_operation_of word words.write ≡ false
     → is_operation_of word words.read ≡ true
     → register_after list (register_operation word) ≡ (list, reply_value (first_or_zero list))

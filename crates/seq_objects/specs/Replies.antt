@@ -55,7 +55,7 @@ named_reply word = find (λ reply. word == reply.word) named_replies
 abbrev pub is_value : ℕ → Bool
 is_value word = word / 2 ^ 32 == 2
 
--- Whether a reply word has a text of the table: a name, or '=' and a value.
+-- Whether the text of a reply word is a name, or '=' and a value.
 unfoldable pub is_known_reply : ℕ → Bool
 is_known_reply word = is_some (named_reply word) || is_value word
 

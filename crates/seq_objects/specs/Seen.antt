@@ -10,7 +10,8 @@ use Rattle.seq_objects.specs.PqueueReading.{pqueue_reading}
 use Rattle.seq_objects.specs.RegisterReading.{register_reading}
 
 -- The sight that a stack, a priority queue or a register prepares of a book lists for each value
--- the calls that put it in or take it out. Nothing is said of the sights of other kinds.
+-- all calls that put it in and all answered calls that take it out. A write of a register counts as
+-- a put, and a read as a take. Nothing is said of the sights of other kinds.
 abbrev pub kind_sees : Kind → List Page → Sight → Type 0
 kind_sees kinds.Queue book sight = Unit {0}
 kind_sees kinds.Stack book sight = ListsValues stack_reading book sight

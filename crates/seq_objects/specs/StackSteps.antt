@@ -17,9 +17,9 @@ stack_operation word =
     else if is_operation_of word words.pop then Some Pop
     else None
 
--- The list of a stack after an operation, and the reply. A push puts its value at the end, and a
--- pop takes the last item out; an unknown operation doesn't change the list, and gets the reply
--- `bad`.
+-- The list of a stack after an operation, and the reply. A push puts its value at the end, and
+-- replies `done`; a pop takes the last item out and replies it modulo 2 ^ 32, or replies `none` for
+-- an empty list; an unknown operation doesn't change the list, and gets the reply `bad`.
 abbrev pub stack_after : List ℕ → Option StackOperation → List ℕ × ℕ
 stack_after list (Some (Push value)) = (list ++ value ∷ [], reply_done)
 stack_after list (Some Pop) = last_taken list

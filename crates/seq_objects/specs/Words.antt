@@ -197,8 +197,8 @@ further None third = []
 further (Some second) None = second ∷ []
 further (Some second) (Some third) = second ∷ third ∷ []
 
--- A list of words of a text begins with the words of the operation word `op` of a kind, of which
--- the first is followed by `used` further ones.
+-- A list of words of a text begins with the words of the operation word `op` of a kind. These are
+-- one word and `used` further ones.
 pub record Spells (kind : Kind) (words : List (List ℕ)) (op used : ℕ) : Type 0 where
   pub suffix : List (List ℕ)
   pub whole : words ≡ operation_words kind op ++ suffix

@@ -5,7 +5,7 @@ ghost use Rattle.seq_objects.specs.Items as items;
 use crate::reply::{NONE, value_reply};
 use book_base::State;
 
-/// Takes out the first item: the reply gives it, or says that there is none.
+/// Takes out the first item: the reply gives it modulo 2^32, or says that there is none.
 pub fn take_first(state: &mut State) -> u64
     ensures list { state.new ≡
         record state.old { words = (items.first_taken state.old.words).0 } }
@@ -17,7 +17,7 @@ pub fn take_first(state: &mut State) -> u64
     value_reply(state.remove(0))
 }
 
-/// Takes out the last item: the reply gives it, or says that there is none.
+/// Takes out the last item: the reply gives it modulo 2^32, or says that there is none.
 pub fn take_last(state: &mut State) -> u64
     ensures list { state.new ≡
         record state.old { words = (items.last_taken state.old.words).0 } }

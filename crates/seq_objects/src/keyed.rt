@@ -32,9 +32,9 @@ pub fn empty_sight(alloc: Global) -> Sight {
 /// The marked callers whose next calls have the key of the forced caller's next call; all marked
 /// callers where that call has no key.
 ///
-/// The marks that stay suffice: where places continue an order, the first one of a call with this
-/// key may be put before all others, since this call may come next (after Herlihy and Wing 1990, on
-/// locality).
+/// The marks that stay suffice: where places continue an order, the first of these places whose
+/// call has this key may be put before the others, since this call may come next (after Herlihy and
+/// Wing 1990, on locality).
 pub fn narrow_to_key<K: Keyed>(
     object: &K,
     book: &Book,

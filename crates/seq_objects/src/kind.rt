@@ -98,8 +98,8 @@ impl Kind {
         if self.known(word) { None } else { Some(word) }
     }
 
-    /// The operation word that the words of a text spell, which are `first`, then `second` and
-    /// `third` as far as the operation needs them; and how many of the last two it uses.
+    /// The operation word that words of a text begin with, and how many of `second` and `third` it
+    /// uses. The words are `first`, then `second` and `third` where the text has them.
     pub fn op_from_words(
         self,
         first: &[u8],
@@ -217,8 +217,9 @@ impl SeqObject for Kind {
         }
     }
 
-    /// Decides a whole book without a search of orders: a queue's book by pairs of puts and takes,
-    /// and a stack's by levels. No decision is made for other kinds.
+    /// Decides a whole book without a search of orders, where it can: a queue's book by pairs of
+    /// puts and takes, and a stack's by levels. The answer is `Unsaid` where this decides nothing,
+    /// and for each book of another kind.
     fn decide(&self, alloc: Global, book: &Book) -> Result<Decision, NoMemory> {
         match self {
             Kind::Queue => decide_queue(alloc, &Queue, book),

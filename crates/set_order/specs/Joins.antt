@@ -4,7 +4,8 @@
 use Rattle.std.specs.Prelude.{◌≡◌, ℕ, ◌+◌, ◌-◌, ◌/◌, ◌%◌, ◌^◌, Bool, true, false, nat_lt, nat_le, ◌&&◌, List, [], ◌∷◌, map, fold, count_by, bit_and, bit_or, Option, Some, if◌then◌else◌}
 use Rattle.seq_objects.specs.Replies.{reply_value, reply_bad}
 
--- whether an operation word joins a number: its code is 1, and its argument is below 32
+-- whether an operation word joins a number: its code is 1, its argument is below 32, and its extra
+-- is 0
 abbrev pub is_join : ℕ → Bool
 is_join op = nat_le (2 ^ 32) op && nat_lt op (2 ^ 32 + 32)
 
@@ -37,8 +38,9 @@ list_joined false mask list = list
 abbrev pub join_reply : ℕ → ℕ → ℕ
 join_reply mask op = if is_join op then reply_value mask else reply_bad
 
--- What Joins makes of operations that are served at once, and the replies: all join first, and then
--- all reply. Operations none of which joins a number don't change the list.
+-- The list of Joins after some operations are served at once, and the replies: all numbers are
+-- joined first, and then each operation gets its reply. The list doesn't change where no operation
+-- joins a number.
 abbrev pub served_joins : List ℕ → List ℕ → Option (List ℕ × List ℕ)
 served_joins list ops =
     let mask : ℕ = with_joins (mask_of list) ops in

@@ -89,8 +89,8 @@ LeadsNowhere served book cut list callers = (set : List Place) (after : List ℕ
     → IsDeadEnd served book (raised_by cut set) after
 
 -- What is known at a cut and a list where sets are still to be tried: the cut lacks an answered
--- call, the callers `callers` are exactly those whose next calls may come next, and each part of
--- them that a number above `left` picks leads nowhere.
+-- call, the callers `callers` are exactly those whose next calls may come next, `left` is a number
+-- that picks a part of them, and each part of them that a greater number picks leads nowhere.
 pub record IsOpen (served : List ℕ → List ℕ → Option (List ℕ × List ℕ)) (book : List Page)
     (cut list callers : List ℕ) (left : ℕ) : Type 0 where
   pub unended : HoldsAnswered book cut → ⊥
@@ -100,8 +100,8 @@ pub record IsOpen (served : List ℕ → List ℕ → Option (List ℕ × List �
       → LeadsNowhere served book cut list (picked number callers)
 
 -- A frame is one of a cut and a list: it keeps their counts and words; its set may come next at
--- them, and leads to the list `after`; and the parts of its callers that numbers above that of its
--- set pick lead nowhere.
+-- them, and leads to the list `after`; the number `left + 1` of the frame picks the callers of this
+-- set; and with this number and the frame's callers, `IsOpen` holds at the cut and the list.
 pub record IsFrame (served : List ℕ → List ℕ → Option (List ℕ × List ℕ)) (book : List Page)
     (cut list : List ℕ) (frame : SetFrame) (after : List ℕ) : Type 0 where
   pub counts : frame.counts.items ≡ cut
@@ -125,8 +125,8 @@ AllDead served book walk = (cut list : List ℕ) → Remembers walk.memo cut lis
 
 -- A walk is sound: its frames lead from the cut without calls and the object's first list to the
 -- walk's cut and list; at these, `IsOpen` holds with the walk's callers and its number `left`; its
--- memo remembers only dead ends, and is for as many callers as the book has; and its state has the
--- capacity `CAPACITY`.
+-- memo is sound as `IsMemo` says, remembers only dead ends, and is for as many callers as the book
+-- has; and its state has the capacity `CAPACITY`.
 pub record IsWalk (init : List ℕ) (served : List ℕ → List ℕ → Option (List ℕ × List ℕ))
     (book : List Page) (walk : SetWalk) : Type 0 where
   pub leads : FramesLead served book
@@ -184,7 +184,7 @@ pub record ArePlaced (book : List Page) (cut callers replies : List ℕ)
       (λ place. (r : Record) → record_of book (call_at place) ≡ Some r → r.reply ≡ place.reply) set
 
 -- The next call of one of `callers` after a cut is answered, and its recorded reply isn't the one
--- in `replies`.
+-- that `replies` has at the index of this caller in `callers`.
 pub record HasWrongReply (book : List Page) (cut callers replies : List ℕ) : Type 0 where
   pub at : ℕ
   pub inside : at < length callers

@@ -43,7 +43,7 @@ pub record IsLegalSetOrder (init : List ℕ) (served : List ℕ → List ℕ →
     (book : List Page) (order : List (List Place)) : Type 0 where
   -- no set is empty
   pub some : (k : ℕ) (set : List Place) → slice_get order k ≡ Some set → 1 ≤ length set
-  -- a set has its calls by caller
+  -- the calls of a set are in the order of their callers, at most one of each caller
   pub by_caller : (k : ℕ) (set : List Place) → slice_get order k ≡ Some set
       → RiseFrom 0 (callers_of set)
   -- each call of the order is a call of the book

@@ -40,7 +40,8 @@ pub fn replies_have_masks()
     ensures more { HasMask (reply_value 7) 6 }
     // The reply with the value 5 lacks a number of the mask 6.
     ensures others { ¬ HasMask (reply_value 5) 6 }
-    // A reply word with another tag lacks the numbers of the mask 6, whatever its low half.
+    // A reply word with another tag lacks the numbers of the mask 6, also where its low half has
+    // them.
     ensures gives_none { ¬ HasMask 12884901895 6 }
     // The reply `bad` doesn't even have the numbers of the empty mask.
     ensures bad { ¬ HasMask reply_bad 0 }

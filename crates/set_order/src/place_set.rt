@@ -4,7 +4,8 @@ use book_base::{NoMemory, Place};
 use std::alloc::Global;
 use std::marker::Model;
 
-/// A set of calls that are served at once: their places, by caller. Clauses see it as these places.
+/// A set of calls that are served at once: their places, in the order of their callers. Clauses see
+/// it as the list of these places.
 #[derive(Debug, Drop)]
 pub struct PlaceSet {
     places: Vec<Place>,
@@ -27,7 +28,7 @@ impl PlaceSet {
         PlaceSet { places }
     }
 
-    /// The places of the set's calls, by caller.
+    /// The places of the set's calls, in the order of their callers.
     pub fn places(&self) -> &[Place]
         ensures { result.now ≡ self.now }
     {

@@ -91,8 +91,8 @@ impl<O: SetObject> SetSearch<'_, O> {
         }
     }
 
-    // Tries the part of the candidates that the greatest remaining number picks, or retreats from a
-    // dead end.
+    // Tries the set of the next calls of the callers that the walk's number `left` picks; where
+    // `left` is 0, remembers the walk's cut and list as a dead end, and goes back by one frame.
     fn advance(
         &self,
         walk: &mut SetWalk,
@@ -124,8 +124,8 @@ impl<O: SetObject> SetSearch<'_, O> {
         }
     }
 
-    // The set of the part of the candidates that the greatest remaining number picks, where it may
-    // come next. The spare state has the list after the set then.
+    // The set of the next calls of the callers that the walk's number `left` picks, where this set
+    // may come next. Where it may, the spare state has the list after the set.
     fn next_set(
         &self,
         walk: &SetWalk,
@@ -218,7 +218,8 @@ impl<O: SetObject> SetSearch<'_, O> {
     }
 
     // Takes a set as the next one, unless that leads to a dead end: a remembered one, or one where
-    // an answered call is lost. The spare state has the list after the set.
+    // an answered call can't get its recorded reply any more. The spare state has the list after
+    // the set.
     fn enter(
         &self,
         walk: &mut SetWalk,
@@ -345,7 +346,8 @@ impl<O: SetObject> SetSearch<'_, O> {
         Ok(candidates)
     }
 
-    // Whether a caller's next call may come next: no call outside the cut precedes it.
+    // Whether a caller's next call may come next: it is a call of the book, and no call outside the
+    // cut precedes it.
     fn may_come(&self, counts: &[u16], caller: u32) -> bool
         requires wide { length counts.now ≡ length self.now.book.now }
         requires caller { caller < length counts.now }

@@ -14,7 +14,7 @@ pub const CAPACITY: u64 = MAX_CALLERS as u64 * MAX_CALLS + 1 + MAX_CALLERS as u6
 
 /// A frame of a walk: a cut and a list on the way to the walk's own, with the set that was put next
 /// at them, the callers whose next calls were the candidates for this set, and `left`: the parts of
-/// these callers that numbers up to `left` pick are still to be tried.
+/// these callers that the numbers from 1 to `left` pick are still to be tried.
 #[derive(Drop)]
 pub struct SetFrame {
     pub counts: Vec<u16>,
@@ -26,8 +26,8 @@ pub struct SetFrame {
 
 /// How far a search has come: the frames that lead to its cut and list; the counts of this cut, and
 /// the state with this list; the callers whose next calls are the candidates for the next set;
-/// `left`, the number up to which the parts of these callers are still to be tried; and a memo of
-/// the dead ends that were found.
+/// `left`, where the parts of these callers that the numbers from 1 to `left` pick are still to be
+/// tried; and a memo of the dead ends that were found.
 #[derive(Drop)]
 pub struct SetWalk {
     pub frames: Vec<SetFrame>,

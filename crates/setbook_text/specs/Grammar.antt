@@ -18,7 +18,8 @@ setbook_lines book =
     ∷ callers_words (length book) ∷ calls_words (announced book)
     ∷ (call_lines Second join_operations book ++ end_words ∷ [])
 
--- A set book can be written: it is valid, and within the limits of texts of version 2.
+-- A set book can be written: it is valid, its callers, calls and operations are within the limits
+-- of texts of version 2, and each of its replies is below 2^64.
 pub record IsWritable (book : List Page) : Type 0 where
   pub valid : IsValid book
   pub some : 1 ≤ length book

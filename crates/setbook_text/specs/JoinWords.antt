@@ -8,8 +8,8 @@ use Rattle.text_fields.specs.Operations.{Operations}
 abbrev pub other_word : ℕ → List ℕ
 other_word op = codes "#" ++ whole_digits op
 
--- the words of an operation: 'join' and the number, or the one word of an operation that joins
--- nothing
+-- the words of an operation: 'join' and the number that it joins, or, where it joins nothing, one
+-- word, which is '#' and the whole operation word in digits
 unfoldable pub join_words : ℕ → List (List ℕ)
 join_words op = if is_join op then codes "join" ∷ decimal (op - 2 ^ 32) ∷ [] else other_word op ∷ []
 

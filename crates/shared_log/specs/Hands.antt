@@ -24,7 +24,7 @@ hand log staged tried = record { log = log; staged = staged; tried = tried }
 abbrev pub empty : Hand
 empty = hand [] [] []
 
--- The hand itself, and the empty hand where there is none.
+-- The hand that is given, or the empty hand where none is.
 abbrev pub the : Option Hand → Hand
 the None = empty
 the (Some h) = h
@@ -33,9 +33,9 @@ the (Some h) = h
 abbrev pub next_number : ℕ → ℕ → Hand → ℕ
 next_number cap i h = number_of cap i (length (calls_by i h.log))
 
--- The hand `h` of caller `i` agrees with these words of the table and this log: the log begins with
--- what the caller knows of it, and has no other entries of the caller. The table has the words that
--- the caller has staged: at most two, and none where the caller has no call left.
+-- The hand `h` of caller `i`, one of n, agrees with these words of the table and this log: the log
+-- begins with what the caller knows of it, and has no other entries of the caller. The table has
+-- the words that the caller has staged: at most two, and none where the caller has no call left.
 pub record HandFits (n cap : ℕ) (words : List ℕ) (log : List Entry) (i : ℕ)
     (h : Hand) : Type 0 where
   pub caller : i < n

@@ -8,8 +8,8 @@ use Rattle.shared_log.specs.Words.{number_after, operation_index, AreWordsOf, Ma
 use Rattle.shared_log.specs.Holders.{has, AreHeld}
 use Rattle.shared_log.specs.Hands.{Hand, View, hand, the, HandFits}
 
--- There is one log: the words of the table are its words, and the hand of each caller is with one
--- seat and agrees with the words and the log.
+-- There is one log, and the words of the table are its words. At most one seat has the hand of a
+-- caller, and each hand that a seat has agrees with the words and the log.
 pub record HaveOneLog (n cap : ℕ) (words : List ℕ) (views : List View) : Type 0 where
   pub log : List Entry
   pub stand : AreWordsOf n cap words log

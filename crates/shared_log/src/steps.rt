@@ -103,8 +103,8 @@ impl SharedLog {
     }
 
     // Loads the ticket at the first place of the log that the caller doesn't know, and where the
-    // place is free, exchanges it for the caller's own ticket. Returns 0 where the own ticket is
-    // placed, and otherwise the ticket that was found.
+    // place is free, tries to exchange 0 for the caller's own ticket there. Returns 0 where the own
+    // ticket is placed, and otherwise the ticket that was found.
     #[tactic(auto, using(crate::proofs::Trying::looked, crate::proofs::Trying::exchanged))]
     fn ticket_at(&self, seat: &mut OneSeat, place: usize, ticket: u64, op: OpWord) -> u64
         requires seat { IsPlaced self.now seat.old }

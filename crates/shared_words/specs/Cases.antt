@@ -23,8 +23,8 @@ all_may caller deed = Unit {0}
 abbrev pub additions_may : ℕ → Deed → Type 0
 additions_may caller deed = (place amount found : ℕ) × (deed ≡ Added place amount found)
 
--- A call makes one deed: it adds 1 to the word at the place that its operation is. Its reply is the
--- word that it found there.
+-- A call makes one deed: it adds 1 to the word at a place, whose number is the operation of the
+-- call. Its reply is the word that it found there.
 abbrev pub adds_1 : ℕ → ℕ → ℕ → List Deed → List Deed → Type 0
 adds_1 caller op reply before after = after ≡ before ++ Added op 1 reply ∷ []
 

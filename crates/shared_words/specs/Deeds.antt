@@ -16,15 +16,16 @@ place_of (Stored place word) = place
 place_of (Loaded place found) = place
 place_of (Swapped place word found) = place
 
--- The word that a deed leaves at its place, where this word was there before.
+-- The word that a deed leaves at its place, where the word `before` was there: after an addition
+-- the sum modulo 2^64, after a store or a swap the word that was put in, and after a load `before`.
 abbrev pub leaves : Deed → ℕ → ℕ
 leaves (Added place amount found) before = (before + amount) % 2 ^ 64
 leaves (Stored place word) before = word
 leaves (Loaded place found) before = before
 leaves (Swapped place word found) before = word
 
--- The deed found the word `before` at its place. A store finds nothing, so any word may be `before`
--- it.
+-- The deed found the word `before` at its place. A store finds no word, so of a store this is
+-- always true.
 abbrev pub HasFound : Deed → ℕ → Type 0
 HasFound (Added place amount found) before = found ≡ before
 HasFound (Stored place word) before = Unit {0}

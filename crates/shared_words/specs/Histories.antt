@@ -16,7 +16,8 @@ access caller deed = record { caller = caller; deed = deed }
 abbrev pub deeds_by : ℕ → List Access → List Deed
 deeds_by i history = map (λ a. a.deed) (filter (λ a. a.caller == i) history)
 
--- The word at a place after a history, where this word was there before it.
+-- The word at the place `place` after a history, where the word `word` was there before the
+-- history.
 abbrev pub word_from : ℕ → ℕ → List Access → ℕ
 word_from place word [] = word
 word_from place word (a ∷ history) =
@@ -26,14 +27,15 @@ word_from place word (a ∷ history) =
 abbrev pub word_at : ℕ → List Access → ℕ
 word_at place history = word_from place 0 history
 
--- The access `a` comes after the accesses `before`: its caller may make it, and it found the word
--- that `before` leaves at its place.
+-- The access `a` may come after the accesses `before`: `may` allows it to its caller, and it found
+-- the word that `before` leaves at its place, unless it is a store, which finds no word.
 pub record IsRightAccess (may : ℕ → Deed
     → Type 0) (before : List Access) (a : Access) : Type 0 where
   pub allowed : may a.caller a.deed
   pub found : HasFound a.deed (word_at (place_of a.deed) before)
 
--- Each access of a history is right after those before it.
+-- The history is lawful: `may` allows each access to its caller, and each access but a store found
+-- the word that the accesses before it leave at its place.
 abbrev pub IsLawfulHistory : (ℕ → Deed → Type 0) → List Access → Type 0
 IsLawfulHistory may history = (before rest : List Access) (a : Access)
     → history ≡ before ++ a ∷ rest

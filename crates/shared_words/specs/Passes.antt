@@ -81,14 +81,16 @@ module _ {U : Type 0} where
   abbrev pub count_of : SharedWords U → ℕ
   count_of w = w.table.shared.table_id.words
 
-  -- The seat belongs to these words, and the history that it knows is lawful.
+  -- The seat belongs to these words, its caller is one of their callers, and the history that it
+  -- knows is lawful.
   pub record IsSeatOf (may : ℕ → Deed → Type 0) (w : SharedWords U) (s : WordSeat) : Type 0 where
     pub table : s.seat.table_id ≡ w.table.shared.table_id
     pub caller : caller_of_seat s < callers_of w
     pub lawful : IsLawfulHistory may (history_of s)
 
-  -- The pass belongs to these words and has capacity for all calls of its caller. Its pairs are
-  -- calls as the relation `call` says, made of just the deeds of its caller.
+  -- The pass belongs to these words, may make as many calls as their cap says, and has capacity for
+  -- all of them. Its pairs are calls as the relation `call` says, made of just the deeds of its
+  -- caller.
   pub record IsPassOf (may : ℕ → Deed → Type 0) (call : ℕ → ℕ → ℕ → List Deed → List Deed → Type 0)
       (w : SharedWords U) (p : WordsPass) : Type 0 where
     pub seat : IsSeatOf may w p.seat
@@ -96,7 +98,8 @@ module _ {U : Type 0} where
     pub room : cap_of w ≤ capacity_of_pass p
     pub calls : AreCalls (call (caller_of_pass p)) (pairs_in p) [] (deeds_of p.seat)
 
-  -- The pass belongs to these words and is new: it has no call and knows of no access.
+  -- The pass belongs to these words, may make as many calls as their cap says, and has capacity for
+  -- all of them. It is new: it has no call and knows of no access.
   pub record IsNewPass (w : SharedWords U) (p : WordsPass) : Type 0 where
     pub table : p.seat.seat.table_id ≡ w.table.shared.table_id
     pub caller : caller_of_pass p < callers_of w

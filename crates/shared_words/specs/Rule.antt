@@ -12,8 +12,9 @@ pub record Knows (n : ℕ) (history : List Access) (i : ℕ) (h : List Access) :
   pub prefix : IsPrefix h history
   pub own : deeds_by i history ≡ deeds_by i h
 
--- There is one lawful history of accesses by the n callers alone. The words of the table are those
--- that it leaves, and each caller knows a prefix of it, which one seat alone has.
+-- There is one lawful history of accesses by the n callers alone. The table has `count` words,
+-- those that this history leaves. Of each caller at most one seat knows a history, and that is a
+-- prefix of the whole one with all deeds of this caller.
 pub record HaveOneHistory (may : ℕ → Deed → Type 0) (n count : ℕ) (words : List ℕ)
     (views : List View) : Type 0 where
   pub history : List Access

@@ -232,7 +232,8 @@ impl<U: Usage> SharedWords<U> {
             (callers_of r.0 ≡ n) × (cap_of r.0 ≡ cap) × (count_of r.0 ≡ count)) }
         // The passes are those of the callers, in order.
         ensures callers { IfOk result (λ r. map caller_of_pass r.1.items ≡ range_with_len 0 n) }
-        // Each pass belongs to these words and is new: it has no call and knows of no access.
+        // Each pass belongs to these words, may make as many calls as their cap says, has capacity
+        // for all of them, and is new: it has no call and knows of no access.
         ensures new { IfOk result (λ r. All (IsNewPass r.0) r.1.items) }
     {
         let rooms = empty_pairs(alloc, n, cap)?;

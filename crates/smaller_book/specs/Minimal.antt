@@ -17,7 +17,7 @@ use Rattle.smaller_book.specs.ReadOnly.{IsReadOnly}
 use Rattle.smaller_book.specs.Earliest.{IsEarliest}
 use Rattle.smaller_book.specs.Keys.{key_of_call, keys_from_to, all_without, IsEvidence}
 
--- The numbers below a count, without this number.
+-- The numbers below `count` other than `number`, which is one of them.
 abbrev pub numbers_except : ℕ → ℕ → List ℕ
 numbers_except count number =
     range_with_len 0 number ++ range_with_len (number + 1) (count - (number + 1))
@@ -105,7 +105,8 @@ IsLegalAt kind book cut = (i : ℕ) → IsWithin cut (answered book)
     → HasLegalOrder (kind_spec kind) (book_at cut book)
 
 -- A minimal valid book, each of whose views holds at most one unanswered call of each caller, has a
--- legal order at each moment that lacks one of its records.
+-- legal order at each cut within its records that lacks one of them, where the cut holds with each
+-- record all records whose views lie within that record's view.
 abbrev pub MinimalAtMoments : Type 0
 MinimalAtMoments = (kind : Kind) (book : List Page) (cut : List ℕ) → IsValid book → HasOneOpen book
     → IsMinimal kind book → IsConsistentCut book cut → IsLegalAt kind book cut

@@ -49,9 +49,11 @@ pub fn earliest(alloc: Global, kind: Kind, book: &Book) -> Result<Book, NoMemory
     Ok(part)
 }
 
-// A least cut, found by removing records from `cut`. Where the book at the cut has few calls, or a
-// view that holds several unanswered calls of one caller, any record may go; else first only
-// records without which each view still holds at most one unanswered call of each caller.
+// A cut at which the book has no legal order, while it has one at each lesser cut at which the book
+// at this cut is tried. It is found by removing records from `cut`. Where the book at `cut` has at
+// most `FEW_CALLS` calls, or a view that holds several unanswered calls of one caller, any record
+// may go; else first only records without which each view still holds at most one unanswered call
+// of each caller.
 fn least_cut(alloc: Global, kind: Kind, book: &Book, cut: Cut) -> Result<Cut, NoMemory>
     requires { IsIllegalCut (kind_spec kind) book.now cut }
     ensures { IfOk result (IsLeastCut (kind_spec kind) book.now) }

@@ -11,7 +11,8 @@ pub fn read_only_calls_may_be_left_out()
 {}
 
 /// All calls of some keys may be left out, where each view holds at most one unanswered call of
-/// each caller: where the book has a legal order, the part without these calls has one.
+/// each caller: where the book has a legal order from a well-formed list on, the part without these
+/// calls has one from that list without the items of these keys.
 pub fn calls_of_keys_may_be_left_out()
     ensures { HasOneWithoutKeys }
 {}
@@ -22,9 +23,10 @@ pub fn evidence_tells()
     ensures { EvidenceTells }
 {}
 
-/// A minimal book has a legal order at each earlier moment of its run. A minimal book with few
-/// calls, or with a view that holds several unanswered calls of one caller, as no book of a run
-/// has, has a legal order at each cut within its records that lacks one of them.
+/// A minimal valid book, each of whose views holds at most one unanswered call of each caller, has
+/// a legal order at each earlier moment of its run. A minimal book with few calls, or with a view
+/// that holds several unanswered calls of one caller, as no book of a run has, has a legal order at
+/// each cut within its records that lacks one of them.
 pub fn minimal_books_have_earlier_orders()
     // A minimal valid book with one open has a legal order at each moment that lacks a record: a
     // moment is a cut that holds with each record all records whose views lie within its view.

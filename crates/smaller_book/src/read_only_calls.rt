@@ -120,8 +120,10 @@ fn without_single(
     }
 }
 
-/// The book without read-only calls: all those whose numbers are in one slice are tried together.
-/// Slices are all numbers, then their halves, their quarters, down to single numbers.
+/// The book without as many read-only calls as can be left out: of all callers those whose numbers
+/// are in one slice are tried together, and left out where the book has no legal order without
+/// them. Slices are all numbers, then their halves, their quarters, down to single numbers. No book
+/// is answered where no slice can be left out.
 pub fn without_slices(alloc: Global, kind: Kind, book: &Book) -> Result<Option<Smaller>, NoMemory>
     ensures { IfOk result (λ found. IfSome found (λ smaller.
         IsSmaller kind book.now (numbers_in smaller.numbers.items) smaller.book)) }

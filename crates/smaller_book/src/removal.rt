@@ -137,7 +137,7 @@ fn numbers_but(alloc: Global, book: &Book, call: Call, caller: u32) -> Result<Ve
     }
 }
 
-// The numbers below a count, without this number.
+// The numbers below `count` other than `number`, which is one of them.
 fn numbers_without(alloc: Global, count: u64, number: u64) -> Result<Vec<u64>, NoMemory>
     requires { number < count }
     ensures { IfOk result (λ numbers. numbers.items ≡ numbers_except count number) }

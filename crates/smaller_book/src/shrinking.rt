@@ -22,8 +22,8 @@ use book_base::{Book, NoMemory};
 use seq_objects::Kind;
 use std::alloc::Global;
 
-/// Of a book without a legal order a part without one, which no rule makes smaller. No book is
-/// answered where the book has a legal order.
+/// A part of a book that has no legal order: the part has none either, and no rule makes it
+/// smaller. No part is answered where the book has a legal order.
 ///
 /// The rules are three: the book at an earlier cut, the book without an answered read-only call of
 /// the object, and the book without all calls of one key, where each view holds at most one

@@ -42,9 +42,9 @@ TakeLeads nodes l None parents after = nodes l after
 TakeLeads nodes l (Some v) parents after = (p : ℕ) → IsOneLevel parents p → nodes p after
 
 -- A call's effect at level `l` leads to the set `nodes` of pairs, where `after` is the cut after
--- the call: for a put, `nodes` has with this cut some level of the put's value that has `l` as a
--- parent; a take leads as `TakeLeads` says; for an effect that is neither, `nodes` has level `l`
--- itself with this cut.
+-- the call: for a put, `nodes` has with this cut some level whose last word is the put's value, and
+-- which has `l` as a parent; a take leads as `TakeLeads` says; for an effect that is neither,
+-- `nodes` has level `l` itself with this cut.
 abbrev pub DeedLeads : List Layer → Nodes → ℕ → Layer → List ℕ → Effect → Type 0
 DeedLeads layers nodes l layer after (Puts v) = (m : ℕ) × (above : Layer)
     × (slice_get layers m ≡ Some above)
@@ -114,9 +114,10 @@ IsFollowed reading book layers nodes l layer cut call =
     ⊎ (CallLeads reading book layers nodes l layer cut call
     ⊎ IsServed reading book layers nodes l layer cut call))
 
--- A pair of a level and a cut is closed: the marks suffice at this cut and each list with the
--- level's top, for each object that gives its last value first, and the next call of each marked
--- caller is followed.
+-- The pair of the level with the number `l` and the cut `cut` is closed: the cut has a count for
+-- each caller, the level exists, and there are marks on callers that suffice at this cut and at
+-- each list with the level's top, for each object that gives its last value first; and the next
+-- call of each marked caller is followed.
 pub record IsClosedAt (reading : Reading) (book : List Page) (layers : List Layer) (nodes : Nodes)
     (l : ℕ) (cut : List ℕ) : Type 0 where
   pub wide : length book ≤ length cut
@@ -129,8 +130,8 @@ pub record IsClosedAt (reading : Reading) (book : List Page) (layers : List Laye
   pub followed : (i : ℕ) → IsMarked marks i
       → IsFollowed reading book layers nodes l layer cut (next_call cut i)
 
--- A level that has the flag `kept` has it rightly: no answered call takes its last word, if it has
--- one, and each of its parents is a level with this flag.
+-- A level may have the flag `kept`: no answered call takes its last word, if it has one, and each
+-- of its parents is a level with this flag.
 pub record IsKeptLayer (reading : Reading) (book : List Page) (layers : List Layer)
     (layer : Layer) : Type 0 where
   pub word : IfSome layer.top.last (IsNeverTaken reading book)

@@ -1,4 +1,5 @@
-//! Worked cases: tables of levels that are closed, and tables that aren't.
+//! Worked cases: tables of levels that are closed, and tables that aren't; which unanswered calls
+//! don't change a list; and where a take leads.
 
 ghost use Rattle.std.specs.Prelude.{ℕ, List, [], ◌∷◌, Some, None};
 ghost use Rattle.book_base.specs.Order.{HasLegalOrder};

@@ -35,9 +35,10 @@ impl<R> Drop for Closure<'_, R> {
 }
 
 impl<R: Reader> Closure<'_, R> {
-    /// Whether the table shows that a stack's book has no legal order: the bottom after no call is
-    /// one of its nodes, and each call that has to be tried at a node leads only to its nodes. No
-    /// clause says that this is found wherever the book has no legal order.
+    /// Whether the table shows that a stack's book has no legal order: the book has one open, the
+    /// bottom after no call is one of the table's nodes, each level with the flag `kept` is kept,
+    /// and each call that has to be tried at a node leads only to nodes of the table. No clause
+    /// says that this is found wherever the book has no legal order.
     pub fn refute(&self) -> bool
         // The sight lists each call of the book that puts in a value, and each answered one that
         // takes it out.

@@ -11,9 +11,10 @@ enum Task {
     /// The calls that lead to a node from the start.
     ToNode(usize),
     /// Of the calls that lead to a node from the start, those that follow the first put of its
-    /// level.
+    /// level; where its level is the bottom, all of them.
     InLevel(usize),
-    /// The calls that lead to the first put of a level from the start, and this put.
+    /// The calls that lead to the first put of a level from the start, and this put; none for the
+    /// bottom.
     ToLevel(usize),
     /// One call.
     One(Call),

@@ -217,8 +217,8 @@ impl<R: Reader> LevelSearch<'_, R> {
         call.caller < self.on.book.callers() && call.number < self.on.book.calls(call.caller)
     }
 
-    // A call and its turn: a call whose view holds fewer calls comes sooner, of views with as many
-    // calls a take comes sooner, and unanswered calls come last.
+    // A call and its turn: a call whose view holds fewer calls comes sooner; of calls whose views
+    // hold equally many calls, a take comes sooner; and unanswered calls come last.
     fn turn_of(&self, call: Call) -> Turn {
         if !self.is_call(call) || call.number >= self.on.book.answers(call.caller) {
             return Turn {

@@ -6,7 +6,8 @@ use indexmap::IndexSet;
 use stack_pruning::Top;
 use std::alloc::Global;
 
-/// A level, by its number, and the counts of a cut after which the list may end with it.
+/// The number of a level, and the counts of a cut after which the object's list may be one that the
+/// level stands for.
 #[derive(Clone, Copy)]
 pub struct Node {
     pub level: usize,
@@ -22,8 +23,8 @@ pub struct NodeKey {
 }
 
 /// The number of a cut, and what is known of the lists after it: their last word, and whether they
-/// are kept. Each level begins with one such pair, which all puts share that have the same value,
-/// lead to the same cut, and leave lists that are alike in being kept or not.
+/// are kept. Each level begins with one such pair: the puts that begin the level all have the same
+/// value, lead to the same cut, and leave lists that are alike in being kept or not.
 #[derive(Clone, Copy, Debug, PartialEq, Eq, Hash)]
 pub struct Beginning {
     pub cut: usize,
@@ -63,7 +64,8 @@ pub struct Level {
 pub enum FirstReached {
     /// By a put that begins the node's level; or the node is the bottom after no call.
     Begins,
-    /// By a call that doesn't change the list, from another node of the level, by its number.
+    /// By a call that doesn't change the list, made at another node of the level. The number is
+    /// that of this other node.
     Stays(usize, Call),
     /// By a put at a node of the level, and a later take that takes out the item of this put. The
     /// numbers are that of the level that the put begins, that of the put among this level's
@@ -71,10 +73,10 @@ pub enum FirstReached {
     Returns(usize, usize, usize),
 }
 
-/// What a search has found: its levels, of which the first is the bottom; its cuts, by their
-/// counts; of each level, at the same place, its beginning; its nodes; of each node, at the same
-/// place, how it was reached first; and in `ended` pairs of a level and the cut after a take that
-/// takes the level's item out.
+/// What a search has found: in `levels` its levels, of which the first is the bottom; in `cuts` the
+/// counts of its cuts; in `beginnings`, at the index of each level, this level's beginning; in
+/// `nodes` its nodes; in `reached`, at the index of each node, how this node was reached first; and
+/// in `ended` the pairs of a level and the cut after a take that takes the level's item out.
 #[derive(Drop)]
 pub struct LevelTable {
     pub levels: Vec<Level>,

@@ -17,7 +17,7 @@ AreNumbers counts = AllByRecursion (λ n. n < 2 ^ 64) counts
 abbrev pub pair_word : ℕ → ℕ → List ℕ
 pair_word j count = decimal j ++ 58 ∷ decimal count
 
--- the pairs of the counts that aren't 0, by rising caller, from this caller on
+-- the pairs of the counts that aren't 0, by rising caller; the first count is that of caller `j`
 abbrev pub pair_words : ℕ → List ℕ → List (List ℕ)
 pair_words j [] = []
 pair_words j (zero ∷ counts) = pair_words (j + 1) counts
@@ -36,19 +36,21 @@ has_colon word = is_some (cut_at 58 word)
 abbrev pub AreParts : List ℕ → List ℕ → Type 0
 AreParts prefix suffix = cut_at 58 (prefix ++ 58 ∷ suffix) ≡ Some (prefix, suffix)
 
--- the word is a pair J:C, with J below n and C a number above 0
+-- the word is the pair J:C of caller `j` and `count`: J is below `n`, and C is above 0 and below
+-- 2^64
 pub record IsPair (n : ℕ) (word : List ℕ) (j count : ℕ) : Type 0 where
   pub caller : j < n
   pub some : 0 < count
   pub small : count < 2 ^ 64
   pub text : word ≡ pair_word j count
 
--- the word is no pair J:C with J below n and C a number above 0
+-- the word is no pair J:C with J below `n`, and C above 0 and below 2^64
 abbrev pub IsNoPair : ℕ → List ℕ → Type 0
 IsNoPair n word = (j count : ℕ) → IsPair n word j count → ⊥
 
--- Of the words up to the first one without a colon, one is no pair J:C with J below `n` and C above
--- 0, or its J is below `least`, or its J isn't above that of the pair before it.
+-- Of the words up to the first one without a colon, one is no pair J:C with J below `n`, and C
+-- above 0 and below 2^64; or the J of the first pair is below `least`; or a pair's J isn't above
+-- that of the pair before it.
 abbrev pub HasBadPair : ℕ → ℕ → List (List ℕ) → Type 0
 HasBadPair n least [] = ⊥
 HasBadPair n least (word ∷ words) = IsTrue (has_colon word)

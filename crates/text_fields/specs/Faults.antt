@@ -55,7 +55,8 @@ pub record IsFirstTest (Fails : What → Type 0) (what : What) : Type 0 where
   pub fails : Fails what
   pub first : (other : What) → turn_of other < turn_of what → Fails other → ⊥
 
--- The line that the bytes begin with is whole, and fails this test and no earlier one.
+-- The bytes begin with a line that a line feed ends; it fails this test, and no test with a lower
+-- turn.
 pub record IsWrongLine {Due : Type 0} (rules : Rules Due) (due : Due) (bytes : List ℕ)
     (what : What) : Type 0 where
   pub line : List ℕ
@@ -103,7 +104,8 @@ abbrev pub IsFaultOf : (TextFault → Type 0) → ReadFault → Type 0
 IsFaultOf IsOne (Text fault) = IsOne fault
 IsFaultOf IsOne NoMemory = Unit {0}
 
--- A reader stops for want of memory, or with the first fault.
+-- A reader that reads a text from the state `due` on stops for want of memory, or with the text's
+-- first fault.
 abbrev pub StopsFor : {Due : Type 0} → Rules Due → Due → Unread → ReadFault → Type 0
 StopsFor rules due text NoMemory = Unit {0}
 StopsFor rules due text (Text fault) = IsFirstFault rules due text fault
@@ -121,8 +123,9 @@ pub record IsReadTo {Due : Type 0} (rules : Rules Due) (due : Due) (text : Unrea
   pub goes : GoesTo rules due text after left
   pub through : IsThrough (rules.wanted after) left.bytes
 
--- Rules are sharp where a line is right in one way, no right line fails a test, and a right line
--- can be read back.
+-- Rules are sharp where a line is right only in a state in which a line is due, and leads from it
+-- to one state at most, no right line fails a test, and the words of a right line can be read back
+-- from its bytes.
 pub record AreSharp {Due : Type 0} (rules : Rules Due) : Type 0 where
   -- a right line leads from a state to exactly one state
   pub one_way : (due a b : Due) (words : List (List ℕ)) → rules.Passes due words a

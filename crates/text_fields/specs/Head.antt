@@ -102,7 +102,8 @@ HeadGoes version title due text after left = GoesTo (head_rules version title) d
 abbrev pub IsHeadFault : Version → List ℕ → HeadDue → Unread → TextFault → Type 0
 IsHeadFault version title due text fault = IsFirstFault (head_rules version title) due text fault
 
--- the text begins with the head of this kind and these calls, and `left` is the rest of it
+-- the text begins with a head that gives this title, this kind, and `calls` as the numbers of
+-- calls, and `left` is the rest of it
 abbrev pub IsHead : Version → List ℕ → Kind → List ℕ → Unread → Unread → Type 0
 IsHead version title kind calls text left =
     HeadGoes version title TitleDue text (HeadRead kind calls) left

@@ -25,7 +25,7 @@ abbrev pub has_kind : Version → Kind → Bool
 has_kind First kind = is_first_kind kind
 has_kind Second kind = true
 
--- a number above all operation words of a version's texts
+-- the operation words of a version's texts are the numbers below this one
 abbrev pub word_limit : Version → ℕ
 word_limit First = 2 ^ 64
 word_limit Second = 2 ^ 128

@@ -33,7 +33,8 @@ pub fn read_head(lines: &mut Lines, title: &[u8]) -> Result<Head, TextFault>
     // A head that was found is the one, in version 2, that the lines began with; it is taken.
     ensures found { IfOk result (λ head.
         IsHead Second title.now head.kind head.calls lines.old lines.new) }
-    // A head that was found has as many callers and calls as texts of version 2 may have.
+    // A head that was found has a number of callers, and for each of them a number of calls, that
+    // texts of version 2 may have.
     ensures says { IfOk result (λ head.
         AreCallers Second head.n × AreCalls Second head.n head.calls) }
     // A refusal is the first fault of the head of these lines.
@@ -60,7 +61,8 @@ pub fn read_head1(lines: &mut Lines, title: &[u8]) -> Result<Head, TextFault>
     // A head that was found is the one, in version 1, that the lines began with; it is taken.
     ensures found { IfOk result (λ head.
         IsHead First title.now head.kind head.calls lines.old lines.new) }
-    // A head that was found has as many callers and calls as texts of version 1 may have.
+    // A head that was found has a number of callers, and for each of them a number of calls, that
+    // texts of version 1 may have.
     ensures says { IfOk result (λ head.
         AreCallers First head.n × AreCalls First head.n head.calls) }
     // A refusal is the first fault of the head of these lines.
@@ -86,7 +88,8 @@ pub fn read_head_of(version: Version, lines: &mut Lines, title: &[u8]) -> Result
     // A head that was found is the one, in this version, that the lines began with; it is taken.
     ensures found { IfOk result (λ head.
         IsHead version title.now head.kind head.calls lines.old lines.new) }
-    // A head that was found has as many callers and calls as texts of this version may have.
+    // A head that was found has a number of callers, and for each of them a number of calls, that
+    // texts of this version may have.
     ensures says { IfOk result (λ head.
         AreCallers version head.n × AreCalls version head.n head.calls) }
     // A refusal is the first fault of the head of these lines.

@@ -1,5 +1,5 @@
 //! The fields of texts: lines, words, numbers, counts, cuts and heads, each read exactly and
-//! without memory; and what is written of a text that is refused.
+//! without an allocation; and what is written of a text that is refused.
 #![tactic(auto)]
 
 mod counts;

@@ -12,7 +12,7 @@ use seq_objects::number;
 /// Reads the pairs of a cut, up to the next word without a colon or to the end of the line.
 ///
 /// `None` comes exactly where one of these words is no pair of a caller below `n` and a count above
-/// 0, or its caller isn't above that of the pair before it.
+/// 0 and below 2^64, or its caller isn't above that of the pair before it.
 pub fn read_pairs(words: &mut Words, n: u32) -> Option<Cut>
     // There is at least one caller.
     requires some { 1 ≤ n }
@@ -24,8 +24,9 @@ pub fn read_pairs(words: &mut Words, n: u32) -> Option<Cut>
         (λ cut. (length cut ≡ n) × AreNumbers cut × (words.old ≡ pair_words 0 cut ++ words.new)) }
     // The words after the pairs of a cut don't begin with a word with a colon.
     ensures whole { IfSome result (λ cut. NoPairFirst words.new) }
-    // No cut is found only where, of the words up to the first one without a colon, one is no pair,
-    // or its caller isn't above that of the pair before it.
+    // No cut is found only where, of the words up to the first one without a colon, one is no pair
+    // of a caller below `n` and a count above 0 and below 2^64, or its caller isn't above that of
+    // the pair before it.
     ensures none { IfNone result (HasBadPair n 0 words.old) }
 {
     let mut cut = Cut::zero(n);

@@ -57,10 +57,11 @@ abbrev pub IsErrorTold : List ℕ → Option Call → Type 0
 IsErrorTold bytes (Some call) = IsFirstErrorGiven bytes call
 IsErrorTold bytes None = (call : Call) → ¬ (IsFirstErrorGiven bytes call)
 
--- The bytes give a book, and the text is a picture of it: its first lines say whether the book is
--- legal, whether calls are marked, and which error line of a run was the first. Where the book has
--- no legal order, the calls of a smaller book are marked, unless the book is too large for that or
--- memory was wanted.
+-- The bytes give a book, and the text is a picture of it: it shows each call of the book, and its
+-- first lines say whether the book is legal, whether calls are marked, and, where the bytes begin
+-- with a report that has an error line, which error line is its first. Where the book has no legal
+-- order, the calls of a smaller book are marked, unless the book is too large for that or memory
+-- was wanted.
 pub record IsPictureOf (bytes text : List ℕ) : Type 0 where
   pub kind : Kind
   pub book : List Page

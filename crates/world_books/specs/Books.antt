@@ -7,11 +7,12 @@ use Rattle.world_core.specs.Shape.{Shape}
 use Rattle.world_core.specs.Local.{Local}
 use Rattle.world_core.specs.Calls.{AreTogether, IsPublished, book_in}
 
--- The operations, the replies and the views of the locals are a valid book.
+-- In every reachable world the book of the locals is valid. It has the callers' operations, and the
+-- reply and the view of each call whose view is taken.
 abbrev pub BooksAreValid : Type 0
 BooksAreValid = (s : Shape) (locals : List Local) → AreTogether s locals → IsValid (book_in locals)
 
--- A cut of published records is within the record counts of the book.
+-- A cut of published records is within the record counts of the book of the locals.
 abbrev pub PublishedCutsAreWithin : Type 0
 PublishedCutsAreWithin =
     (s : Shape) (locals : List Local) (cut : List ℕ) → AreTogether s locals → IsPublished locals cut

@@ -26,7 +26,7 @@ page operations records = record { operations = operations; records = records }
 abbrev pub answer : ℕ → List ℕ → Record
 answer reply view = record { reply = reply; view = view }
 
--- The book of two whole calls, each of whose views holds both calls.
+-- The book of two whole calls, one of each caller. The view of each call holds both calls.
 abbrev pub both_answered : List Page
 both_answered =
     page (5 ∷ []) (answer 50 (1 ∷ 1 ∷ []) ∷ []) ∷ page (6 ∷ []) (answer 60 (1 ∷ 1 ∷ []) ∷ []) ∷ []
@@ -51,8 +51,8 @@ gathering =
     ∷ by 1 (Peek M 1 0 2 1)
     ∷ []
 
--- What happens to calls at a step, where a call returns only once it has its view, at the last look
--- of the view's scan.
+-- What happens to calls at an event of caller `who`, with local l before and local m after it,
+-- where a call returns only once it has its view, at the last step of the view's scan.
 abbrev pub late_happenings : ℕ → Local → Local → Event → List Happening
 late_happenings who l m Announce =
     Invoked (call_of who l.announced) (staged_operation l.staged) ∷ []

@@ -6,8 +6,8 @@ use Rattle.world_core.specs.Shape.{Shape}
 use Rattle.world_core.specs.Local.{Local, Peeked}
 use Rattle.world_core.specs.Calls.{AreTogether, IsGathered, book_in, local_at}
 
--- A book that a caller gathered at a cut is the book at that cut of the book of all callers. The
--- law doesn't demand that the cut counts published records alone: each peeked record was published.
+-- A book that a caller gathered at a cut is the book at that cut of all callers' calls. The law
+-- doesn't demand that the cut counts published records alone: each peeked record was published.
 abbrev pub GatheredIsTheBookAt : Type 0
 GatheredIsTheBookAt =
     (s : Shape) (locals : List Local) (i : ℕ) (cut : List ℕ) (book : List Page)

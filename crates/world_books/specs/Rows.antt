@@ -36,21 +36,24 @@ page_in_rows s w i =
 abbrev pub book_in_rows : Shape → World → List Page
 book_in_rows s w = map (λ i. page_in_rows s w i) (range_with_len 0 s.callers)
 
--- The book of the rows is valid, has all calls of the book of the locals, and has of each caller's
--- records there those that the caller has published.
+-- The book of the rows is valid, and has just the calls of the book of the locals, with the same
+-- operations. Its records of each caller are those of the book of the locals that this caller has
+-- published.
 pub record AreRowsOf (rows book : List Page) (locals : ℕ → Local) : Type 0 where
   pub valid : IsValid rows
   pub operations : (call : Call) → operation_of rows call ≡ operation_of book call
   pub records : (i : ℕ)
       → (page_of rows i).records ≡ take (locals i).published (page_of book i).records
 
--- In every reachable world the book of the rows is valid and agrees with that of the locals.
+-- At the end of every run the book of the rows is valid, has just the calls of the book of the
+-- locals, and has the records of that book that are published.
 abbrev pub RowsAreAValidBook : Type 0
 RowsAreAValidBook =
     (s : Shape) (steps : List Step) → IsRun s steps → AreRowsOf (book_in_rows s (end_of s steps))
     (book_in (end_of s steps).locals) (local_of (end_of s steps))
 
--- The book of the rows at this cut is valid, and is the book at this cut of all callers' calls.
+-- The book of the rows at this cut is valid, is the book at this cut of all callers' calls, and has
+-- as many records of each caller as the cut counts.
 abbrev pub IsInTheRows : Shape → World → List ℕ → Type 0
 IsInTheRows s w cut =
     IsValidPart (book_in_rows s w) cut (book_at cut (book_in_rows s w))

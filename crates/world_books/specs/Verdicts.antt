@@ -22,8 +22,9 @@ pub record HasSeenCut (calls : List (List Made)) (call : Call) (cut : List ℕ) 
   pub made : slice_get (slice_index_or calls call.caller []) call.number
       ≡ Some (record { operation = operation; reached = Has_seen answer cut })
 
--- The seen cuts of the calls of these locals: each counts published records alone, and of its own
--- caller's calls it holds the one that it was seen for as the last; and any two are comparable.
+-- The seen cuts of the calls of these locals: each counts published records alone, and the last
+-- call of its own caller that it holds is the call for which it was seen; and any two are
+-- comparable.
 pub record AreSeenCuts (locals : List Local) : Type 0 where
   pub published : (call : Call) (cut : List ℕ) → HasSeenCut (map calls_in locals) call cut
       → IsPublished locals cut
@@ -32,8 +33,8 @@ pub record AreSeenCuts (locals : List Local) : Type 0 where
   pub comparable : (a b : Call) (s t : List ℕ) → HasSeenCut (map calls_in locals) a s
       → HasSeenCut (map calls_in locals) b t → AreComparable s t
 
--- In every reachable world each seen cut counts published records alone, and of its own caller's
--- calls it holds the one that it was seen for as the last; and any two seen cuts are comparable.
+-- In every reachable world each seen cut counts published records alone, and the last call of its
+-- own caller that it holds is the call for which it was seen; and any two seen cuts are comparable.
 abbrev pub SeenCutsFit : Type 0
 SeenCutsFit = (s : Shape) (locals : List Local) → AreTogether s locals → AreSeenCuts locals
 
@@ -65,9 +66,9 @@ AreDelivered spec locals cuts =
     → (call : Call) × HasSeenCut (map calls_in locals) call cut
     × HasLegalOrder spec (book_at cut (book_in locals))
 
--- One cut has all delivered calls: it counts published records alone, contains each of their seen
--- cuts, and holds each of them; and the book at it has a legal order, and the record of each call
--- that the cut holds.
+-- The cut `all` has all delivered calls: it counts published records alone, contains the seen cut
+-- of each delivered call, and holds each of these calls. The book at it has a legal order, and has
+-- the record of each call that the cut holds.
 pub record HasAllDelivered (spec : SeqSpec) (locals : List Local) (cuts : List (List ℕ))
     (all : List ℕ) : Type 0 where
   pub published : IsPublished locals all
@@ -78,8 +79,9 @@ pub record HasAllDelivered (spec : SeqSpec) (locals : List Local) (cuts : List (
       → record_of (book_at all (book_in locals)) call ≡ record_of (book_in locals) call
   pub one_order : HasLegalOrder spec (book_at all (book_in locals))
 
--- The cut of the greatest counts of the seen cuts of delivered calls has all delivered calls. Where
--- no call is delivered, all its counts are 0.
+-- The cut of the greatest counts of the seen cuts of delivered calls counts published records alone
+-- and holds each of these calls, and the book at it has a legal order. Where no call is delivered,
+-- all its counts are 0.
 abbrev pub DeliveredCallsStandInOne : Type 0
 DeliveredCallsStandInOne =
     (spec : SeqSpec) (s : Shape) (locals : List Local)

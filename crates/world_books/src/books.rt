@@ -2,8 +2,8 @@
 
 ghost use Rattle.world_books.specs.Books.{BooksAreValid, PublishedCutsAreWithin, BooksAtPublishedCuts};
 
-/// The operations, the replies and the views of the callers of one reachable world are a valid book
-/// (Castañeda and Rodríguez 2023).
+/// In every reachable world the book of the locals is valid (Castañeda and Rodríguez 2023). It has
+/// the callers' operations, and the reply and the view of each call whose view is taken.
 pub fn books_are_valid()
     ensures { BooksAreValid }
 {}
@@ -11,7 +11,7 @@ pub fn books_are_valid()
 /// At every cut of published records, comparable with the views or not, the book of the locals at
 /// this cut is valid, and its record counts are the cut.
 pub fn books_at_published_cuts()
-    // A cut of published records is within the record counts of the book.
+    // A cut of published records is within the record counts of the book of the locals.
     ensures within { PublishedCutsAreWithin }
     // At each cut of published records the book of the locals at this cut is valid, and its record
     // counts are the cut.

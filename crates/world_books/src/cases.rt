@@ -80,8 +80,8 @@ pub fn a_book_is_gathered()
     ensures book { book_at (1 ∷ 1 ∷ []) (book_in (locals_after gathering)) ≡ both_answered }
 {}
 
-/// If a call returned only at the last look of its view's scan, a run could have a linearizable
-/// history and yet an error, since that look may come after an announcement that the view misses. A
+/// If a call returned only at the last step of its view's scan, a run could have a linearizable
+/// history and yet an error, since that step may come after an announcement that the view misses. A
 /// call returns at the first look, and then the run's history isn't linearizable either.
 pub fn calls_return_at_the_first_look()
     // The steps in which a view misses an announcement are a run.

@@ -2,8 +2,8 @@
 
 ghost use Rattle.world_books.specs.Verdicts.{SeenCutsFit, NoRunHasThisError, NoRunHasThisErrorSeen, DeliveredCallsStandInOne};
 
-/// A seen cut counts published records alone, and of its own caller's calls it holds the one that
-/// it was seen for as the last; and any two seen cuts are comparable.
+/// A seen cut counts published records alone, and the last call of its own caller that it holds is
+/// the call for which it was seen; and any two seen cuts are comparable.
 pub fn seen_cuts_fit()
     ensures { SeenCutsFit }
 {}

@@ -49,7 +49,7 @@ is_staging Announcing N = true
 is_staging Publishing M = true
 is_staging _ _ = false
 
--- Whether x is the entry for caller j of the cut to embed; no where there is no cut to embed.
+-- Whether x is the entry for caller j of the cut to embed; false where there is no cut to embed.
 abbrev pub is_entry_to_embed : Option (List ℕ) → ℕ → ℕ → Bool
 is_entry_to_embed None j x = false
 is_entry_to_embed (Some cut) j x = x == slice_index cut j
@@ -302,7 +302,8 @@ peeked_at n l region j k place x =
 -- operations and an empty list to the object steps, and the phase becomes ask; after a publication
 -- the phase is judge. Each of the two raises its count by 1 and adds the cut to embed to the
 -- embedded cuts of its region; and after each of them there is no staged word, no cut to embed and
--- no scan under way. A stage, an object step, a look and a peek are noted.
+-- no scan under way. A stage, an object step, a look and a peek are noted. A look first begins what
+-- its opening says, and the scan under way takes the word of a look or a peek that it needs.
 abbrev pub local_after : ℕ → Local → Event → Local
 local_after n l (Stage region place x) =
     record l { staged = record { place = place; word = x } ∷ l.staged }

@@ -1,4 +1,4 @@
--- Worked histories of two callers that make one call of an object each.
+-- Worked histories of two callers, or of one, that make one call of an object each.
 use Rattle.std.specs.Prelude.{List, [], ◌∷◌, length}
 use Rattle.book_base.specs.declared.call.Call.{Call}
 use Rattle.book_base.specs.SeqSpec.{SeqSpec}

@@ -1,6 +1,6 @@
 -- Steps that aren't enabled after worked runs of two callers, beside like steps that are enabled;
--- locals each of which knows of counted rows in one way alone; and a program that allows one step
--- and one reply.
+-- locals each of which knows of counted rows in one way alone, or in none; and a program that
+-- allows caller 1 alone to leave one word and to get one reply.
 use Rattle.std.specs.Prelude.{◌-◌, ◌^◌, ◌==◌, ◌&&◌, List, [], ◌∷◌, ◌++◌}
 use Rattle.world_core.specs.declared.region.Region.TheVariants.{N, M}
 use Rattle.world_core.specs.Shape.{Shape}

@@ -26,8 +26,8 @@ round n taken k = take n (drop (k * n) taken)
 abbrev pub open_round : ℕ → List ℕ → List ℕ
 open_round n taken = drop (rounds n taken * n) taken
 
--- Of two lists of counts, each of the callers from number j on: the least caller whose count in the
--- second list is at least 2 above its count in the first, if there is such a caller.
+-- Given two lists with the counts of the callers from number j on, the least caller whose count in
+-- the second list is at least 2 above its count in the first, if there is such a caller.
 abbrev pub mover_from : ℕ → List ℕ → List ℕ → Option ℕ
 mover_from j (a ∷ first) (b ∷ latest) =
     if nat_lt (a + 1) b then Some j else mover_from (suc j) first latest
@@ -39,9 +39,9 @@ abbrev pub mover : List ℕ → List ℕ → Option ℕ
 mover first latest = mover_from 0 first latest
 
 -- What a scan does next, given its latest collect and the caller that has moved twice since the
--- first, if there is one. It borrows the cut that this caller's latest row embeds, whose number is
--- 1 less than the caller's count in the latest collect. Where no caller has moved twice it makes
--- the next collect.
+-- first, if there is one. It borrows the cut that this caller's latest row embeds; the number of
+-- that row is 1 less than the caller's count in the latest collect. Where no caller has moved twice
+-- the scan makes the next collect.
 abbrev pub lent_by : List ℕ → Option ℕ → Course
 lent_by latest None = Collects
 lent_by latest (Some j) = Borrows j (slice_index latest j - 1)

@@ -62,8 +62,8 @@ as_published = local_after_all twice (take 59 two_by_one) 0
 abbrev pub as_judged : Local
 as_judged = local_after_all twice two_by_one 0
 
--- The steps of `two_by_one` up to the scan of M after the second view: next caller 0 may stage the
--- words of its second row in M.
+-- The steps of `two_by_one` through the scan of M after the second view: next caller 0 may stage
+-- the words of its second row in M.
 abbrev pub second_ready : List Step
 second_ready = take 53 two_by_one
 

@@ -36,7 +36,7 @@ gives_up Publish = true
 gives_up (Look region j x opening) = is_opening opening
 gives_up _ = false
 
--- Whether a step leaves the scan of caller `who` under way: it is another caller's step, or its
+-- Whether a step lets the scan of caller `who` go on or end: it is another caller's step, or its
 -- event gives up no scan.
 abbrev pub keeps_scan : ℕ → Step → Bool
 keeps_scan who step = not (step.who == who && gives_up step.event)

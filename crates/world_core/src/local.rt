@@ -1,7 +1,8 @@
 use std::marker::Model;
 
-/// One caller's state in the world: its operations, replies and views, its counts, its phase, its
-/// staged words, its scan under way, the counts that it looked at, the words that it peeked, and
+/// One caller's state in the world: its operations, replies, views and seen cuts; its counts and
+/// its phase; the cuts that its rows embed, and its steps on object words; its staged words, its
+/// cut to embed and its scan under way; the counts that it looked at, the words that it peeked, and
 /// the cuts that its scans gave.
 ///
 /// Clauses see a value as the local that `specs/Local.antt` defines. Locals occur in clauses alone,

@@ -1,4 +1,4 @@
-//! The small definitions of the world, checked value by value; and, for each condition of the
+//! The small definitions of the world, checked value by value; and, for most conditions of the
 //! larger ones, a value that fails this condition alone.
 
 ghost use Rattle.std.specs.Prelude.{◌≡◌, true, false, [], ◌∷◌, ◌++◌, IsTrue, Some, None, map, replicate};
@@ -100,17 +100,20 @@ pub fn tests_tell_apart()
     // needs another entry.
     ensures peeks_of_M { map (is_peek_wanted 2 M 1 3 4) (Wants_peek 1 3 1 ∷ Wants_peek 1 3 2 ∷ [])
         ≡ true ∷ false ∷ [] }
-    // A caller may peek a row whose number is below a count that an older one of its looks found.
+    // A caller may peek a row of caller 0 in N whose number is below a count of caller 0 in N that
+    // one of its older looks found.
     ensures older_look { is_enabled pair 1 with_looks (Peek N 0 1 0 0) ≡ true }
-    // A caller may not peek a row whose number is below none of the counts that its looks found.
+    // A caller may not peek a row of caller 0 in N where each count of caller 0 in N that its looks
+    // found is at most the row's number.
     ensures beyond_all_looks { is_enabled pair 1 with_looks (Peek N 0 2 0 0) ≡ false }
-    // A caller may peek a row of N whose number is below a count of an older cut, which a scan of N
-    // gave it.
+    // A caller may peek a row of caller 0 in N whose number is below the count for caller 0 of an
+    // older cut, which a scan of N gave it.
     ensures older_cut { is_enabled pair 1 with_cuts (Peek N 0 1 0 0) ≡ true }
-    // A caller may peek a row of M whose number is below a count of a later cut, which a scan of M
-    // gave it.
+    // A caller may peek a row of caller 1 in M whose number is below the count for caller 1 of a
+    // later cut, which a scan of M gave it.
     ensures later_cut { is_enabled pair 1 with_cuts (Peek M 1 0 0 0) ≡ true }
-    // A caller may not peek a row of M whose number is below a count of a cut of N alone.
+    // A caller may not peek a row of caller 0 in M whose number is below the count for caller 0 of
+    // a cut of N, and of no cut of M.
     ensures cut_of_another { is_enabled pair 1 with_cuts (Peek M 0 1 0 0) ≡ false }
     // A caller may not stage a word of its second row of M where the cap is 1.
     ensures no_row_of_M { is_enabled pair 0 rowless (Stage M 0 0) ≡ false }
@@ -222,9 +225,9 @@ pub fn words_are_peeked()
     ensures other_word { ¬ HasPeeked (with_peeks (peek_of M 1 2 3 4 ∷ [])) M (call_of 1 2) 3 3 }
 {}
 
-/// A book is gathered at a cut where its caller has peeked each of its words and it is the book at
-/// that cut: with one page for each caller, as many records as the cut counts, and exactly the
-/// calls that the views of these records hold.
+/// A caller has gathered a book at a cut where it has peeked each word of the book, and the book
+/// has one page for each caller, as many records as the cut counts, and exactly the calls that the
+/// views of these records hold.
 #[tactic(auto, using(crate::proofs::Gathering::gathered, crate::proofs::Gathering::lacks_low, crate::proofs::Gathering::lacks_high, crate::proofs::Gathering::lacks_reply, crate::proofs::Gathering::lacks_entry, crate::proofs::Gathering::of_another, crate::proofs::Gathering::other_cut, crate::proofs::Gathering::unheld, crate::proofs::Gathering::lacking, crate::proofs::Gathering::too_wide))]
 pub fn books_are_gathered()
     // The book of one answered call is gathered at the cut 1 by a caller that has peeked all of its

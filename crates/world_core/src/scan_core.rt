@@ -67,7 +67,7 @@ impl ScanCore {
         self.me
     }
 
-    /// The region that it scans.
+    /// The region that is scanned.
     pub fn region(&self) -> Region
         ensures { result ≡ self.now.region }
     {

@@ -17,8 +17,7 @@ ghost use Rattle.world_core.specs.Schedules.{pair, by, local_at, local_after_all
 ghost use Rattle.world_core.specs.Histories.{numbering, one_after_another, side_by_side, reply_of_another, after_unanswered, without_unanswered};
 ghost use Rattle.world_core.specs.Refusals.{allowed_at_start, refused_at_start, scanned, allowed_as_scanned, refused_as_scanned, scanned_other, staged_three_of_N, asked, allowed_as_asked, refused_as_asked, viewing, allowed_as_viewing, refused_as_viewing, viewed, refused_as_viewed, ready, allowed_as_ready, refused_as_ready, staged_four, refused_as_staged_four, staged_five, looked, allowed_as_looked, refused_as_looked, reply_peeked, entry_peeked, refused_as_entry_peeked, looked_in_N, looked_in_M, cut_of_N, cut_of_M, view_peeked, announcement_peeked, embedded_peeked, looked_past, staged_early, narrow, asking, viewing_local};
 
-/// The indices of the words of the table, worked out; where no number is said there are two callers
-/// with a cap of 4.
+/// The indices of the words of the table, worked out, most of them for two callers with a cap of 4.
 pub fn words_lie_by_numbers()
     // Two callers with a cap of 4 have 76 words of counts and rows.
     ensures few { row_words 2 4 ≡ 76 }
@@ -30,19 +29,19 @@ pub fn words_lie_by_numbers()
     ensures object { object_index 2 4 0 ≡ 76 }
     // A row of two callers has nine words.
     ensures width { row_width 2 ≡ 9 }
-    // The count of caller 1 in N is word 1.
+    // With two callers the count of caller 1 in N is word 1.
     ensures count_of_N { count_index 2 N 1 ≡ 1 }
-    // The count of caller 1 in M is word 3.
+    // With two callers the count of caller 1 in M is word 3.
     ensures count_of_M { count_index 2 M 1 ≡ 3 }
-    // The first row of caller 1 begins at word 40.
+    // With two callers and a cap of 4 the first row of caller 1 begins at word 40.
     ensures second_caller { row_index 2 4 1 0 ≡ 40 }
-    // The second row of caller 0 begins at word 13.
+    // With two callers and a cap of 4 the second row of caller 0 begins at word 13.
     ensures second_row { row_index 2 4 0 1 ≡ 13 }
-    // The last place in N of the first row of caller 1 is word 43.
+    // With two callers and a cap of 4 the last place in N of the first row of caller 1 is word 43.
     ensures last_of_N { place_index 2 4 N 1 0 3 ≡ 43 }
-    // The reply in the first row of caller 1 is word 44.
+    // With two callers and a cap of 4 the reply in the first row of caller 1 is word 44.
     ensures reply { place_index 2 4 M 1 0 0 ≡ 44 }
-    // The last place in M of the last row of caller 1 is word 75.
+    // With two callers and a cap of 4 the last place in M of the last row of caller 1 is word 75.
     ensures last_of_M { place_index 2 4 M 1 3 4 ≡ 75 }
 {}
 
@@ -56,17 +55,17 @@ pub fn places_have_contents()
     ensures low { content 2 N 0 ≡ Low }
     // Place 1 in N is for the high word of the operation.
     ensures high { content 2 N 1 ≡ High }
-    // Place 3 in N is for the entry of caller 1 of the embedded cut.
+    // Place 3 in N is for the embedded cut's entry for caller 1.
     ensures embedded_in_N { content 2 N 3 ≡ Embedded_entry N 1 }
     // Place 0 in M is for the reply.
     ensures reply { content 2 M 0 ≡ Reply }
-    // Place 2 in M is for the entry of caller 1 of the view.
+    // Place 2 in M is for the view's entry for caller 1.
     ensures view { content 2 M 2 ≡ View_entry 1 }
-    // Place 3 in M is for the entry of caller 0 of the embedded cut.
+    // With two callers place 3 in M is for the embedded cut's entry for caller 0.
     ensures embedded_in_M { content 2 M 3 ≡ Embedded_entry M 0 }
-    // The entry of caller 1 of the cut embedded in N is at place 3.
+    // The entry for caller 1 of the cut that a row embeds in N is at place 3.
     ensures place_in_N { embedded_place 2 N 1 ≡ 3 }
-    // The entry of caller 0 of the cut embedded in M is at place 3.
+    // With two callers the entry for caller 0 of the cut that a row embeds in M is at place 3.
     ensures place_in_M { embedded_place 2 M 0 ≡ 3 }
 {}
 
@@ -86,8 +85,8 @@ pub fn two_whole_calls()
     ensures words { (end_of pair two_calls).words ≡ 1 ∷ 1 ∷ 1 ∷ 1 ∷ 5 ∷ 0 ∷ 0 ∷ 0 ∷ 50 ∷ 1 ∷ 1 ∷ 0
         ∷ 0 ∷ 6 ∷ 0 ∷ 1 ∷ 0 ∷ 60 ∷ 1 ∷ 1 ∷ 1 ∷ 0 ∷ [] }
 
-    // The scan of the first caller's view gives the cut 1 1 in its span; before it the caller had
-    // looked at four counts.
+    // The scan of the first caller's view gives the cut 1 1 in its span; the caller had looked at
+    // four counts before this scan.
     ensures first_scan { GivesCut pair 0
         (record { region = N; cut = 1 ∷ 1 ∷ []; since = 4 }) view_span }
     // After the two whole calls caller 0 has one call, with its record and its seen cut 1 0.
@@ -270,7 +269,8 @@ pub fn counts_rise_over_whole_rows()
 
 /// Where a look is enabled: at a caller's count, with the word that the table has; where it begins
 /// a scan, at the first caller, and while the view's scan isn't under way; and where it begins the
-/// view's scan, at the first caller, in N, in the phase ask, with a reply that is a word.
+/// view's scan, at the first caller, in N, in the phase ask, with a reply that is a word and that
+/// the program allows.
 pub fn looks_are_conditional()
     // A caller in the phase ask may begin the view's scan with a reply that is a word, or a scan of
     // N or M that isn't the view's.
@@ -298,7 +298,8 @@ pub fn peeks_are_conditional()
     // A caller that peeked the reply of a record, and no entry of its view, may not peek a row of N
     // that only the view counts.
     ensures before_view { IsTrue (refuses reply_peeked (by 1 (Peek N 0 0 0 5) ∷ [])) }
-    // A caller that peeked an entry of a view may peek a row of N whose number is below this entry.
+    // A caller that peeked the entry for caller 0 of a view may peek a row of caller 0 in N whose
+    // number is below this entry.
     ensures by_view { IsTrue (allows entry_peeked (by 1 (Peek N 0 0 0 5) ∷ [])) }
     // A caller that peeked the entry for caller 0 of a view may peek neither a row of N whose
     // number isn't below this entry, nor a row of another caller.
@@ -346,11 +347,13 @@ pub fn rows_are_known()
     ensures view_beside { is_enabled pair 1 view_peeked (Peek N 1 0 0 5) ≡ false }
     // A caller that peeked only an entry of a view may not peek a row of M.
     ensures view_of_announcements { is_enabled pair 1 view_peeked (Peek M 0 0 0 5) ≡ false }
-    // A caller that peeked only a word of an operation knows of no counted row.
+    // A caller that peeked only a word of an operation may not peek the first row of caller 0 in N.
     ensures announcement { is_enabled pair 1 announcement_peeked (Peek N 0 0 0 5) ≡ false }
-    // A caller that peeked only an entry of a cut embedded in M knows of no counted row of N.
+    // A caller that peeked only the entry 1 for caller 0 of a cut embedded in M may not peek the
+    // first row of caller 0 in N.
     ensures embedded { is_enabled pair 1 embedded_peeked (Peek N 0 0 0 5) ≡ false }
-    // A caller that peeked only an entry of a cut embedded in M knows of no counted row of M.
+    // A caller that peeked only the entry 1 for caller 0 of a cut embedded in M may not peek the
+    // first row of caller 0 in M.
     ensures embedded_in_M { is_enabled pair 1 embedded_peeked (Peek M 0 0 0 5) ≡ false }
 {}
 
@@ -379,8 +382,8 @@ pub fn scans_want()
     // Where two callers have moved twice since the first collect, a scan needs the peek at the
     // first entry of the cut that the latest row of the one with the lower number embeds.
     ensures twice { wanted 3 (0 ∷ 0 ∷ 0 ∷ 2 ∷ 3 ∷ 0 ∷ []) ≡ Wants_peek 0 1 0 }
-    // A scan borrows from caller 1 where caller 0 has moved once since the first collect, and
-    // caller 1 has moved three times.
+    // A scan borrows from caller 1 where since the first collect caller 0 has moved once, caller 1
+    // three times and caller 2 twice.
     ensures least { wanted 3 (4 ∷ 0 ∷ 0 ∷ 5 ∷ 3 ∷ 2 ∷ []) ≡ Wants_peek 1 2 0 }
     // A scan borrows from a caller that has moved twice since the first collect, and once since the
     // collect before the latest.
@@ -472,8 +475,8 @@ pub fn moments_lie_within_scans()
 {}
 
 /// Where an object step is enabled: in the phase ask, on an object word, with the old word that the
-/// table has, where the program allows the step. And the reply of the view's scan is one that the
-/// program allows.
+/// table has and a new one below 2^64, where the program allows the step. And the reply of the
+/// view's scan is one that the program allows.
 pub fn object_steps_are_conditional()
     // The announcements of two callers and their steps on an object word are a run.
     ensures run { IsRun scrap_pair object_steps_made }

@@ -201,7 +201,7 @@ pub fn peeks_are_kept()
 {}
 
 /// Which histories of one caller are linearizable for an object that replies the number of
-/// operations before. The caller's second call comes after its first, though both have one
+/// operations before. The caller's second call comes after its first, though both have the same
 /// operation. No call is in the order twice, or returns before it is invoked. Which replies are
 /// right depends on the list that the object begins with.
 #[tactic(auto, using(crate::proofs::OneCaller::in_turn_linearizable, crate::proofs::OneCaller::caller_forbids, crate::proofs::OneCaller::one_forbids, crate::proofs::OneCaller::list_allows, crate::proofs::OneCaller::list_forbids, crate::proofs::OneCaller::before_forbids))]

@@ -12,7 +12,8 @@ ghost use Rattle.world_core.specs.WrongHistories.{both_return_0, second_returns_
 pub fn wrong_histories_are_not_linearizable()
     // A history in which both calls of a caller, one after the other, return 0 isn't linearizable.
     ensures second_call { ¬ IsLinearizable numbering both_return_0 }
-    // A history of one call alone, made by the second caller, which returns 1 isn't linearizable.
+    // A history of one call alone, which is made by the second caller and returns 1, isn't
+    // linearizable.
     ensures second_caller { ¬ IsLinearizable numbering second_returns_1 }
     // A history isn't linearizable where its replies fit only an order in which a call that never
     // returned stands before one that had returned before the unanswered call was invoked.

@@ -8,8 +8,9 @@ use Rattle.world_core.specs.World.{Step, local_of, IsRun, end_of}
 use Rattle.world_core.specs.Snapshot.{ScanSpan, up_to_last, GivesCut}
 use Rattle.world_core.specs.Calls.{AreTogether, local_at}
 
--- The words that a scan of caller i of n has taken are steady. They come of at most n + 1 collects,
--- which are n * (n + 1) looks, and of at most n peeks; so they are at most n * (n + 1) + n.
+-- The words that a scan by caller i of n callers has taken are steady. They come of at most n + 1
+-- collects, which are n * (n + 1) looks, and of at most n peeks; so they are at most n * (n + 1) +
+-- n.
 pub record IsBounded (n i : ℕ) (taken : List ℕ) : Type 0 where
   pub steady : IsSteady n i taken
   pub looks : looks n taken ≤ n * (n + 1)

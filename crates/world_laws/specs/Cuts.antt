@@ -66,7 +66,7 @@ CutsAreComparable =
     → slice_get (local_of (end_of s steps) j).cuts q ≡ Some b → a.region ≡ b.region
     → AreComparable a.cut b.cut
 
--- In the locals of one reachable world any two cuts of one region are comparable.
+-- In the locals of one reachable world any two cuts that scans of one region gave are comparable.
 abbrev pub GivenCutsAreComparable : Type 0
 GivenCutsAreComparable =
     (s : Shape) (locals : List Local) (i j p q : ℕ) (a b : Given) → AreTogether s locals

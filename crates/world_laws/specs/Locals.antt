@@ -26,8 +26,9 @@ abbrev pub IsCountedRow : Shape → List Local → Region → ℕ → ℕ → Ty
 IsCountedRow s locals region j k = (j < s.callers) × (k < s.cap)
     × (k < own_count (local_at locals j) region)
 
--- In the locals of a reachable world a row that counts by what a caller has found (a count, a cut,
--- or in N an entry of a view) is counted.
+-- In the locals of a reachable world each row that a caller knows to be counted in a region (by a
+-- count that it looked at, by a cut that a scan gave it or, in N, by an entry of a view that it
+-- peeked) exists and is counted there.
 abbrev pub KnownRowsAreCounted : Type 0
 KnownRowsAreCounted =
     (s : Shape) (locals : List Local) (i j k : ℕ) (region : Region) → AreTogether s locals
@@ -70,8 +71,9 @@ GivenCutsArePublished =
     → slice_get (local_at locals i).cuts p ≡ Some given → given.region ≡ M
     → IsPublished locals given.cut
 
--- At the end of a run a row that counts by what a caller has found (a count, a cut, or in N an
--- entry of a view) is counted.
+-- At the end of a run each row that a caller knows to be counted in a region (by a count that it
+-- looked at, by a cut that a scan gave it or, in N, by an entry of a view that it peeked) exists,
+-- and its number is below the count word of its caller in that region.
 abbrev pub KnownRowsAreCountedInRuns : Type 0
 KnownRowsAreCountedInRuns =
     (s : Shape) (steps : List Step) (i j k : ℕ) (region : Region) → IsRun s steps → i < s.callers
@@ -94,14 +96,14 @@ LookedCountsAreLowInRuns =
     → slice_get (local_of (end_of s steps) i).looked p ≡ Some look
     → (look.caller < s.callers) × (look.count ≤ count_of s (end_of s steps) look.region look.caller)
 
--- An announcement gives up the scan that was under way.
+-- An announcement gives up the scan that its caller has under way, if there is one.
 abbrev pub AnnouncementsGiveUpScans : Type 0
 AnnouncementsGiveUpScans =
     (s : Shape) (before : List Step) (who : ℕ)
     → IsRun s (before ++ record { who = who; event = Announce } ∷ [])
     → (local_of (end_of s (before ++ record { who = who; event = Announce } ∷ [])) who).scan ≡ None
 
--- A publication gives up the scan that was under way.
+-- A publication gives up the scan that its caller has under way, if there is one.
 abbrev pub PublicationsGiveUpScans : Type 0
 PublicationsGiveUpScans =
     (s : Shape) (before : List Step) (who : ℕ)

@@ -76,12 +76,13 @@ pub fn cuts_rise()
 /// `n` peeks, whatever the others do. This holds of a scan under way and of one that has given its
 /// cut.
 pub fn scans_are_bounded()
-    // The scan under way of each caller, in the locals of a reachable world, makes at most n + 1
-    // collects and n peeks.
+    // In the locals of a reachable world each scan that a caller has under way has steady words,
+    // and has made at most n + 1 collects and n peeks, where n is the number of callers.
     ensures locals { ScansAreBounded }
-    // The scan under way of each caller at the end of a run makes at most n + 1 collects and n
-    // peeks.
+    // At the end of a run each scan that a caller has under way has steady words, and has made at
+    // most n + 1 collects and n peeks, where n is the number of callers.
     ensures runs { ScansAreBoundedInRuns }
-    // A scan that has given its cut made at most n + 1 collects and n peeks.
+    // A scan that has given its cut had steady words, and made at most n + 1 collects and n peeks,
+    // where n is the number of callers.
     ensures ended { EndedScansAreBounded }
 {}

@@ -38,8 +38,8 @@ pub fn own_events_alone()
 
 /// In every reachable world the phase, the counts and the lists of a local agree with each other
 /// and with the words of the table. The caller's own counts are its count words. Each announced
-/// operation, each published record and each embedded cut is in its row, and each staged word is in
-/// the row under way.
+/// operation, each published record and each embedded cut is in its row, and of the words staged at
+/// a place the last one is in the row under way.
 #[tactic(auto, using(crate::proofs::Running::locals_agree))]
 pub fn locals_agree()
     ensures { LocalsAgree }

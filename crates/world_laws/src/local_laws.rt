@@ -9,15 +9,16 @@ pub fn locals_have_phases()
     ensures { LocalsHavePhases }
 {}
 
-/// A row that counts by what a caller has found (a count that it looked at, a cut that its scan
-/// gave, or, in N, an entry of a view that it peeked) is counted, and its number is below the cap.
+/// Each row that a caller knows to be counted (by a count that it looked at, by a cut that its scan
+/// gave or, in N, by an entry of a view that it peeked) is counted, and its number is below the
+/// cap.
 #[tactic(auto, using(crate::proofs::Locals::known_rows_are_counted, crate::proofs::Locals::known_rows_are_counted_in_runs))]
 pub fn known_rows_are_counted()
-    // In the locals of a reachable world a row that counts by what a caller has found is below the
-    // cap, and below the own count of the row's caller.
+    // In the locals of a reachable world the number of each row that a caller knows to be counted
+    // is below the cap, and below the own count of the row's caller.
     ensures locals { KnownRowsAreCounted }
-    // At the end of a run a row that counts by what a caller has found is below the cap, and below
-    // the count word of the row's caller.
+    // At the end of a run the number of each row that a caller knows to be counted is below the
+    // cap, and below the count word of the row's caller.
     ensures runs { KnownRowsAreCountedInRuns }
 {}
 
@@ -48,11 +49,12 @@ pub fn given_cuts_are_low()
     ensures published { GivenCutsArePublished }
 {}
 
-/// An announcement and a publication give up the scan that was under way.
+/// An announcement and a publication give up the scan that their caller has under way, if there is
+/// one.
 #[tactic(auto, using(crate::proofs::Locals::announcements_give_up_scans, crate::proofs::Locals::publications_give_up_scans))]
 pub fn counted_rows_give_up_scans()
-    // An announcement gives up the scan that was under way.
+    // An announcement gives up the scan that its caller has under way, if there is one.
     ensures announcements { AnnouncementsGiveUpScans }
-    // A publication gives up the scan that was under way.
+    // A publication gives up the scan that its caller has under way, if there is one.
     ensures publications { PublicationsGiveUpScans }
 {}
