@@ -22,14 +22,7 @@ pub retreat-requires-clause-walk : goal.retreat-requires-clause-walk
 retreat-requires-clause-walk g c =
     let object = c.args.self.now.object.now in
     let old = c.args.walk.now in
-    let new : SetWalk = record {
-      frames = old.frames;
-      counts = old.counts;
-      here = old.here;
-      callers = old.callers;
-      left = old.left;
-      memo = c.remember.new.self;
-    } in
+    let new : SetWalk = record old { memo = c.remember.new.self } in
     let made = c.in_ok-remember.ensures in
     (walk-remember (g.O.SetObject.init object) (g.O.SetObject.served object)
     c.args.self.now.book.now old new c.requires.walk c.if-walk-eq0.true
@@ -47,14 +40,7 @@ returns-in-None-clause-outcome g c =
     let init = g.O.SetObject.init object in
     let served = g.O.SetObject.served object in
     let old = c.args.walk.now in
-    let new : SetWalk = record {
-      frames = old.frames;
-      counts = old.counts;
-      here = old.here;
-      callers = old.callers;
-      left = old.left - 1;
-      memo = old.memo;
-    } in
+    let new : SetWalk = record old { left = old.left - 1 } in
     let cannot : CannotStand served book old.counts.items old.here.words
     (picked old.left old.callers.items) =
     subst (λ o. IfNone o (CannotStand served book old.counts.items old.here.words

@@ -31,14 +31,7 @@ returns-then-remembers g c =
     let init = g.O.SetObject.init object in
     let served = g.O.SetObject.served object in
     let old = c.args.walk.now in
-    let new : SetWalk = record {
-      frames = old.frames;
-      counts = old.counts;
-      here = old.here;
-      callers = old.callers;
-      left = old.left - 1;
-      memo = old.memo;
-    } in
+    let new : SetWalk = record old { left = old.left - 1 } in
     let cut : c.deref-2.result.now ≡ raised_by old.counts.items c.args.set =
     c.deref-2.ensures.value
     ∙ (c.in_ok-counts.ensures ∙ (ap (λ (x : List ℕ). raised_by x c.places.result.now)
@@ -73,14 +66,7 @@ returns-then-is_lost g c =
     let init = g.O.SetObject.init object in
     let served = g.O.SetObject.served object in
     let old = c.args.walk.now in
-    let new : SetWalk = record {
-      frames = old.frames;
-      counts = old.counts;
-      here = old.here;
-      callers = old.callers;
-      left = old.left - 1;
-      memo = old.memo;
-    } in
+    let new : SetWalk = record old { left = old.left - 1 } in
     let cut : c.deref-3.result.now ≡ raised_by old.counts.items c.args.set =
     c.deref-3.ensures.value
     ∙ (c.in_ok-counts.ensures ∙ (ap (λ (x : List ℕ). raised_by x c.places.result.now)
