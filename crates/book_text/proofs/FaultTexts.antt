@@ -1,8 +1,8 @@
 -- The first fault is where bytes stop being the beginning of a book's text.
-use Rattle.std.proofs.Common.{◌≡◌, ◌≢◌, ℕ, zero, suc, ◌+◌, ◌<◌, ◌≤◌, ◌^◌, ◌⊎◌, Bool, true, List, [], ◌∷◌, ◌++◌, length, replicate, set, Option, Some, None, refl, sym, ap, subst, ◌∙◌, arith, inl, inr}
+use Rattle.std.proofs.Common.{◌≡◌, ◌≢◌, ℕ, zero, suc, ◌+◌, ◌<◌, ◌≤◌, ◌^◌, ◌⊎◌, Bool, List, [], ◌∷◌, ◌++◌, length, replicate, set, Option, Some, None, refl, sym, ap, subst, ◌∙◌, arith, inl, inr}
 use Rattle.std.specs.Prelude.{codes}
 use Rattle.std.specs.List.{AllByRecursion}
-use Rattle.std.proofs.lemmas.List.{length-map, length-replicate, length-set}
+use Rattle.std.proofs.lemmas.List.{length-map, length-set}
 use Rattle.book_base.specs.declared.call.Call.{Call}
 use Rattle.book_base.specs.declared.call.Record.{Record}
 use Rattle.book_base.specs.declared.fault.BookFault.{BookFault}
@@ -14,22 +14,22 @@ use Rattle.book_base.specs.declared.TheConstants.{MAX_CALLERS}
 use Rattle.book_base.specs.Book.{Page, page_of, unanswered_page, unanswered_book, with_answer}
 use Rattle.list_laws.proofs.Elements.{AllByRecursion-append}
 use Rattle.seq_objects.specs.declared.kind.Kind.{Kind}
-use Rattle.seq_objects.specs.declared.kind.Kind.TheVariants.{Counter}
 use Rattle.text_fields.specs.declared.version.Version.{Version}
 use Rattle.text_fields.specs.declared.version.Version.TheVariants.{First, Second}
-use Rattle.text_fields.specs.Version.{most_callers, most_calls, has_kind}
+use Rattle.text_fields.specs.Version.{most_callers, most_calls}
 use Rattle.text_fields.specs.Counts.{AreAtMost}
 use Rattle.text_fields.specs.Operations.{Operations, kind_operations}
-use Rattle.text_fields.specs.Head.{TitleDue, ObjectDue, CallersDue, CountsDue, HeadRead, title_words, object_words, callers_words, calls_words}
+use Rattle.text_fields.specs.Head.{TitleDue, ObjectDue, CallersDue, CountsDue, HeadRead}
 use Rattle.text_fields.specs.Faults.{ALine}
 use Rattle.book_text.specs.CallLines.{BookSoFar, with_line, IsNamedCall, IsCallLine, call_words, calls_from, all_calls, EntryFails, view_test}
 use Rattle.book_text.specs.Grammar.{end_words}
 use Rattle.book_text.specs.BookRules.{BookDue, InHead, InCalls, AtEnd, after_head, BookPasses, BookFails, book_wanted, book_rules, IsBookText, IsFirstBookFault}
 use Rattle.book_text.specs.AnyTextBeginnings.{BreaksOff, GoesPast}
 use Rattle.book_text.specs.Beginnings.{BreaksText, EndsEarly, GoesOn, LeavesTexts}
-use Rattle.book_text.proofs.CallTexts.{no_calls, no_calls_few}
+use Rattle.book_text.proofs.CallTexts.{no_calls}
 use Rattle.book_text.proofs.Leavings as leavings
 use Rattle.book_text.proofs.Leavings.{Completes, one_more}
+use Rattle.book_text.proofs.HeadLines.{HeadCanCome, one_caller, head_named, head_comes}
 use Rattle.book_text.proofs.SharpBooks.{book_sharp}
 use Rattle.book_text.proofs.ReadTexts.{has_zero}
 
@@ -69,11 +69,7 @@ named_still book after (call ∷ calls) size h = (
 -- right lines can complete a text from the state: each call that is due has a caller and a number
 -- that can be written
 abbrev pub CanCome : Version → BookDue → Type 0
-CanCome version (InHead TitleDue) = Unit {0}
-CanCome version (InHead ObjectDue) = Unit {0}
-CanCome version (InHead (CallersDue kind)) = Unit {0}
-CanCome version (InHead (CountsDue kind n)) = n ≤ most_callers version
-CanCome version (InHead (HeadRead kind calls)) = ⊥
+CanCome version (InHead due) = HeadCanCome (λ n. n ≤ most_callers version) due
 CanCome version (InCalls kind book calls) = AllByRecursion (IsNamedCall book) calls
 CanCome version (AtEnd kind book) = Unit {0}
 
@@ -93,6 +89,19 @@ all_named book most i (count ∷ counts) inside few small h =
     AllByRecursion-append (IsNamedCall book) (calls_from i 0 count) (all_calls (i + 1) counts)
     (named_calls book i 0 count (omega arith) few (omega (arith, h.0)))
     (all_named book most (i + 1) counts (omega arith) few small h.1)
+
+-- the name of a fault of a view isn't one of those for the end of a text, Cut and Rest
+pub view_fault_named : (fault : BookFault) (name : What) → view_test fault ≡ Some name
+    → (name ≢ what.Cut) × (name ≢ what.Rest)
+view_fault_named tests.TooManyCalls name h = absurd cc
+view_fault_named tests.NoSuchCall name h = absurd cc
+view_fault_named (tests.ViewOutside j) name h = (λ e. absurd (cc (h, e)), λ e. absurd (cc (h, e)))
+view_fault_named (tests.ViewLacksOwn count) name h =
+    (λ e. absurd (cc (h, e)), λ e. absurd (cc (h, e)))
+view_fault_named (tests.ViewHasLater count) name h =
+    (λ e. absurd (cc (h, e)), λ e. absurd (cc (h, e)))
+view_fault_named (tests.ViewsCross call) name h = (λ e. absurd (cc (h, e)), λ e. absurd (cc (h, e)))
+view_fault_named tests.NoMemory name h = absurd cc
 
 module _ (version : Version) where
   -- from the state after a right line a text can be completed, where it can be from that before it
@@ -163,90 +172,42 @@ module _ (version : Version) where
       (calls_come kind after calls
       (named_still book after calls (length-with_line book call 0 None) h.1))
 
-  counts_come : (kind : Kind) (n : ℕ) → Done (InHead (CountsDue kind n))
-  counts_come kind n =
-      let counts : List ℕ = replicate n 0 in
-      let next : BookDue = InCalls kind (unanswered_book counts) (all_calls 0 counts) in
-      more (InHead (CountsDue kind n)) next (calls_words counts) (
-        HeadRead kind counts,
-        (
-          counts,
-          record { count = length-replicate n 0; few = no_calls_few (most_calls version) n },
-          refl,
-          refl,
-        ),
-        refl,
-      )
-      (subst (λ (calls : List Call). Done (InCalls kind (unanswered_book counts) calls))
-      (sym (no_calls 0 n)) (end_comes kind (unanswered_book counts)))
-
-  one_caller : (v : Version) → 1 ≤ most_callers v
-  one_caller First = omega arith
-  one_caller Second = omega arith
-
-  callers_come : (kind : Kind) → Done (InHead (CallersDue kind))
-  callers_come kind =
-      more (InHead (CallersDue kind)) (InHead (CountsDue kind 1)) (callers_words 1) (
-        CountsDue kind 1,
-        (1, record { some = omega arith; few = one_caller version }, refl, refl),
-        refl,
-      ) (counts_come kind 1)
-
-  has_counter : (v : Version) → has_kind v Counter ≡ true
-  has_counter First = refl
-  has_counter Second = refl
-
-  object_comes : Done (InHead ObjectDue)
-  object_comes = more (InHead ObjectDue) (InHead (CallersDue Counter)) (object_words Counter)
-      (CallersDue Counter, (Counter, has_counter version, refl, refl), refl) (callers_come Counter)
+  -- the end completes a text whose head says that there are no calls
+  no_call_comes : (kind : Kind) (n : ℕ) → Done (after_head (HeadRead kind (replicate n 0)))
+  no_call_comes kind n =
+      let book : List Page = unanswered_book (replicate n 0) in
+      subst (λ (calls : List Call). Done (InCalls kind book calls)) (sym (no_calls 0 n))
+      (end_comes kind book)
 
   pub completes : (due : BookDue) → CanCome version due → Done due
-  completes (InHead TitleDue) can = more (InHead TitleDue) (InHead ObjectDue)
-      (title_words version (codes "book")) (ObjectDue, (refl, refl), refl) object_comes
-  completes (InHead ObjectDue) can = object_comes
-  completes (InHead (CallersDue kind)) can = callers_come kind
-  completes (InHead (CountsDue kind n)) can = counts_come kind n
-  completes (InHead (HeadRead kind calls)) can = absurd can
+  completes (InHead due) can = head_comes version (codes "book") (λ n. n ≤ most_callers version)
+      (one_caller version) (book_rules version) ended InHead after_head
+      (λ head next words h. (next, h, refl)) (refl, λ kind. refl, λ kind n. refl)
+      (λ kind n few. no_call_comes kind n) due can
   completes (InCalls kind book calls) can = calls_come kind book calls can
   completes (AtEnd kind book) can = record { said = (kind, book); lines = []; right = refl }
 
   -- ---- the names of faults
 
-  entry_named : (operations : Operations) (n : ℕ) (gap : Bool) (call : Call) (words : List (List ℕ))
-      (name : What) → EntryFails version operations n gap call words name → (name ≢ what.Cut)
-      × (name ≢ what.Rest)
-  entry_named operations n gap call words what.Place h = (λ e. absurd cc, λ e. absurd cc)
-  entry_named operations n gap call words what.Op h = (λ e. absurd cc, λ e. absurd cc)
-  entry_named operations n gap call words what.Gap h = (λ e. absurd cc, λ e. absurd cc)
-  entry_named operations n gap call words what.Reply h = (λ e. absurd cc, λ e. absurd cc)
-  entry_named operations n gap call words what.View h = (λ e. absurd cc, λ e. absurd cc)
-  entry_named operations n gap call words _ h = absurd h
-
-  view_named : (fault : BookFault) (name : What) → view_test fault ≡ Some name → (name ≢ what.Cut)
-      × (name ≢ what.Rest)
-  view_named tests.TooManyCalls name h = absurd cc
-  view_named tests.NoSuchCall name h = absurd cc
-  view_named (tests.ViewOutside j) name h = (λ e. absurd (cc (h, e)), λ e. absurd (cc (h, e)))
-  view_named (tests.ViewLacksOwn count) name h = (λ e. absurd (cc (h, e)), λ e. absurd (cc (h, e)))
-  view_named (tests.ViewHasLater count) name h = (λ e. absurd (cc (h, e)), λ e. absurd (cc (h, e)))
-  view_named (tests.ViewsCross call) name h = (λ e. absurd (cc (h, e)), λ e. absurd (cc (h, e)))
-  view_named tests.NoMemory name h = absurd cc
+  pub entry_fault_named : (operations : Operations) (n : ℕ) (gap : Bool) (call : Call)
+      (words : List (List ℕ)) (name : What) → EntryFails version operations n gap call words name
+      → (name ≢ what.Cut) × (name ≢ what.Rest)
+  entry_fault_named operations n gap call words what.Place h = (λ e. absurd cc, λ e. absurd cc)
+  entry_fault_named operations n gap call words what.Op h = (λ e. absurd cc, λ e. absurd cc)
+  entry_fault_named operations n gap call words what.Gap h = (λ e. absurd cc, λ e. absurd cc)
+  entry_fault_named operations n gap call words what.Reply h = (λ e. absurd cc, λ e. absurd cc)
+  entry_fault_named operations n gap call words what.View h = (λ e. absurd cc, λ e. absurd cc)
+  entry_fault_named operations n gap call words _ h = absurd h
 
   pub line_named : (due : BookDue) (words : List (List ℕ)) (name : What)
       → BookFails version due words name → (name ≢ what.Cut) × (name ≢ what.Rest)
-  line_named (InHead TitleDue) words name h = (λ e. absurd (cc (h.0, e)), λ e. absurd (cc (h.0, e)))
-  line_named (InHead ObjectDue) words name h =
-      (λ e. absurd (cc (h.0, e)), λ e. absurd (cc (h.0, e)))
-  line_named (InHead (CallersDue kind)) words name h =
-      (λ e. absurd (cc (h.0, e)), λ e. absurd (cc (h.0, e)))
-  line_named (InHead (CountsDue kind n)) words name h =
-      (λ e. absurd (cc (h.0, e)), λ e. absurd (cc (h.0, e)))
-  line_named (InHead (HeadRead kind calls)) words name h = absurd h
+  line_named (InHead due) words name h = head_named version (codes "book") due words name h
   line_named (InCalls kind book []) words name h =
       (λ e. absurd (cc (h.0, e)), λ e. absurd (cc (h.0, e)))
   line_named (InCalls kind book (call ∷ calls)) words name (inl h) =
-      entry_named (kind_operations version kind) _ _ call words name h
-  line_named (InCalls kind book (call ∷ calls)) words name (inr h) = view_named h.fault name h.test
+      entry_fault_named (kind_operations version kind) _ _ call words name h
+  line_named (InCalls kind book (call ∷ calls)) words name (inr h) =
+      view_fault_named h.fault name h.test
   line_named (AtEnd kind book) words name h = absurd h
 
   line_or_end : (due : BookDue) → CanCome version due → (book_wanted due ≡ ALine)

@@ -10,4 +10,5 @@ pub mod WrittenTexts
 pub mod ReadTexts
 pub mod FaultTexts
 pub mod Leavings
+pub mod HeadLines
 pub mod CallReadings

@@ -1,27 +1,25 @@
 -- The first fault is where bytes stop being the beginning of a script's text.
-use Rattle.std.proofs.Common.{◌≡◌, ◌≢◌, ℕ, zero, suc, ◌+◌, ◌<◌, ◌≤◌, ◌^◌, ◌⊎◌, true, List, [], ◌∷◌, length, replicate, refl, sym, ap, subst, ◌∙◌, arith, inl, inr}
+use Rattle.std.proofs.Common.{◌≡◌, ◌≢◌, ℕ, zero, suc, ◌+◌, ◌<◌, ◌^◌, ◌⊎◌, List, [], ◌∷◌, length, replicate, refl, sym, ap, subst, ◌∙◌, arith, inl, inr}
 use Rattle.std.specs.Prelude.{codes}
 use Rattle.std.specs.List.{AllByRecursion}
 use Rattle.std.proofs.lemmas.Bool.{ltb-true}
-use Rattle.std.proofs.lemmas.List.{length-replicate}
 use Rattle.list_laws.proofs.Elements.{AllByRecursion-append}
 use Rattle.book_base.specs.declared.call.Call.{Call}
 use Rattle.book_base.specs.declared.fault.TextFault.{TextFault}
 use Rattle.book_base.specs.declared.fault.What.{What}
 use Rattle.book_base.specs.declared.fault.What.TheVariants as what
 use Rattle.seq_objects.specs.declared.kind.Kind.{Kind}
-use Rattle.seq_objects.specs.declared.kind.Kind.TheVariants.{Counter}
 use Rattle.text_fields.specs.declared.version.Version.{Version}
-use Rattle.text_fields.specs.declared.version.Version.TheVariants.{First, Second}
-use Rattle.text_fields.specs.Version.{most_callers, most_calls, has_kind, word_limit}
+use Rattle.text_fields.specs.Version.{most_calls, word_limit}
 use Rattle.text_fields.specs.Counts.{AreAtMost}
-use Rattle.text_fields.specs.Head.{TitleDue, ObjectDue, CallersDue, CountsDue, HeadRead, title_words, object_words, callers_words, calls_words}
+use Rattle.text_fields.specs.Head.{TitleDue, ObjectDue, CallersDue, CountsDue, HeadRead}
 use Rattle.text_fields.specs.Faults.{ALine}
 use Rattle.book_text.specs.CallLines.{calls_from, all_calls}
 use Rattle.book_text.specs.Grammar.{end_words}
 use Rattle.book_text.specs.AnyTextBeginnings.{LeavesAt}
-use Rattle.book_text.proofs.CallTexts.{no_calls, no_calls_few}
+use Rattle.book_text.proofs.CallTexts.{no_calls}
 use Rattle.book_text.proofs.Leavings.{Completes, one_more, leaves_texts}
+use Rattle.book_text.proofs.HeadLines.{HeadCanCome, head_named, head_comes}
 use Rattle.book_text.proofs.ReadTexts.{has_zero}
 use Rattle.client_scripts.specs.Plans.{Plan}
 use Rattle.client_scripts.specs.Grammar.{call_words, turns_words}
@@ -35,11 +33,7 @@ use Rattle.client_scripts.proofs.WrittenTexts.{few_callers, few_calls}
 -- the state can be completed to a text: each call that is due has a caller and a number that can be
 -- written
 abbrev CanCome : ScriptDue → Type 0
-CanCome (InHead TitleDue) = Unit {0}
-CanCome (InHead ObjectDue) = Unit {0}
-CanCome (InHead (CallersDue kind)) = Unit {0}
-CanCome (InHead (CountsDue kind n)) = n < 2 ^ 32
-CanCome (InHead (HeadRead kind calls)) = ⊥
+CanCome (InHead due) = HeadCanCome (λ n. n < 2 ^ 32) due
 CanCome (InBody kind begun calls) = AllByRecursion IsNamedCall calls
 CanCome (Turned plan) = Unit {0}
 CanCome (AtEnd plan) = Unit {0}
@@ -111,50 +105,17 @@ module _ (version : Version) where
         refl,
       ) (body_comes kind (with_operation begun 0) calls h.1)
 
-  counts_come : (kind : Kind) (n : ℕ) → Done (InHead (CountsDue kind n))
-  counts_come kind n =
-      let counts : List ℕ = replicate n 0 in
-      let next : ScriptDue = InBody kind (begin counts) (all_calls 0 counts) in
-      more (InHead (CountsDue kind n)) next (calls_words counts) (
-        HeadRead kind counts,
-        (
-          counts,
-          record { count = length-replicate n 0; few = no_calls_few (most_calls version) n },
-          refl,
-          refl,
-        ),
-        refl,
-      )
-      (subst (λ (calls : List Call). Done (InBody kind (begin counts) calls)) (sym (no_calls 0 n))
-      (body_comes kind (begin counts) [] tt))
-
-  one_caller : (v : Version) → 1 ≤ most_callers v
-  one_caller First = omega arith
-  one_caller Second = omega arith
-
-  callers_come : (kind : Kind) → Done (InHead (CallersDue kind))
-  callers_come kind =
-      more (InHead (CallersDue kind)) (InHead (CountsDue kind 1)) (callers_words 1) (
-        CountsDue kind 1,
-        (1, record { some = omega arith; few = one_caller version }, refl, refl),
-        refl,
-      ) (counts_come kind 1)
-
-  has_counter : (v : Version) → has_kind v Counter ≡ true
-  has_counter First = refl
-  has_counter Second = refl
-
-  object_comes : Done (InHead ObjectDue)
-  object_comes = more (InHead ObjectDue) (InHead (CallersDue Counter)) (object_words Counter)
-      (CallersDue Counter, (Counter, has_counter version, refl, refl), refl) (callers_come Counter)
+  -- no turns and the end complete a text whose head says that there are no calls
+  no_call_comes : (kind : Kind) (n : ℕ) → Done (after_head (HeadRead kind (replicate n 0)))
+  no_call_comes kind n =
+      let begun : Begun = begin (replicate n 0) in
+      subst (λ (calls : List Call). Done (InBody kind begun calls)) (sym (no_calls 0 n))
+      (body_comes kind begun [] tt)
 
   completes : (due : ScriptDue) → CanCome due → Done due
-  completes (InHead TitleDue) can = more (InHead TitleDue) (InHead ObjectDue)
-      (title_words version (codes "script")) (ObjectDue, (refl, refl), refl) object_comes
-  completes (InHead ObjectDue) can = object_comes
-  completes (InHead (CallersDue kind)) can = callers_come kind
-  completes (InHead (CountsDue kind n)) can = counts_come kind n
-  completes (InHead (HeadRead kind calls)) can = absurd can
+  completes (InHead due) can = head_comes version (codes "script") (λ n. n < 2 ^ 32) (omega arith)
+      (script_rules version) AtEnd InHead after_head (λ head next words h. (next, h, refl))
+      (refl, λ kind. refl, λ kind n. refl) (λ kind n few. no_call_comes kind n) due can
   completes (InBody kind begun calls) can = body_comes kind begun calls can
   completes (Turned plan) can = end_comes plan
   completes (AtEnd plan) can = record { said = plan; lines = []; right = refl }
@@ -175,14 +136,7 @@ module _ (version : Version) where
 
   line_named : (due : ScriptDue) (words : List (List ℕ)) (name : What)
       → ScriptFails version due words name → (name ≢ what.Cut) × (name ≢ what.Rest)
-  line_named (InHead TitleDue) words name h = (λ e. absurd (cc (h.0, e)), λ e. absurd (cc (h.0, e)))
-  line_named (InHead ObjectDue) words name h =
-      (λ e. absurd (cc (h.0, e)), λ e. absurd (cc (h.0, e)))
-  line_named (InHead (CallersDue kind)) words name h =
-      (λ e. absurd (cc (h.0, e)), λ e. absurd (cc (h.0, e)))
-  line_named (InHead (CountsDue kind n)) words name h =
-      (λ e. absurd (cc (h.0, e)), λ e. absurd (cc (h.0, e)))
-  line_named (InHead (HeadRead kind calls)) words name h = absurd h
+  line_named (InHead due) words name h = head_named version (codes "script") due words name h
   line_named (InBody kind begun []) words name h = tail_named begun words name h
   line_named (InBody kind begun (call ∷ calls)) words name h = call_named kind call words name h
   line_named (Turned plan) words name h = (λ e. absurd (cc (h.0, e)), λ e. absurd (cc (h.0, e)))

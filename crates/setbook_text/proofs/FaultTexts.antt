@@ -1,10 +1,8 @@
 -- The first fault is where bytes stop being the beginning of a set book's text.
-use Rattle.std.proofs.Common.{◌≡◌, ◌≢◌, ℕ, zero, suc, ◌+◌, ◌≤◌, ◌⊎◌, List, [], ◌∷◌, length, replicate, refl, sym, ap, subst, ◌∙◌, arith, inl, inr, Some, None}
+use Rattle.std.proofs.Common.{◌≡◌, ◌≢◌, ℕ, zero, suc, ◌+◌, ◌≤◌, ◌⊎◌, List, [], ◌∷◌, length, replicate, refl, sym, ap, subst, ◌∙◌, arith, inl, inr, None}
 use Rattle.std.specs.List.{AllByRecursion}
 use Rattle.std.proofs.lemmas.List.{length-map, length-replicate}
 use Rattle.book_base.specs.declared.call.Call.{Call}
-use Rattle.book_base.specs.declared.fault.BookFault.{BookFault}
-use Rattle.book_base.specs.declared.fault.BookFault.TheVariants as tests
 use Rattle.book_base.specs.declared.fault.TextFault.{TextFault}
 use Rattle.book_base.specs.declared.fault.What.{What}
 use Rattle.book_base.specs.declared.fault.What.TheVariants as what
@@ -13,9 +11,10 @@ use Rattle.text_fields.specs.declared.version.Version.TheVariants.{Second}
 use Rattle.text_fields.specs.Counts.{AreAtMost}
 use Rattle.text_fields.specs.Head.{callers_words, calls_words}
 use Rattle.text_fields.specs.Faults.{ALine}
-use Rattle.book_text.specs.CallLines.{BookSoFar, with_line, IsNamedCall, IsCallLine, call_words, all_calls, is_gap, EntryFails, view_test}
+use Rattle.book_text.specs.CallLines.{BookSoFar, with_line, IsNamedCall, IsCallLine, call_words, all_calls, is_gap}
 use Rattle.book_text.specs.Grammar.{end_words}
 use Rattle.book_text.specs.AnyTextBeginnings.{LeavesAt}
+use Rattle.book_text.proofs.FaultTexts.{entry_fault_named, view_fault_named}
 use Rattle.book_text.proofs.Leavings.{Completes, one_more, leaves_texts}
 use Rattle.book_text.proofs.ReadTexts.{has_zero}
 use Rattle.setbook_text.specs.JoinWords.{join_operations}
@@ -125,26 +124,9 @@ line_named ObjectDue words name h = (λ e. absurd (cc (h.0, e)), λ e. absurd (c
 line_named CallersDue words name h = (λ e. absurd (cc (h.0, e)), λ e. absurd (cc (h.0, e)))
 line_named (CountsDue n) words name h = (λ e. absurd (cc (h.0, e)), λ e. absurd (cc (h.0, e)))
 line_named (InCalls book []) words name h = (λ e. absurd (cc (h.0, e)), λ e. absurd (cc (h.0, e)))
-line_named (InCalls book (call ∷ calls)) words name (inl h) = entry_named call words name h where
-  entry_named : (call : Call) (words : List (List ℕ)) (name : What)
-      → EntryFails Second join_operations (length book) (is_gap book call) call words name
-      → (name ≢ what.Cut) × (name ≢ what.Rest)
-  entry_named call words what.Place h = (λ e. absurd cc, λ e. absurd cc)
-  entry_named call words what.Op h = (λ e. absurd cc, λ e. absurd cc)
-  entry_named call words what.Gap h = (λ e. absurd cc, λ e. absurd cc)
-  entry_named call words what.Reply h = (λ e. absurd cc, λ e. absurd cc)
-  entry_named call words what.View h = (λ e. absurd cc, λ e. absurd cc)
-  entry_named call words _ h = absurd h
-line_named (InCalls book (call ∷ calls)) words name (inr h) = view_named h.fault name h.test where
-  view_named : (fault : BookFault) (name : What) → view_test fault ≡ Some name → (name ≢ what.Cut)
-      × (name ≢ what.Rest)
-  view_named tests.TooManyCalls name h = absurd cc
-  view_named tests.NoSuchCall name h = absurd cc
-  view_named (tests.ViewOutside j) name h = (λ e. absurd (cc (h, e)), λ e. absurd (cc (h, e)))
-  view_named (tests.ViewLacksOwn count) name h = (λ e. absurd (cc (h, e)), λ e. absurd (cc (h, e)))
-  view_named (tests.ViewHasLater count) name h = (λ e. absurd (cc (h, e)), λ e. absurd (cc (h, e)))
-  view_named (tests.ViewsCross other) name h = (λ e. absurd (cc (h, e)), λ e. absurd (cc (h, e)))
-  view_named tests.NoMemory name h = absurd cc
+line_named (InCalls book (call ∷ calls)) words name (inl h) =
+    entry_fault_named Second join_operations (length book) (is_gap book call) call words name h
+line_named (InCalls book (call ∷ calls)) words name (inr h) = view_fault_named h.fault name h.test
 line_named (AtEnd book) words name h = absurd h
 
 line_or_end : (due : SetBookDue) → CanCome due → (setbook_wanted due ≡ ALine)
