@@ -208,16 +208,20 @@ fn watch_lossy_queue<K: Ledger + Send, L: Ledger + Send, R: Threads>(
     Ok(found)
 }
 
+// The findings of the monitors of callers 1 and 2 of a lossy queue, each of which has a counter of
+// its own for its steps.
+fn findings<R: Threads>(
+    rt: &R,
+    alloc: Global,
+    calls: u64,
+    turns: Turns,
+) -> Result<MonitorFindings, NoMemory> {
+    watch_lossy_queue::<Brand, Brand, R>(rt, alloc, Blank::new(1), Blank::new(1), calls, turns)
+}
+
 #[test]
 fn the_second_monitor_knows_the_witness_of_the_first(rt: HostRuntime) -> Result<(), Fail> {
-    let found = watch_lossy_queue::<Brand, Brand, _>(
-        &rt,
-        rt.alloc(),
-        Blank::new(1),
-        Blank::new(1),
-        5,
-        Turns::CallBetween,
-    )?;
+    let found = findings(&rt, rt.alloc(), 5, Turns::CallBetween)?;
     let witness = Some((4, 0, 0, 4, 4));
     assert_eq!(rt; found.illegal, (Some(true), Some(true)));
     assert_eq!(rt; found.placed, (true, false));
@@ -229,14 +233,7 @@ fn the_second_monitor_knows_the_witness_of_the_first(rt: HostRuntime) -> Result<
 // Caller 0 has no fifth call, so both monitors see its same four calls.
 #[test]
 fn of_two_monitors_in_turn_the_first_is_placed(rt: HostRuntime) -> Result<(), Fail> {
-    let found = watch_lossy_queue::<Brand, Brand, _>(
-        &rt,
-        rt.alloc(),
-        Blank::new(1),
-        Blank::new(1),
-        4,
-        Turns::CallBetween,
-    )?;
+    let found = findings(&rt, rt.alloc(), 4, Turns::CallBetween)?;
     let witness = Some((4, 0, 0, 4, 4));
     assert_eq!(rt; found.illegal, (Some(true), Some(true)));
     assert_eq!(rt; found.placed, (true, false));
@@ -247,14 +244,7 @@ fn of_two_monitors_in_turn_the_first_is_placed(rt: HostRuntime) -> Result<(), Fa
 
 #[test]
 fn one_of_two_monitors_side_by_side_is_placed(rt: HostRuntime) -> Result<(), Fail> {
-    let found = watch_lossy_queue::<Brand, Brand, _>(
-        &rt,
-        rt.alloc(),
-        Blank::new(1),
-        Blank::new(1),
-        4,
-        Turns::Beside,
-    )?;
+    let found = findings(&rt, rt.alloc(), 4, Turns::Beside)?;
     let witness = Some((4, 0, 0, 4, 4));
     assert_eq!(rt; found.illegal, (Some(true), Some(true)));
     assert!(rt; found.placed.0 != found.placed.1);
@@ -266,14 +256,7 @@ fn one_of_two_monitors_side_by_side_is_placed(rt: HostRuntime) -> Result<(), Fai
 // Caller 0's first three calls have a legal order: that the item is lost shows only in the fourth.
 #[test]
 fn legal_rounds_have_no_witness(rt: HostRuntime) -> Result<(), Fail> {
-    let found = watch_lossy_queue::<Brand, Brand, _>(
-        &rt,
-        rt.alloc(),
-        Blank::new(1),
-        Blank::new(1),
-        3,
-        Turns::CallBetween,
-    )?;
+    let found = findings(&rt, rt.alloc(), 3, Turns::CallBetween)?;
     assert_eq!(rt; found.illegal, (Some(false), Some(false)));
     assert_eq!(rt; found.placed, (false, false));
     assert_eq!(rt; found.own, (None, None));

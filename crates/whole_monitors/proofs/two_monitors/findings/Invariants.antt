@@ -1,4 +1,4 @@
-use Rattle.whole_monitors.proofs.two_monitors.one_of_two_monitors_side_by_side_is_placed.Given as goal
+use Rattle.whole_monitors.proofs.two_monitors.findings.Given as goal
 
 abbrev pub ghosts-watch_lossy_queue-K-Ledger : goal.ghosts-watch_lossy_queue-K-Ledger
 ghosts-watch_lossy_queue-K-Ledger g a = record { name = a.first.name; parts = a.first.parts }
