@@ -9,24 +9,23 @@ use Rattle.list_laws.proofs.Places.{get_or-replicate_default}
 use Rattle.book_base.specs.declared.TheConstants.{MAX_CALLERS}
 use Rattle.book_base.specs.declared.call.Call.{Call}
 use Rattle.book_base.specs.declared.call.Record.{Record}
-use Rattle.book_base.specs.declared.fault.BookFault.{BookFault}
-use Rattle.book_base.specs.declared.fault.BookFault.TheVariants as tests
 use Rattle.book_base.specs.declared.fault.TextFault.{TextFault}
 use Rattle.book_base.specs.declared.fault.What.{What}
 use Rattle.book_base.specs.declared.fault.What.TheVariants as what
 use Rattle.book_base.specs.Book.{Page, calls_of, answers_of}
 use Rattle.book_base.specs.Refusal.{MayAnswer}
 use Rattle.seq_objects.specs.declared.kind.Kind.{Kind}
-use Rattle.seq_objects.specs.declared.kind.Kind.TheVariants.{Counter}
 use Rattle.text_fields.specs.declared.TheConstants.{TEXT_CALLERS, TEXT_CALLS}
 use Rattle.text_fields.specs.declared.version.Version.TheVariants.{Second}
 use Rattle.text_fields.specs.Counts.{AreAtMost}
 use Rattle.text_fields.specs.Faults.{ALine}
-use Rattle.text_fields.specs.Head.{TitleDue, ObjectDue, CallersDue, CountsDue, HeadRead, title_words, object_words, callers_words, calls_words}
-use Rattle.book_text.specs.CallLines.{calls_from, all_calls, view_test}
+use Rattle.text_fields.specs.Head.{TitleDue, ObjectDue, CallersDue, CountsDue, HeadRead}
+use Rattle.book_text.specs.CallLines.{calls_from, all_calls}
 use Rattle.book_text.specs.Grammar.{end_words}
 use Rattle.book_text.specs.AnyTextBeginnings.{LeavesAt}
 use Rattle.book_text.proofs.CallTexts.{no_calls, no_calls_few}
+use Rattle.book_text.proofs.FaultTexts.{view_fault_named}
+use Rattle.book_text.proofs.HeadLines.{HeadCanCome, head_named, head_comes}
 use Rattle.book_text.proofs.Leavings.{Completes, one_more, leaves_texts}
 use Rattle.book_text.proofs.WrittenTexts.{numbers_from_places}
 use Rattle.report_lines.specs.declared.line.LineEnd.{LineEnd}
@@ -225,11 +224,7 @@ record IsUnderWay (counts : List ℕ) (told : List Line) (calls : List Call) : T
   due : AreDue counts (length told) calls
 
 abbrev CanCome : ReportDue → Type 0
-CanCome (InHead TitleDue) = Unit {0}
-CanCome (InHead ObjectDue) = Unit {0}
-CanCome (InHead (CallersDue kind)) = Unit {0}
-CanCome (InHead (CountsDue kind n)) = n ≤ TEXT_CALLERS
-CanCome (InHead (HeadRead kind calls)) = ⊥
+CanCome (InHead due) = HeadCanCome (λ n. n ≤ TEXT_CALLERS) due
 CanCome (InLines kind counts told calls) = IsUnderWay counts told calls
 CanCome (AtEnd findings) = Unit {0}
 
@@ -286,8 +281,10 @@ lines_come kind counts told (call ∷ calls) h =
     (lines_come kind counts (told ++ line ∷ []) calls
     (under-way-next kind counts told call calls (line_words kind call line) line says fits h))
 
-counts_come : (kind : Kind) (n : ℕ) → n ≤ TEXT_CALLERS → Done (InHead (CountsDue kind n))
-counts_come kind n few =
+-- the end completes a text whose head says that there are no calls
+no_call_comes : (kind : Kind) (n : ℕ) → n ≤ TEXT_CALLERS
+    → Done (after_head (HeadRead kind (replicate n 0)))
+no_call_comes kind n few =
     let counts : List ℕ = replicate n 0 in
     let size : length counts ≡ n = length-replicate n 0 in
     let begun : IsUnderWay counts [] [] = record {
@@ -296,51 +293,18 @@ counts_come kind n few =
       sound = sound-none counts;
       due = tt;
     } in
-    one_more report_rules AtEnd (InHead (CountsDue kind n))
-    (InLines kind counts [] (all_calls 0 counts)) (calls_words counts) (
-      HeadRead kind counts,
-      (counts, record { count = size; few = no_calls_few TEXT_CALLS n }, refl, refl),
-      refl,
-    )
-    (subst (λ (calls : List Call). Done (InLines kind counts [] calls)) (sym (no_calls 0 n))
-    (lines_come kind counts [] [] begun))
-
-callers_come : (kind : Kind) → Done (InHead (CallersDue kind))
-callers_come kind = one_more report_rules AtEnd (InHead (CallersDue kind))
-    (InHead (CountsDue kind 1)) (callers_words 1)
-    (CountsDue kind 1, (1, record { some = omega arith; few = omega arith }, refl, refl), refl)
-    (counts_come kind 1 (omega arith))
-
-object_comes : Done (InHead ObjectDue)
-object_comes = one_more report_rules AtEnd (InHead ObjectDue) (InHead (CallersDue Counter))
-    (object_words Counter) (CallersDue Counter, (Counter, refl, refl, refl), refl)
-    (callers_come Counter)
+    subst (λ (calls : List Call). Done (InLines kind counts [] calls)) (sym (no_calls 0 n))
+    (lines_come kind counts [] [] begun)
 
 completes : (due : ReportDue) → CanCome due → Done due
-completes (InHead TitleDue) can = one_more report_rules AtEnd (InHead TitleDue) (InHead ObjectDue)
-    (title_words Second (codes "report")) (ObjectDue, (refl, refl), refl) object_comes
-completes (InHead ObjectDue) can = object_comes
-completes (InHead (CallersDue kind)) can = callers_come kind
-completes (InHead (CountsDue kind n)) can = counts_come kind n can
-completes (InHead (HeadRead kind calls)) can = absurd can
+completes (InHead due) can =
+    head_comes Second (codes "report") (λ n. n ≤ TEXT_CALLERS) (omega arith) report_rules
+    AtEnd InHead after_head (λ head next words h. (next, h, refl))
+    (refl, λ kind. refl, λ kind n. refl) no_call_comes due can
 completes (InLines kind counts told calls) can = lines_come kind counts told calls can
 completes (AtEnd findings) can = record { said = findings; lines = []; right = refl }
 
 -- ---- the names of faults
-
-view_named : (fault : BookFault) (name : What) → view_test fault ≡ Some name → (name ≢ what.Cut)
-    × (name ≢ what.Rest)
-view_named tests.TooManyCalls name e = absurd cc
-view_named tests.NoSuchCall name e = absurd cc
-view_named (tests.ViewOutside j) name e = let same : what.ViewOutside ≡ name = cc in
-    (λ f. absurd (cc (same, f)), λ f. absurd (cc (same, f)))
-view_named (tests.ViewLacksOwn count) name e = let same : what.ViewLacksOwn ≡ name = cc in
-    (λ f. absurd (cc (same, f)), λ f. absurd (cc (same, f)))
-view_named (tests.ViewHasLater count) name e = let same : what.ViewHasLater ≡ name = cc in
-    (λ f. absurd (cc (same, f)), λ f. absurd (cc (same, f)))
-view_named (tests.ViewsCross other) name e = let same : what.ViewsCross ≡ name = cc in
-    (λ f. absurd (cc (same, f)), λ f. absurd (cc (same, f)))
-view_named tests.NoMemory name e = absurd cc
 
 call_named : (kind : Kind) (counts : List ℕ) (told : List Line) (call : Call)
     (words : List (List ℕ)) (name : What) → LineFails kind counts told call words name
@@ -352,17 +316,11 @@ call_named kind counts told call words what.View h = (λ e. absurd cc, λ e. abs
 call_named kind counts told call words what.Mark h = (λ e. absurd cc, λ e. absurd cc)
 call_named kind counts told call words what.Seen h = (λ e. absurd cc, λ e. absurd cc)
 call_named kind counts told call words what.Last h = (λ e. absurd cc, λ e. absurd cc)
-call_named kind counts told call words name h = view_named h.2 name h.4
+call_named kind counts told call words name h = view_fault_named h.2 name h.4
 
 line_named : (due : ReportDue) (words : List (List ℕ)) (name : What) → ReportFails due words name
     → (name ≢ what.Cut) × (name ≢ what.Rest)
-line_named (InHead TitleDue) words name h = (λ e. absurd (cc (h.0, e)), λ e. absurd (cc (h.0, e)))
-line_named (InHead ObjectDue) words name h = (λ e. absurd (cc (h.0, e)), λ e. absurd (cc (h.0, e)))
-line_named (InHead (CallersDue kind)) words name h =
-    (λ e. absurd (cc (h.0, e)), λ e. absurd (cc (h.0, e)))
-line_named (InHead (CountsDue kind n)) words name h =
-    (λ e. absurd (cc (h.0, e)), λ e. absurd (cc (h.0, e)))
-line_named (InHead (HeadRead kind calls)) words name h = absurd h
+line_named (InHead due) words name h = head_named Second (codes "report") due words name h
 line_named (InLines kind counts told []) words name h =
     (λ e. absurd (cc (h.0, e)), λ e. absurd (cc (h.0, e)))
 line_named (InLines kind counts told (call ∷ calls)) words name h =
