@@ -16,7 +16,8 @@ IsHeldBySomeView book cut call = (answered : Call) × (r : Record) × Holds cut 
 pub record IsBookAt (book : List Page) (cut : List ℕ) (part : List Page) : Type 0 where
   -- the part has as many callers as the book
   pub callers : length part ≡ length book
-  -- each caller of the part has as many of its first records as the cut counts for it
+  -- each caller of the part has as many of its first records as the cut counts for it, or all where
+  -- it has fewer
   pub records : (i : ℕ)
       → (page_of part i).records ≡ take (slice_index cut i) (page_of book i).records
   -- the part's calls are exactly those that the view of some record within the cut holds
@@ -38,7 +39,8 @@ views_at (count ∷ counts) (page ∷ pages) =
     map (λ r. r.view) (take count page.records) ++ views_at counts pages
 
 -- The page of a caller in the book at a cut: as many of the caller's first records as the cut
--- counts, and its calls up to the last one that some view of a record within the cut holds.
+-- counts, or all where it has fewer, and its calls up to the last one that some view of a record
+-- within the cut holds.
 abbrev pub page_at : List ℕ → List Page → ℕ → Page
 page_at cut book i = record {
   operations = take (greatest_count (views_at cut book) i) (page_of book i).operations;

@@ -9,7 +9,8 @@ use Rattle.book_base.specs.declared.cut.Cut.TheInside.{Inside}
 abbrev pub counts_of : Inside → List ℕ
 counts_of c = take c.n c.at
 
--- A cut lies in its array with its counts first, and zeros after them.
+-- A cut lies in its array of `MAX_CALLERS` numbers with its counts first, at least one, and zeros
+-- after them.
 pub record IsPadded (c : Inside) : Type 0 where
   pub some : 1 ≤ c.n
   pub few : c.n ≤ MAX_CALLERS

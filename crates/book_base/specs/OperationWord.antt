@@ -9,7 +9,7 @@ IsOperationWord op = op < 2 ^ 128
 abbrev pub low_of : ℕ → ℕ
 low_of op = op % 2 ^ 64
 
--- The high word of an operation word: how many times 2^64 it has.
+-- The high word of an operation word: its quotient by 2^64, rounded down.
 abbrev pub high_of : ℕ → ℕ
 high_of op = op / 2 ^ 64
 

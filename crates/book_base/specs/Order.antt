@@ -15,7 +15,8 @@ call_at place = record { caller = place.caller; number = place.number }
 abbrev pub StandsAt : List Place → ℕ → Call → Type 0
 StandsAt order k call = (place : Place) × (slice_get order k ≡ Some place) × (call_at place ≡ call)
 
--- the operation word and the reply of a place
+-- the operation word of a place's call in a book, 0 where the book lacks the call, and the place's
+-- reply
 abbrev pub step_at : List Page → Place → ℕ × ℕ
 step_at book place = (unwrap_or (operation_of book (call_at place)) 0, place.reply)
 

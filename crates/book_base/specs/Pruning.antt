@@ -21,8 +21,8 @@ abbrev pub ViewsAreWithin : List Page → Call → Call → Type 0
 ViewsAreWithin book a b = (r s : Record) → record_of book a ≡ Some r → record_of book b ≡ Some s
     → IsWithin r.view s.view
 
--- A caller's first call outside a cut is answered, and its view is within that of the first call
--- outside the cut of each caller below the number `below`, where this call is answered.
+-- A caller's first call outside a cut is answered, and its view is within the view of each answered
+-- call that is the first one outside the cut of some caller below the number `below`.
 pub record IsLeast (book : List Page) (cut : List ℕ) (below caller : ℕ) : Type 0 where
   pub answered : IsAnswered book (next_call cut caller)
   pub least : (other : ℕ) → other < below

@@ -49,7 +49,7 @@ pub record Known : Type 0 where
   pub call_bounds : List (List CallBound)
   pub ranks : List (ℕ × ℕ)
 
--- the bound of a call that forbids nothing: its predecessor bound holds no call, and its limit is 0
+-- a bound that forbids nothing: its predecessor bound holds no call, and its limit is 0
 abbrev pub no_call_bound : CallBound
 no_call_bound = record { predecessor_bound = replicate MAX_CALLERS 0; limit = 0 }
 
@@ -57,7 +57,7 @@ no_call_bound = record { predecessor_bound = replicate MAX_CALLERS 0; limit = 0 
 abbrev pub call_bounds_of : Known → ℕ → List CallBound
 call_bounds_of known i = slice_index_or known.call_bounds i []
 
--- the bound of a call, which forbids nothing where the call has none
+-- the bound of a call: a bound that forbids nothing, where the rules have none for the call
 abbrev pub call_bound_of : Known → Call → CallBound
 call_bound_of known call =
     slice_index_or (call_bounds_of known call.caller) call.number no_call_bound

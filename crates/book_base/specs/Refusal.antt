@@ -23,12 +23,12 @@ pub record MayAnswer (book : List Page) (i : ℕ) (view : List ℕ) : Type 0 whe
 abbrev pub FailsTest : List Page → ℕ → List ℕ → BookFault → Type 0
 -- the caller has no unanswered call
 FailsTest book i view NoSuchCall = calls_of book i ≤ answers_of book i
--- the view's count for caller j is above the calls of j
+-- the view counts more calls of caller j of the book than j made
 FailsTest book i view (ViewOutside j) = (j < length book) × (calls_of book j < slice_index view j)
--- the view's count for caller i is below the number of the answered call plus 1
+-- `count` is the view's count for caller i, and is below the number of the answered call plus 1
 FailsTest book i view (ViewLacksOwn count) = (count ≡ slice_index view i)
     × (count < answers_of book i + 1)
--- the view's count for caller i is above the number of the answered call plus 1
+-- `count` is the view's count for caller i, and is above the number of the answered call plus 1
 FailsTest book i view (ViewHasLater count) = (count ≡ slice_index view i)
     × (answers_of book i + 1 < count)
 -- the view and the recorded view of the call that the fault names aren't comparable
@@ -38,7 +38,7 @@ FailsTest book i view (ViewsCross call) =
 FailsTest book i view TooManyCalls = ⊥
 FailsTest book i view NoMemory = ⊥
 
--- the turn at which the test that a fault names is tried
+-- the turn at which the test that a fault names is tried: 5, after all tests, where it names none
 abbrev pub turn_of : BookFault → ℕ
 turn_of NoSuchCall = 0
 turn_of (ViewOutside j) = 1
@@ -59,8 +59,9 @@ abbrev pub named_number : BookFault → ℕ
 named_number (ViewsCross call) = call.number
 named_number e = 0
 
--- One test is tried before another: by its turn, then by the caller that it names, then by the
--- number of the call.
+-- The test of one fault is tried before that of another where its turn is less. Of equal turns, the
+-- fault that names a lesser caller comes first, and of one caller, the one that names a lesser
+-- number of a call.
 abbrev pub IsTriedBefore : BookFault → BookFault → Type 0
 IsTriedBefore e f =
     (turn_of e < turn_of f)

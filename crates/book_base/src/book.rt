@@ -97,13 +97,14 @@ impl Book {
         Ok(Book { rows })
     }
 
-    /// The book in which each caller made this many calls, none answered. Each call has the
-    /// operation word 0 until [`Book::set_op`] puts in another, and memory for all answers is taken
-    /// with the calls.
+    /// The book in which each caller made as many calls as `calls` counts for it, none answered.
+    /// Each call has the operation word 0 until [`Book::set_op`] puts in another, and memory for
+    /// all answers is taken with the calls.
     pub fn with_calls(alloc: Global, calls: &Cut) -> Result<Book, NoMemory>
-        // Each caller has at most `MAX_CALLS` calls.
+        // `calls` counts at most `MAX_CALLS` calls of each caller.
         requires { (i : ℕ) → slice_index calls.now i ≤ MAX_CALLS }
-        // Each caller has this many calls, each with the operation word 0, and none is answered.
+        // Each caller has as many calls as `calls` counts for it, each with the operation word 0,
+        // and none is answered.
         ensures { IfOk result (λ book. book ≡ unanswered_book calls.now) }
     {
         let mut rows = Vec::new(alloc);
@@ -117,8 +118,8 @@ impl Book {
     pub fn add_call(&mut self, caller: u32, op: OpWord) -> Result<(), BookFault>
         // The book has a caller with this number.
         requires { caller < length self.old }
-        // After an answer Ok the book has this call as the last of the caller's calls, and is as
-        // before besides.
+        // After an answer Ok the book has a call with the operation word `op` as the last of the
+        // caller's calls, and is as before besides.
         ensures ok { OnOk result (self.new ≡ with_call self.old caller op) }
         // The answer is `TooManyCalls` exactly where the caller has `MAX_CALLS` calls.
         ensures full { IsErrOf result BookFault.TooManyCalls
@@ -157,7 +158,7 @@ impl Book {
         // the book is as before besides.
         ensures ok { OnOk result
             (self.new ≡ with_answer self.old caller (record { reply = reply; view = view })) }
-        // An answer Ok comes only where the answer keeps the book valid.
+        // The result is Ok only where the caller's answer with this view keeps the book valid.
         ensures may { OnOk result (MayAnswer self.old caller view) }
         // The first test that the answer fails is the refusal.
         ensures refused { (fault : BookFault) → IsFirstFault self.old caller view fault
@@ -480,9 +481,9 @@ impl Book {
     /// Whether a call precedes another: it is answered and its view doesn't hold the other, or it
     /// is an earlier call of the same caller (Castañeda and Rodríguez 2023).
     pub fn precedes(&self, a: Call, b: Call) -> bool
-        // Both calls are calls of the book.
+        // The first call is one of the book's.
         requires first { IsCall self.now a }
-        // Both calls are calls of the book.
+        // The second call is one of the book's.
         requires second { IsCall self.now b }
         ensures { IsTrue result ↔ Precedes self.now a b }
     {

@@ -15,7 +15,8 @@ pub struct Record {
     pub view: Cut,
 }
 
-/// A place of a legal order: a call, and the reply that the sequential object gives there.
+/// A place of an order: a call, and the reply that it gets there. In a legal order this is the
+/// reply that the sequential object gives.
 #[derive(Clone, Copy, Debug, PartialEq, Eq)]
 pub struct Place {
     pub caller: u32,

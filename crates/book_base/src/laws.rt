@@ -24,7 +24,7 @@ pub fn answers_are_recorded()
 /// The views of one caller rise from call to call, and the view of an answered call holds none of
 /// its caller's later calls.
 pub fn views_of_a_caller_rise()
-    // The view of a caller's later call contains that of an earlier one, in a valid book.
+    // In a valid book the view of a caller's later answered call contains that of an earlier one.
     ensures rise { ViewsRise }
     // The view of an answered call holds none of its caller's later calls, in a valid book.
     ensures precedes { PrecedesByItsView }
@@ -40,7 +40,8 @@ pub fn operation_words_are_two_words()
     ensures worked { joined 5 3 ≡ 55340232221128654853 }
 {}
 
-/// An order reaches its cut and its list place by place, and reaches at most one of each.
+/// An order reaches a cut and a list place by place. It reaches at most one cut of a given number
+/// of callers, and at most one list.
 pub fn orders_reach_place_by_place()
     // The empty order reaches the cut that holds no call, and the list with which the object
     // begins.

@@ -67,9 +67,10 @@ impl PruningRules {
         }
     }
 
-    /// The pruning rules with a bound that forbids nothing for each call of a book.
+    /// The pruning rules that have for each call of a book a bound that forbids nothing, and no
+    /// ranks.
     pub fn blank(alloc: Global, book: &Book) -> Result<PruningRules, NoMemory>
-        // The answer has a bound that forbids nothing for each call of the book, and no ranks.
+        // The answer has for each call of the book a bound that forbids nothing, and no ranks.
         ensures blank { IfOk result
             (λ known. known ≡ record { call_bounds = blank_call_bounds book.now; ranks = [] }) }
         // The answer has a bound for each call of the book.
@@ -89,7 +90,7 @@ impl PruningRules {
         })
     }
 
-    /// Forbids a call next after each cut that lacks another call.
+    /// Forbids `call` next after each cut that lacks the call `other`.
     pub fn hold_back(&mut self, call: Call, other: Call)
         // There is a bound for the call.
         requires call_bound { HasCallBound self.old call }
@@ -130,8 +131,7 @@ impl PruningRules {
         call_bound.limit = call_bound.limit.max(limit);
     }
 
-    /// Gives a word a rank, instead of the one that it has. After want of memory nothing has
-    /// changed.
+    /// Gives a word a rank, in place of any that it had. After want of memory nothing has changed.
     pub fn set_rank(&mut self, word: u64, rank: u64) -> Result<(), NoMemory>
         // After an answer Ok the word has this rank, and all else is as before.
         ensures ranked { OnOk result (self.new ≡ ranked self.old word rank) }

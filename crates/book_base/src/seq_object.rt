@@ -57,8 +57,8 @@ pub trait SeqObject {
     /// forbid next, after a cut and at a list, is next in no legal order that reaches the cut and
     /// the list. The default forbids nothing.
     fn find_pruning_rules(&self, alloc: Global, book: &Book) -> Result<PruningRules, NoMemory>
-        // Each call that the answered rules forbid next, after a cut and at a list, is infeasible
-        // there.
+        // Each call that the rules in the answer forbid next, after a cut and at a list, is
+        // infeasible there.
         ensures { IfOk result (ArePruningRules (spec self.now) book.now) }
     {
         Ok(PruningRules::none(alloc))
@@ -96,7 +96,7 @@ pub trait SeqObject {
         forced: u32,
         marks: MarkedCallers,
     ) -> MarkedCallers
-        // The sight is one that the object prepared of this book.
+        // The object's `sees` holds of the book and the sight, as of each sight that it prepares.
         requires sight { sees self.now book.now sight.now }
         // Each view of the book holds at most one unanswered call of each caller.
         requires open { HasOneOpen book.now }

@@ -22,8 +22,8 @@ IsTheOnlyOne = (book : List Page) (cut : List ℕ) (part : List Page) → IsVali
 abbrev pub StaysValid : Type 0
 StaysValid = (book : List Page) (cut : List ℕ) → IsValid book → IsValid (book_at cut book)
 
--- The book at a smaller cut of the book at a larger cut is the book at the smaller cut of the whole
--- book.
+-- The book at a smaller cut of the book at a larger cut of a valid book is the book at the smaller
+-- cut of the whole book.
 abbrev pub IsTheBookAtTheSmaller : Type 0
 IsTheBookAtTheSmaller = (book : List Page) (smaller larger : List ℕ) → IsValid book
     → IsWithin smaller larger
@@ -36,7 +36,7 @@ RecordCountsAreTheCut = (book : List Page) (cut : List ℕ) → length cut ≡ l
     → IsWithin cut (answered book)
     → answered (book_at cut book) ≡ cut
 
--- The book at the cut of all records of a book has exactly the records of the book.
+-- The book at the cut of all records of a valid book has exactly the records of the book.
 abbrev pub KeepsEachRecord : Type 0
 KeepsEachRecord = (book : List Page) (call : Call) → IsValid book
     → record_of (book_at (answered book) book) call ≡ record_of book call
@@ -46,20 +46,21 @@ abbrev pub IsHeldByAView : List Page → Call → Type 0
 IsHeldByAView book call = (other : Call) × (r : Record) × (record_of book other ≡ Some r)
     × Holds r.view call
 
--- The book at the cut of all records of a book has exactly those calls of the book that some view
--- holds.
+-- The book at the cut of all records of a valid book has exactly those calls of the book that some
+-- view holds.
 abbrev pub KeepsEachHeldCall : Type 0
 KeepsEachHeldCall = (book : List Page) (call : Call) → IsValid book
     → IsCall (book_at (answered book) book) call ↔ IsCall book call × IsHeldByAView book call
 
--- Each call of the book at the cut of all records of a book has the operation that the book has for
--- it.
+-- Each call of the book at the cut of all records of a valid book has the operation that the book
+-- has for it.
 abbrev pub KeepsEachOperation : Type 0
 KeepsEachOperation = (book : List Page) (call : Call) → IsValid book
     → IsCall (book_at (answered book) book) call
     → operation_of (book_at (answered book) book) call ≡ operation_of book call
 
--- The book at the cut of all records of a book has a legal order exactly where the book has one.
+-- The book at the cut of all records of a valid book has a legal order exactly where the book has
+-- one.
 abbrev pub HasOneWhereTheBookHas : Type 0
 HasOneWhereTheBookHas = (spec : SeqSpec) (book : List Page)
     → IsValid book

@@ -36,8 +36,8 @@ pub fn an_order_ends_early()
     ensures too_short { ¬ IsLegalOrder line_spec overtaken_early (take 1 overtaking) }
 {}
 
-/// A book with a wrong reply has no legal order at the cut of this record alone, and none at the
-/// larger cut of both records.
+/// Of a worked book with one wrong reply, the book at the cut of this record alone has no legal
+/// order, and neither has the book at the larger cut of both records.
 pub fn an_error_stays()
     // The book at the cut of the wrong reply alone has no legal order.
     ensures first { ¬ HasLegalOrder tenfold_spec (book_at (1 ∷ 0 ∷ []) mistaken) }

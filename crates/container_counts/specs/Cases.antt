@@ -23,7 +23,8 @@ bag_shown (suc v) = Some v
 abbrev pub bag : Reading
 bag = record { deed = bag_deed; shown = bag_shown; values = λ list. list }
 
--- a list without its first item, and one more than this item
+-- a list without its first item, and one more than this item; for the empty list, the empty list
+-- and 0
 abbrev pub without_first : List ℕ → List ℕ × ℕ
 without_first [] = ([], 0)
 without_first (v ∷ rest) = (rest, suc v)

@@ -42,10 +42,10 @@ may_take_one test did.FoundNothing = false
 may_take_one test did.OpenTake = true
 may_take_one test did.Other = false
 
--- Whether a call is counted, for a list of values and up to a moment `m`. A put of one of the
--- values, or a take that shows one, is due where the last moment of its span is no later than `m`,
--- and early where the first moment of its span is no later than `m`. An unanswered take is early
--- where the first moment of its span is no later than `m`.
+-- Whether a call is one of those that are counted, for a list of values and up to a moment `m`: a
+-- due or an early put of one of the values, or a due or an early take that shows one. A call is due
+-- where the last moment of its span is no later than `m`, and early where the first moment is.
+-- Unanswered takes are counted among the early takes too.
 abbrev pub is_counted : Counted → List ℕ → ℕ → TimedCall → Bool
 is_counted counted.DuePuts values m t =
     if puts_one (listed values) t.deal then nat_le t.span.last m else false

@@ -33,7 +33,8 @@ pub fn what_is_left_is_found()
         → ¬ HasLegalOrder bag_spec (put_and_taken 0) }
 {}
 
-/// A book with a legal order isn't refuted.
+/// A book of the bag in which the 1 is put in and taken out has a legal order, and isn't refuted by
+/// counts.
 pub fn legal_books_are_not_refuted()
     // The bag is a container.
     ensures bag { IsContainer bag bag_next }

@@ -7,10 +7,11 @@ use queue_pairs::{QueueDeal, Table, TimedCall};
 /// Which calls of a table are counted, for some values and up to a moment.
 #[derive(Clone, Copy)]
 pub enum Counted {
-    /// The puts that have taken effect by the moment: their own view is no later than it.
+    /// The puts of one of the values that have taken effect by the moment: their own view is no
+    /// later than it.
     DuePuts,
-    /// The puts that may have taken effect by the moment: some view that is no later than it holds
-    /// them.
+    /// The puts of one of the values that may have taken effect by the moment: some view that is no
+    /// later than it holds them.
     EarlyPuts,
     /// The takes that show one of the values and have taken effect by the moment: their own view is
     /// no later than it.

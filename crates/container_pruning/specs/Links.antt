@@ -1,4 +1,5 @@
--- Links: what a call of a book says of the puts of other values, whether calls take them or not.
+-- Links: what a call of a book says of the puts of other values, both of values that answered calls
+-- take and of values that none takes.
 use Rattle.std.specs.Prelude.{◌≡◌, ℕ, ◌+◌, ◌⊎◌, ◌==◌, nat_lt, Bool, true, false, List, [], length, map, Option, Some, None, slice_index_or, sum, if◌then◌else◌}
 use Rattle.book_base.specs.declared.call.Call.{Call}
 use Rattle.book_base.specs.declared.call.Record.{Record}
@@ -21,7 +22,7 @@ use Rattle.container_pruning.specs.Uses.{use_of, IsEarly}
 abbrev pub no_link : Link
 no_link = record { before = None; after = None; reach = 0; is_kept = false }
 
--- the link of a call, which says nothing where the call has none
+-- the link of a call: one that says nothing, where the call has none
 abbrev pub link_at : Links → Call → Link
 link_at links call = slice_index_or
     (slice_index_or (map (λ row. row.items) links.rows.items) call.caller []) call.number no_link

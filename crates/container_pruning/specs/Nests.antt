@@ -8,8 +8,8 @@ use Rattle.container_pruning.specs.declared.links.Links.{Links}
 use Rattle.container_pruning.specs.Uses.{IsEarly}
 use Rattle.container_pruning.specs.Links.{link_at}
 
--- The value that a call puts in is taken after a take, or no answered call takes it and the take
--- precedes each unanswered one.
+-- The value that `first` puts in is taken by an answered call that `take` precedes, or no answered
+-- call takes it and `take` precedes each unanswered take.
 abbrev pub Outlasts : List Page → Links → List ℕ → Call → Call → Type 0
 Outlasts book links open_from first take =
     ((later : Call) × ((link_at links later).after ≡ Some first) × Precedes book take later)

@@ -15,7 +15,7 @@ raised_to predecessor_bound (Some first) =
     slice_set predecessor_bound first.caller
     (max (slice_index predecessor_bound first.caller) (first.number + 1))
 
--- the last call of a caller that a cut holds
+-- the last call of a caller that a cut holds, where it holds any of the caller's
 abbrev pub last_held : List ℕ → ℕ → Call
 last_held predecessor_bound i = record { caller = i; number = slice_index predecessor_bound i - 1 }
 

@@ -30,7 +30,8 @@ abbrev pub use_of : List (ℕ × Use) → ℕ → Use
 use_of uses v = unwrap_or (lookup (is_at (nat_cmp v)) uses) no_use
 
 -- The use of a value is right: of the calls read so far, no more put the value in than it counts,
--- exactly as many take it out as it counts, and the put that it names puts the value in.
+-- and exactly as many take it out as it counts. Where it counts any puts, the put that it names
+-- puts the value in.
 pub record IsCounted (deal : Call → Deal) (read : Call → Type 0) (v : ℕ) (used : Use) : Type 0 where
   -- a list of calls, of the length that the use counts, that has all calls read so far that put the
   -- value in
@@ -56,7 +57,8 @@ pub record AreUsesOf (reading : Reading) (book : List Page) (caller number : ℕ
     (uses : Uses) : Type 0 where
   pub each : (v : ℕ)
       → IsCounted (deal_of reading book) (IsReadTo caller number) v (use_of uses.by_value.entries v)
-  -- no value is used more often than calls were read
+  -- each value is put in at most `caller * MAX_CALLS + number` times, and taken out at most as
+  -- often: so many calls at most were read
   pub few : (v : ℕ) → ((use_of uses.by_value.entries v).puts ≤ caller * MAX_CALLS + number)
       × ((use_of uses.by_value.entries v).takes ≤ caller * MAX_CALLS + number)
   -- the unanswered takes of a caller that were read have numbers from the one in `open_from` on

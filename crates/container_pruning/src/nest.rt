@@ -54,9 +54,9 @@ impl Takers {
     }
 }
 
-/// The puts of each caller that precede a take and whose values may outlast it, the last one last,
-/// and how many of the caller's calls were looked at. No clause says which puts they are, since
-/// each use of them is checked.
+/// In `puts`, the numbers of those calls of each caller that precede a take and may be puts whose
+/// values outlast it, the last one last; in `passed`, how many of the caller's calls were looked
+/// at. No clause says which calls they are, since each use of them is checked.
 #[derive(Drop)]
 struct Nests {
     passed: Vec<u64>,
@@ -134,7 +134,8 @@ pub fn nest(
     Ok(())
 }
 
-// Holds back the puts of what a caller takes, after the puts whose values outlast its takes.
+// Holds back the put of each value that a caller takes, after the puts that precede the take and
+// whose values outlast it.
 fn nest_caller(
     alloc: Global,
     book: &Book,
@@ -229,8 +230,8 @@ fn last_outlasting(
     Ok(None)
 }
 
-// Whether a put precedes a take, and its value is taken by a call that the take precedes, or by no
-// answered call.
+// Whether the put `first` precedes the take `take`, and its value is taken by a call that `take`
+// precedes, or by no answered call, where `take` precedes each unanswered take.
 fn outlasts(
     book: &Book,
     links: &Links,

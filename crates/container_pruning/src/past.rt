@@ -17,7 +17,7 @@ pub struct Past {
     pub passed: Cut,
     /// The calls that must come before the put.
     pub predecessor_bound: Cut,
-    /// The greatest reach of a call that was passed, or 0 where none was.
+    /// The greatest reach in the links of the calls that were passed, or 0 where none was.
     pub limit: u64,
 }
 

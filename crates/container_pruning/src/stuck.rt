@@ -11,8 +11,8 @@ ghost use Rattle.container_pruning.specs.Stuck.{IsBlocked};
 use book_base::{Book, Call, Cut, MAX_CALLERS, MAX_CALLS, PruningRules};
 
 /// Whether a book is stuck: adding calls one after another, as predecessor bounds and precedence
-/// allow, doesn't reach all answered calls. Such a book has no legal order. An example is one with
-/// puts each of which must come before the other.
+/// allow, doesn't reach all answered calls. Where the pruning rules are right, such a book has no
+/// legal order. An example is one with two answered puts each of which must come before the other.
 pub fn is_stuck(book: &Book, known: &PruningRules) -> bool
     ensures { (spec : SeqSpec) → ArePruningRules spec book.now known.now → IsTrue result
         → ¬ HasLegalOrder spec book.now }

@@ -46,17 +46,20 @@ abbrev pub times : ℕ → List ℕ → ℕ
 times v [] = 0
 times v (x ∷ xs) = one_if (x == v) + times v xs
 
--- A take gives out one of the values held, or shows that nothing is held.
+-- A take that shows a value gives it out of the values held, and the others stay, in any order. A
+-- take that shows none finds nothing held, and leaves nothing held.
 abbrev pub GivesOne : List ℕ → Option ℕ → List ℕ → Type 0
 GivesOne before None after = (before ≡ []) × (after ≡ [])
 GivesOne before (Some v) after = (w : ℕ) → times w before ≡ times w (v ∷ after)
 
--- A take gives out the first of the values held, or shows that nothing is held.
+-- A take that shows a value gives out the first of the values held, and the others stay in their
+-- order. A take that shows none finds nothing held, and leaves nothing held.
 abbrev pub GivesFirst : List ℕ → Option ℕ → List ℕ → Type 0
 GivesFirst before None after = (before ≡ []) × (after ≡ [])
 GivesFirst before (Some v) after = before ≡ v ∷ after
 
--- A container: a put adds its value, a take gives one out, and nothing else changes what is held.
+-- A container: a put adds its value, a take gives one out or shows that nothing is held, and no
+-- other operation changes what is held.
 pub record IsContainer (reading : Reading) (next : List ℕ → ℕ → List ℕ × ℕ) : Type 0 where
   pub put : (list : List ℕ) (op v : ℕ) → reading.deed op ≡ Puts v → (w : ℕ)
       → times w (reading.values (next list op).0) ≡ times w (v ∷ reading.values list)
@@ -65,8 +68,8 @@ pub record IsContainer (reading : Reading) (next : List ℕ → ℕ → List ℕ
   pub neither : (list : List ℕ) (op : ℕ) → reading.deed op ≡ Neither
       → reading.values (next list op).0 ≡ reading.values list
 
--- A queue: a put adds its value at the end, a take gives out the first value, and nothing else
--- changes what is held.
+-- A queue: a put adds its value at the end, a take gives out the first value or shows that nothing
+-- is held, and no other operation changes what is held.
 pub record IsQueue (reading : Reading) (next : List ℕ → ℕ → List ℕ × ℕ) : Type 0 where
   pub put : (list : List ℕ) (op v : ℕ) → reading.deed op ≡ Puts v
       → reading.values (next list op).0 ≡ reading.values list ++ v ∷ []
@@ -75,8 +78,8 @@ pub record IsQueue (reading : Reading) (next : List ℕ → ℕ → List ℕ × 
   pub neither : (list : List ℕ) (op : ℕ) → reading.deed op ≡ Neither
       → reading.values (next list op).0 ≡ reading.values list
 
--- A stack: a put adds its value at the head of the list, a take gives out the first value, and
--- nothing else changes what is held.
+-- A stack: a put adds its value at the head of the list, a take gives out the first value or shows
+-- that nothing is held, and no other operation changes what is held.
 pub record IsStack (reading : Reading) (next : List ℕ → ℕ → List ℕ × ℕ) : Type 0 where
   pub put : (list : List ℕ) (op v : ℕ) → reading.deed op ≡ Puts v
       → reading.values (next list op).0 ≡ v ∷ reading.values list

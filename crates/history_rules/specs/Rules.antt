@@ -1,5 +1,6 @@
--- The rules of queues, stacks and all containers: what holds in every legal order of a book where
--- the values concerned are put in once.
+-- The rules of queues, stacks and all containers that begin empty: what holds in every legal run,
+-- and in every legal order of a book. A rule that needs a value to be put in by one call alone says
+-- so.
 use Rattle.std.specs.Prelude.{◌≡◌, ◌≢◌, ℕ, ◌+◌, ◌<◌, List, [], ◌++◌, length, Some, slice_get, Contains}
 use Rattle.std.specs.List.{filter_map}
 use Rattle.book_base.specs.declared.call.Call.{Call}
@@ -31,7 +32,8 @@ ContainerGivesWhatWasPut = (reading : Reading) (spec : SeqSpec)
     → times v (filter_map (put_by reading) steps) ≡ times v (filter_map (taken_by reading) steps)
     + times v (reading.values (list_after_run spec.next spec.init steps))
 
--- In any container, a take that found nothing and precedes the take of v comes before the put of v.
+-- In any container that begins empty, a take that found nothing and precedes the take of v comes
+-- before the put of v, where one call alone puts v in.
 abbrev pub EmptyBeforePut : Type 0
 EmptyBeforePut =
     (reading : Reading) (spec : SeqSpec) (book : List Page)
@@ -40,7 +42,8 @@ EmptyBeforePut =
     → TakesOut reading book take_v v → Precedes book empty take_v
     → PutsInAlone reading book put_v v → MustComeFirst spec book empty put_v
 
--- In a queue, where the take of x precedes the take of v, the put of x comes before the put of v.
+-- In a queue that begins empty, where the take of x precedes the take of v, the put of x comes
+-- before the put of v, if one call alone puts x in and one alone puts v in.
 abbrev pub PutsInOrder : Type 0
 PutsInOrder =
     (reading : Reading) (spec : SeqSpec) (book : List Page)
@@ -50,8 +53,8 @@ PutsInOrder =
     → PutsInAlone reading book put_x x → PutsInAlone reading book put_v v
     → MustComeFirst spec book put_x put_v
 
--- In a stack, where the take of x precedes the take of v, the put of v is infeasible at a list that
--- holds x.
+-- In a stack that begins empty, where the take of x precedes the take of v, the put of v is
+-- infeasible at a list that holds x, if one call alone puts x in and one alone puts v in.
 abbrev pub PutIsCovered : Type 0
 PutIsCovered =
     (reading : Reading) (spec : SeqSpec) (book : List Page)
@@ -62,7 +65,8 @@ PutIsCovered =
     → (cut list : List ℕ) → Contains (reading.values list) x
     → IsInfeasible spec book cut list put_v
 
--- In any container, a book where a value is put in once and taken out twice has no legal order.
+-- In any container that begins empty, a book where a value is put in by one call alone and taken
+-- out by two answered calls has no legal order.
 abbrev pub TakenOnce : Type 0
 TakenOnce = (reading : Reading) (spec : SeqSpec) (book : List Page)
     → IsContainer reading spec.next → reading.values spec.init ≡ []
@@ -75,8 +79,8 @@ abbrev pub AreDifferent : List Call → Type 0
 AreDifferent calls = (j k : ℕ) (call : Call) → slice_get calls j ≡ Some call
     → slice_get calls k ≡ Some call → j ≡ k
 
--- In any container, a book where more calls take a value out than put it in has no legal order.
--- Unanswered puts count too.
+-- In any container that begins empty, a book where more answered calls take a value out than calls
+-- put it in has no legal order. Unanswered puts count too.
 abbrev pub TakenNoMoreThanPut : Type 0
 TakenNoMoreThanPut =
     (reading : Reading) (spec : SeqSpec) (book : List Page)

@@ -21,7 +21,8 @@ sample_shown (suc v) = Some v
 abbrev pub sample : Reading
 sample = record { deed = sample_deed; shown = sample_shown; values = λ list. list }
 
--- A queue: a value comes in at the end, and the first one is taken out.
+-- The next list and the reply of a small queue: v + 1 adds v at the end of the list and replies 0,
+-- and 0 takes out the first value x and replies x + 1, or 0 where the list is empty.
 abbrev pub queue_next : List ℕ → ℕ → List ℕ × ℕ
 queue_next [] zero = ([], 0)
 queue_next (x ∷ rest) zero = (rest, suc x)
@@ -31,7 +32,8 @@ queue_next list (suc v) = (list ++ v ∷ [], 0)
 abbrev pub queue_spec : SeqSpec
 queue_spec = record { init = []; next = queue_next }
 
--- A stack: a value comes in at the head of the list, and the first value is taken out.
+-- The next list and the reply of a small stack: v + 1 adds v at the head of the list and replies 0,
+-- and 0 takes out the first value x and replies x + 1, or 0 where the list is empty.
 abbrev pub stack_next : List ℕ → ℕ → List ℕ × ℕ
 stack_next [] zero = ([], 0)
 stack_next (x ∷ rest) zero = (rest, suc x)
@@ -49,8 +51,8 @@ answer reply view = record { reply = reply; view = view }
 abbrev pub call_of : ℕ → ℕ → Call
 call_of i k = record { caller = i; number = k }
 
--- A book of the small queue: at once caller 0 puts in 5 and caller 1 puts in 6; then caller 1 takes
--- 6, and afterwards caller 0 takes 5.
+-- A book of the small queue: concurrently caller 0 puts in 5 and caller 1 puts in 6; then caller 1
+-- takes 6, and afterwards caller 0 takes 5.
 abbrev pub six_first : List Page
 six_first =
     caller_page (6 ∷ 0 ∷ []) (answer 0 (1 ∷ 1 ∷ []) ∷ answer 6 (2 ∷ 2 ∷ []) ∷ [])

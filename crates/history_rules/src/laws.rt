@@ -1,5 +1,5 @@
 //! Rules of histories, each the contract of a function with nothing in it. Each holds for every
-//! object that can be read as the rule asks, where the values concerned are put in once.
+//! object that can be read as the rule asks. The containers, queues and stacks begin empty.
 
 ghost use Rattle.history_rules.specs.Rules.{QueueGivesInOrder, ContainerGivesWhatWasPut, EmptyBeforePut, PutsInOrder, PutIsCovered, TakenOnce, TakenNoMoreThanPut, InfeasibleUntilThen};
 ghost use Rattle.history_rules.specs.Standing.{GoesOnWithIt};
@@ -16,28 +16,30 @@ pub fn what_is_given_out_was_put_in()
 {}
 
 /// In any container a take that found nothing comes before the put of each value whose take it
-/// precedes.
+/// precedes, where one call alone puts the value in.
 pub fn empty_takes_stand_before_puts()
     ensures { EmptyBeforePut }
 {}
 
 /// In a queue, where the take of one value precedes that of another, the put of the first value
-/// comes before the put of the second.
+/// comes before the put of the second, if each of the two is put in by one call alone.
 pub fn puts_stand_in_the_order_of_takes()
     ensures { PutsInOrder }
 {}
 
 /// In a stack, where the take of x precedes the take of v, the put of v is infeasible while the
-/// stack holds x.
+/// stack holds x, if each of x and v is put in by one call alone.
 pub fn puts_cover_nothing_taken_before()
     ensures { PutIsCovered }
 {}
 
-/// A book where a value is taken out more often than it is put in has no legal order.
+/// A container's book where more answered calls take a value out than calls put it in has no legal
+/// order.
 pub fn no_more_is_taken_than_put()
     // A book where a value is put into a container once and taken out twice has no legal order.
     ensures put_once { TakenOnce }
-    // A book where more calls take a value out of a container than put it in has no legal order.
+    // A book where more answered calls take a value out of a container than calls put it in has no
+    // legal order.
     ensures any { TakenNoMoreThanPut }
 {}
 

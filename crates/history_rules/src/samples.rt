@@ -13,8 +13,8 @@ pub fn small_objects_are_read_so()
     ensures stack { IsStack sample stack_next }
 {}
 
-/// Of two values 5 and 6 that are put into a queue at once, 6 is taken first. So in every legal
-/// order 6 is put in first, and the put of 5 is infeasible at the start.
+/// Of two values 5 and 6 that are put into a queue concurrently, 6 is taken first. So in every
+/// legal order 6 is put in first, and the put of 5 is infeasible at the start.
 pub fn six_is_put_first()
     // The put of 6 comes before the put of 5 in each legal order.
     ensures order { MustComeFirst queue_spec six_first (call_of 1 0) (call_of 0 0) }

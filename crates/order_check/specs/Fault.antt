@@ -36,12 +36,12 @@ FailsTest spec book order (Skipped p) = (call : Call) × StandsAt order p call �
 -- the call at place p precedes the call at the earlier place q
 FailsTest spec book order (Late q p) = (a : Call) × (b : Call) × StandsAt order p a
     × StandsAt order q b × (q < p) × Precedes book a b
--- the call at place p is answered with a reply that isn't the one at the place
+-- the call at place p is answered with the reply `wanted`, and the place has another one, `found`
 FailsTest spec book order (Record p wanted found) = (place : Place) × (r : Answer)
     × (slice_get order p ≡ Some place)
     × (record_of book (call_at place) ≡ Some r) × (wanted ≡ r.reply) × (found ≡ place.reply)
     × (wanted ≢ found)
--- the object gives another reply at place p than the place has
+-- the object gives the reply `wanted` at place p, and the place has another one, `found`
 FailsTest spec book order (Run p wanted found) = (place : Place)
     × (slice_get order p ≡ Some place)
     × (wanted ≡ reply_after_places spec book order p place) × (found ≡ place.reply)

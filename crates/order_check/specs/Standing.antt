@@ -19,7 +19,8 @@ pub record IsStanding (book : List Page) (order : List Place) (p : ℕ)
   pub held : (call : Call) → Holds standing call → (j : ℕ) × (j < p) × StandsAt order j call
   pub stands : (j : ℕ) (call : Call) → j < p → StandsAt order j call → Holds standing call
 
--- The call at place p may stand there, after the calls before it.
+-- The call at place p may stand there after the calls before it, by the tests on calls and records.
+-- What the object replies isn't looked at.
 pub record IsInPlace (book : List Page) (order : List Place) (p : ℕ) : Type 0 where
   -- the call at place p is a call of the book
   pub known : (call : Call) → StandsAt order p call → IsCall book call

@@ -15,8 +15,8 @@ pub enum OrderFault {
     /// The previous call of the caller at this place is at no earlier place.
     #[error("the previous call of the caller at place {0} doesn't stand earlier")]
     Skipped(u64),
-    /// The call at the second place precedes the call at the first place, which is the least
-    /// earlier place of this kind.
+    /// `Late(q, p)`: the call at place `p` precedes the call at the earlier place `q`, which is the
+    /// least place of this kind.
     #[error("the call at place {1} precedes that at the earlier place {0}")]
     Late(u64, u64),
     /// A place, the reply word that its call has in the book, and the other one that the place has.

@@ -21,8 +21,9 @@ pub fn call_at(place: Place) -> Call
 /// The first of the tests on calls and records that a place fails, where the places before it pass
 /// theirs.
 ///
-/// The cut `standing` has the calls before the place, and each caller's calls stand in their order.
-/// So this cut decides each test, and earlier places are searched only for one of a late call.
+/// The cut `standing` holds the calls before the place, and each caller's calls stand in their
+/// order. So this cut decides each test, and earlier places are searched only where the place's
+/// call precedes one of theirs, to name the first such place.
 pub fn first_fault_at(book: &Book, order: &[Place], at: usize, standing: &Cut) -> Option<OrderFault>
     requires valid { IsValid book.now }
     requires place { at < length order.now }

@@ -9,7 +9,8 @@ use Rattle.book_base.specs.Next.{next_call, Continues}
 use Rattle.book_base.specs.Pruning.{HasOneOpen, IsForced}
 
 -- An object of keys: each key has its part of a list. An operation on a key sees and changes that
--- key's part alone, and the reply to an operation on no key is always the same.
+-- key's part alone. An operation on no key changes no key's part, and has the same reply at each
+-- list.
 pub record IsKeyed (key : ℕ → Option ℕ) (part : ℕ → List ℕ → List ℕ)
     (next : List ℕ → ℕ → List ℕ × ℕ) : Type 0 where
   pub reply : (one other : List ℕ) (op k : ℕ) → key op ≡ Some k → part k one ≡ part k other
@@ -19,8 +20,9 @@ pub record IsKeyed (key : ℕ → Option ℕ) (part : ℕ → List ℕ → List 
   pub others : (list : List ℕ) (op k : ℕ) → key op ≢ Some k → part k (next list op).0 ≡ part k list
   pub unkeyed : (one other : List ℕ) (op : ℕ) → key op ≡ None → (next one op).1 ≡ (next other op).1
 
--- In a book with one open, where places continue an order, as many places or fewer that begin with
--- a call on the forced call's key continue it too.
+-- For an object of keys and a valid book with one open, at a cut after which the forced call has a
+-- key: where places continue an order, as many places or fewer that begin with a call on this key
+-- continue it too.
 abbrev pub ForcedKeyGoesFirst : Type 0
 ForcedKeyGoesFirst =
     (key : ℕ → Option ℕ) (part : ℕ → List ℕ → List ℕ) (next : List ℕ → ℕ → List ℕ × ℕ)

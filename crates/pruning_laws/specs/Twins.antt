@@ -10,7 +10,7 @@ use Rattle.book_base.specs.Next.{MayComeNext, Continues}
 use Rattle.book_base.specs.Pruning.{HasOneOpen, ViewsAreWithin}
 
 -- An answered call a does what a call b does: b has the same reply and a view that contains a's, or
--- b is unanswered and the object gives a's reply.
+-- b is unanswered and the object gives a's reply to a's operation at the list.
 abbrev pub DoesTheSame : List Page → (List ℕ → ℕ → List ℕ × ℕ) → List ℕ → Call → Record
     → Call → Type 0
 DoesTheSame book next list a r b =
@@ -29,8 +29,8 @@ pub record IsTwin (book : List Page) (next : List ℕ → ℕ → List ℕ × �
   pub serves : ((r : Record) × (record_of book a ≡ Some r) × DoesTheSame book next list a r b)
       ⊎ ((IsAnswered book a → ⊥) × (IsAnswered book b → ⊥))
 
--- In a book with one open, where places continue an order and a twin serves for the first call, as
--- many or fewer places that begin with the twin continue it too.
+-- In a valid book with one open, where places continue an order and a twin serves for the first
+-- call, as many or fewer places that begin with the twin continue it too.
 abbrev pub TwinServes : Type 0
 TwinServes = (book : List Page) (next : List ℕ → ℕ → List ℕ × ℕ) (cut list : List ℕ) (a : Call)
     (place : Place) (rest : List Place)

@@ -1,12 +1,14 @@
-//! Laws of pruning, each the contract of a function with nothing in it. They hold for every object.
+//! Laws of pruning, each the contract of a function with nothing in it. The law of keys holds for
+//! every object of keys, the other laws for every object.
 
 ghost use Rattle.pruning_laws.specs.Twins.{TwinServes};
 ghost use Rattle.pruning_laws.specs.Idle.{IdleMayBeLeftOut};
 ghost use Rattle.pruning_laws.specs.Keys.{ForcedKeyGoesFirst};
 
-/// Of two calls of one operation that may come next, an answered one serves for the other where the
-/// other has the same reply and a view that contains its own, or is unanswered and would get the
-/// same reply at the present list. Of two unanswered ones either serves for the other.
+/// In a valid book with one open, of two callers' calls of one operation that may come next, an
+/// answered one serves for the other where the other has the same reply and a view that contains
+/// its own, or is unanswered and would get the same reply at the present list. Of two unanswered
+/// ones either serves for the other.
 #[tactic(auto, using(crate::proofs::Exchanging::twin_serves))]
 pub fn twins_serve_for_one_another()
     ensures { TwinServes }
@@ -19,8 +21,8 @@ pub fn idle_calls_may_be_left_out()
     ensures { IdleMayBeLeftOut }
 {}
 
-/// In a book with one open of an object of keys, only calls with the forced call's key need be
-/// tried.
+/// In a valid book with one open of an object of keys, only calls with the forced call's key need
+/// be tried, where the forced call has a key.
 pub fn the_forced_key_goes_first()
     ensures { ForcedKeyGoesFirst }
 {}

@@ -39,15 +39,15 @@ abbrev pub AreHeld : List Page → List Call → Type 0
 AreHeld book calls = (k : ℕ) (call : Call) → slice_get calls k ≡ Some call → (m : ℕ)
     × IsHeldBy book call m
 
--- An answered call precedes exactly those calls that no view holds up to the moment of its own
--- view.
+-- In a valid book, an answered call precedes exactly those calls that no view holds up to the
+-- moment of its own view.
 abbrev pub PrecedesByMoments : Type 0
 PrecedesByMoments = (book : List Page) (a b : Call) (r : Record) → IsValid book
     → record_of book a ≡ Some r
     → Precedes book a b ↔ (IsHeldBy book b (moment_of r) → ⊥)
 
--- In a book with one open, calls that views hold keep precedence exactly where they may take effect
--- one after another.
+-- In a valid book with one open, calls that views hold keep precedence exactly where they may take
+-- effect one after another.
 abbrev pub MomentsKeepPrecedence : Type 0
 MomentsKeepPrecedence = (book : List Page) (calls : List Call) → IsValid book → HasOneOpen book
     → AreHeld book calls

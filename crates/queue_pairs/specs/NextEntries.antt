@@ -73,8 +73,8 @@ pub record AreNextEntries (table : Table) (s : PairState)
   pub find_limit : IsLeastOf (λ k. last_after s.found (slice_get table.finds.items k))
       (length table.finds.items) next_entries.find_limit
 
--- An entry is the first one of some caller from the caller's number on, among the entries that a
--- function finds.
+-- An entry is some caller's next one: the first that the function `at` finds for the caller from
+-- the caller's number in `numbers` on.
 abbrev pub IsNextEntry : (ℕ → ℕ → Option TimedCall) → List ℕ → TimedCall → Type 0
 IsNextEntry at numbers t = (i : ℕ) × (i < MAX_CALLERS)
     × IsFirstFrom (λ n. at i n) (slice_index numbers i) (Some t)
@@ -89,8 +89,8 @@ pub record IsNextPair (table : Table) (s : PairState) (pair : TimedPair) : Type 
   pub put_moment : pair.put_moment ≡ max s.put_moment pair.put.span.first
   pub take_moment : pair.take_moment ≡ max (max s.take_moment pair.put_moment) pair.take.span.first
 
--- A pair serves for another one: its calls did the same, it has no later moments, and its calls are
--- due no later.
+-- The pair `other` can replace `pair`: its put and its take did the same as those of `pair`, their
+-- moments are no later, and the latest moments at which they may take effect are no later.
 pub record CanReplace (other pair : TimedPair) : Type 0 where
   pub put : other.put.deal ≡ pair.put.deal
   pub take : other.take.deal ≡ pair.take.deal
@@ -99,8 +99,8 @@ pub record CanReplace (other pair : TimedPair) : Type 0 where
   pub put_due : other.put.span.last ≤ pair.put.span.last
   pub take_due : other.take.span.last ≤ pair.take.span.last
 
--- some remaining put is due before the first of two moments, or some remaining take, of a value or
--- of nothing, before the second
+-- the latest moment of some remaining put is before `put_moment`, or that of some remaining take,
+-- of a value or of nothing, is before `take_moment`
 abbrev pub IsPast : NextEntries → ℕ → ℕ → Type 0
 IsPast next_entries put_moment take_moment = (next_entries.put_limit < put_moment)
     ⊎ (next_entries.take_limit < take_moment) ⊎ (next_entries.find_limit < take_moment)

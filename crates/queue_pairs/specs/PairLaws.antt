@@ -7,7 +7,7 @@ use Rattle.book_base.specs.Pruning.{HasOneOpen}
 use Rattle.history_rules.specs.Container.{Reading, IsQueue}
 use Rattle.queue_pairs.specs.Pairs.{HasPairs}
 
--- A queue's book with one open that has a legal order has pairs.
+-- A valid book with one open of a queue that begins empty has pairs where it has a legal order.
 abbrev pub LegalOrdersHavePairs : Type 0
 LegalOrdersHavePairs =
     (reading : Reading) (spec : SeqSpec) (book : List Page)

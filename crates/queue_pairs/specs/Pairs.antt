@@ -49,8 +49,9 @@ MayTakeOut reading book v call = (deal_of reading book call ≡ deals.Took v)
 abbrev pub IsTake : Reading → List Page → Call → Type 0
 IsTake reading book call = (v : ℕ) × MayTakeOut reading book v call
 
--- A call is its caller's next one of a kind: its number isn't below the one that `numbers` has for
--- the caller, and no call of the caller from that number on and before this call is of the kind.
+-- A call of a kind is its caller's next one where its number isn't below the one that `numbers` has
+-- for the caller, and no call of the caller from that number on and before this call is of the
+-- kind. That the call itself is of the kind isn't said here.
 pub record IsNext (kind : Call → Type 0) (numbers : List ℕ) (call : Call) : Type 0 where
   pub outside : slice_index numbers call.caller ≤ call.number
   pub first : (n : ℕ) → slice_index numbers call.caller ≤ n → n < call.number

@@ -1,6 +1,5 @@
 -- Choices that needn't be tried: of two puts of one value, and of two takes of one deal, one serves
 -- for the other.
--- other.
 use Rattle.std.specs.Prelude.{◌≡◌, ◌≢◌, ℕ, ◌≤◌, List, ◌∷◌, length, Some}
 use Rattle.book_base.specs.declared.call.Call.{Call}
 use Rattle.book_base.specs.declared.call.Record.{Record}
@@ -23,9 +22,9 @@ abbrev pub GoesOnWith : Reading → List Page → Paired → Pair → List PairS
 GoesOnWith reading book s pair steps = (other : List PairStep)
     × AreSteps reading book s (Pairs pair ∷ other) × (length other ≡ length steps)
 
--- Where steps that lead from a standing to a whole one begin with a pair, as many steps lead to a
--- whole one that begin with another caller's next put of the same value in the place of the pair's
--- put, if that other put may take effect no later and is due no later.
+-- Steps that begin with a pair lead from a standing to a whole one. Another caller's next put of
+-- the same value may take effect no later than the pair's put and is due no later. Then as many
+-- steps lead to a whole standing that begin with the pair with that other put in place of its own.
 abbrev pub EarlierPutServes : Type 0
 EarlierPutServes = (reading : Reading) (book : List Page) (s : Paired) (pair : Pair) (p : Call)
     (m : ℕ) (steps : List PairStep) → IsValid book → HasOneOpen book
@@ -35,9 +34,9 @@ EarlierPutServes = (reading : Reading) (book : List Page) (s : Paired) (pair : P
     → MayTakeEffect book p m → m ≤ pair.put_moment → IsDueNoLater book p pair.put
     → GoesOnWith reading book s (record pair { put = p; put_moment = m }) steps
 
--- Where steps that lead from a standing to a whole one begin with a pair, as many steps lead to a
--- whole one that begin with another caller's next take of the same deal in the place of the pair's
--- take, if that other take may take effect no later and is due no later.
+-- Steps that begin with a pair lead from a standing to a whole one. Another caller's next take of
+-- the same deal may take effect no later than the pair's take and is due no later. Then as many
+-- steps lead to a whole standing that begin with the pair with that other take in place of its own.
 abbrev pub EarlierTakeServes : Type 0
 EarlierTakeServes = (reading : Reading) (book : List Page) (s : Paired) (pair : Pair) (p : Call)
     (m : ℕ) (steps : List PairStep) → IsValid book → HasOneOpen book

@@ -9,7 +9,8 @@ use Rattle.queue_pairs.specs.declared.TheConstants.{NEVER}
 use Rattle.queue_pairs.specs.Moments.{moment_of, IsHeldBy}
 
 -- A span says when a call may take effect: from the moment of the first view that holds it up to
--- that of its own view. Where there is no such view, the moment is later than all others.
+-- that of its own view. Where no view holds the call, the first moment is `NEVER` or later, and
+-- where the call is unanswered, the last is `NEVER`.
 pub record IsSpanOf (book : List Page) (call : Call) (span : Span) : Type 0 where
   pub held : span.first < NEVER → IsHeldBy book call span.first
   pub least : (m : ℕ) → IsHeldBy book call m → (span.first ≤ m) × (span.first < NEVER)
@@ -18,7 +19,8 @@ pub record IsSpanOf (book : List Page) (call : Call) (span : Span) : Type 0 wher
   pub unanswered : answers_of book call.caller ≤ call.number → span.last ≡ NEVER
 
 -- Of a caller's records, those with a number below `low` have views that don't hold a call, and
--- those with a number from `high` on have views that hold it.
+-- those with a number from `high` on have views that hold it. `low` is at most `high`, and `high`
+-- is at most the number of the caller's records.
 pub record AreHolding (book : List Page) (caller : ℕ) (call : Call) (low high : ℕ) : Type 0 where
   pub ordered : low ≤ high
   pub few : high ≤ answers_of book caller
@@ -27,8 +29,8 @@ pub record AreHolding (book : List Page) (caller : ℕ) (call : Call) (low high 
   pub above : (k : ℕ) (r : Record) → high ≤ k
       → record_of book (record { caller = caller; number = k }) ≡ Some r → Holds r.view call
 
--- Of the views of the callers below a number that hold a call, a moment is that of the first one,
--- or later than all others where none of these views holds the call.
+-- The moment `first` is no later than that of any view that holds a call and is of a caller below
+-- the number `below`. It is `NEVER`, or some view of the book with no later moment holds the call.
 pub record IsFirstBelow (book : List Page) (call : Call) (below first : ℕ) : Type 0 where
   pub few : first ≤ NEVER
   pub held : first < NEVER → IsHeldBy book call first

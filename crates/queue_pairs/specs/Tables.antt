@@ -12,7 +12,7 @@ use Rattle.queue_pairs.specs.declared.table.TimedCall.{TimedCall}
 use Rattle.queue_pairs.specs.declared.table.Table.{Table}
 use Rattle.queue_pairs.specs.Spans.{IsSpanOf}
 
--- a deal of a table, as the rules of containers have it
+-- the deal of `container_pruning` that a deal of a queue's table stands for
 abbrev pub known_deal : QueueDeal → KnownDeal
 known_deal (did.Put v) = deals.Put v
 known_deal (did.Took v) = deals.Took v
@@ -28,7 +28,8 @@ pub record IsTimed (reading : Reading) (book : List Page) (one : Call) (timed : 
   pub deal : known_deal timed.deal ≡ deal_of reading book one
   pub span : IsSpanOf book one timed.span
 
--- A row has an entry for each of the first calls of a caller, in order.
+-- A row has an entry for each call of a caller with a number below `below`, in order, and no
+-- others.
 pub record IsRowTo (reading : Reading) (book : List Page) (caller below : ℕ)
     (row : List TimedCall) : Type 0 where
   pub size : length row ≡ below
@@ -42,8 +43,8 @@ pub record AreRowsTo (reading : Reading) (book : List Page) (below : ℕ)
   pub rows : (i : ℕ) (row : List TimedCall) → slice_get all i ≡ Some row
       → IsRowTo reading book i (calls_of book i) row
 
--- A list has the entries of takes that find nothing, and no others: of all those of the callers
--- below `caller`, and of those of `caller` with a number below `below`.
+-- Each entry of a list is that of a take that finds nothing, and the list has an entry for each
+-- such take of the callers below `caller`, and of `caller` with a number below `below`.
 pub record AreFindsTo (reading : Reading) (book : List Page) (caller below : ℕ)
     (finds : List TimedCall) : Type 0 where
   pub right : (k : ℕ) (t : TimedCall) → slice_get finds k ≡ Some t
@@ -56,7 +57,7 @@ pub record AreFindsTo (reading : Reading) (book : List Page) (caller below : ℕ
 abbrev pub rows_of : Table → List (List TimedCall)
 rows_of table = map (λ row. row.items) table.rows.items
 
--- The table is that of a book, which is valid and small.
+-- The table is that of a book, which is valid and within the limits that `IsSmall` sets.
 pub record IsTable (reading : Reading) (book : List Page) (table : Table) : Type 0 where
   pub valid : IsValid book
   pub small : IsSmall book

@@ -54,8 +54,9 @@ impl TimedPair {
         }
     }
 
-    /// Whether a pair serves for another one: its calls did the same, it has no later moments, and
-    /// its calls are due no later, so that it may be tried instead of the other.
+    /// Whether a pair serves for another one, so that it may be tried instead of the other: its
+    /// calls did the same, its moments are no later, and the latest moments at which its calls may
+    /// take effect are no later.
     pub fn serves(&self, other: &TimedPair) -> bool
         ensures { IsTrue result → CanReplace self.now other.now }
     {
@@ -123,8 +124,8 @@ impl NextEntries {
             && standing.put_moment <= self.put_limit
     }
 
-    /// Whether some remaining call is due before one of these moments, a put before the first or a
-    /// take before the second, so that nothing may come next at them.
+    /// Whether the latest moment of some remaining put is before `put_moment`, or that of some
+    /// remaining take is before `take_moment`, so that no step may come next at these moments.
     pub fn is_past(&self, put_moment: u64, take_moment: u64) -> bool
         ensures { IsTrue result ↔ IsPast self.now put_moment take_moment }
     {

@@ -29,7 +29,7 @@ pub struct PairSearch<'a> {
     /// Whether unanswered takes take only what answered ones leave. Otherwise they may take any
     /// value, so that more is tried.
     pub by_surplus: bool,
-    /// How many steps the search has.
+    /// How many steps the search may make before it answers `Unsaid`.
     pub steps: u64,
 }
 
@@ -91,7 +91,9 @@ impl PairSearch<'_> {
         Ok(next_entries.is_whole(&choice.to))
     }
 
-    // What may be tried at a standing, with the best choice last: the one whose take is due first.
+    // What is to be tried at a standing. The choice whose takes have the earliest last moment
+    // stands last, and is tried first. Of the callers' next takes that are unanswered, only the one
+    // with the earliest first moment is tried.
     fn choices(
         &self,
         walk: &PairWalk,

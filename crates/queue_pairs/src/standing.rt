@@ -74,8 +74,9 @@ impl PairState {
     }
 }
 
-// Raises the number of a call's caller so that it covers the call, and all earlier calls of the
-// caller. Nothing changes where the call's caller or number is above the limits of a book.
+// Sets the number of a call's caller to the call's number plus 1, so that it covers the call and
+// all earlier calls of the caller. Nothing changes where the call's caller isn't below
+// `MAX_CALLERS`, or its number isn't below `MAX_CALLS`.
 fn raise(numbers: &mut [u16; MAX_CALLERS], call: Call)
     ensures { call.caller < MAX_CALLERS → call.number < MAX_CALLS
         → numbers.new ≡ slice_set numbers.old call.caller (call.number + 1) }

@@ -3,8 +3,8 @@ use book_base::NoMemory;
 use std::alloc::Global;
 use std::collections::BTreeMap;
 
-/// How many more puts that some view holds than answered takes there are of each value, which is
-/// how many unanswered takes may take it.
+/// For each value, by how many the puts of it that some view holds outnumber its answered takes, or
+/// 0 where they don't. So many unanswered takes may take the value out.
 #[derive(Drop)]
 pub struct Surplus {
     by_value: BTreeMap<u64, usize>,
@@ -37,8 +37,8 @@ impl Surplus {
         Ok(surplus)
     }
 
-    /// How many more puts that some view holds than answered takes of a value there are, or 0 where
-    /// there are no more.
+    /// By how many the puts of a value that some view holds outnumber its answered takes, or 0
+    /// where they don't.
     pub fn of_value(&self, value: u64) -> usize {
         match self.by_value.get(&value) {
             Some(more) => *more,

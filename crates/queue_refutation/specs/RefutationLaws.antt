@@ -15,8 +15,8 @@ ClosedStandingsAreDead = (reading : Reading) (book : List Page) (standings : Lis
     (s : Paired) (steps : List PairStep) → IsValid book → HasOneOpen book
     → AreClosed reading book standings → IsOnePaired standings s → AreSteps reading book s steps → ⊥
 
--- A queue's valid book with one open has no legal order where a closed list of standings has the
--- one that covers no call.
+-- A valid book with one open has no legal order for a queue that begins empty, where a closed list
+-- of standings has the one that covers no call.
 abbrev pub ClosedStartsHaveNoOrder : Type 0
 ClosedStartsHaveNoOrder = (reading : Reading) (spec : SeqSpec)
     (book : List Page) (callers : ℕ) (standings : List Paired)
@@ -24,8 +24,8 @@ ClosedStartsHaveNoOrder = (reading : Reading) (spec : SeqSpec)
     → AreClosed reading book standings → IsOnePaired standings (none_paired callers)
     → HasLegalOrder spec book → ⊥
 
--- Where steps lead to a whole standing and begin with a pair of which neither call is answered, the
--- steps after this pair lead to a whole standing without it too.
+-- In a book with one open, where steps lead to a whole standing and begin with a pair of which
+-- neither call is answered, the steps after this pair lead to a whole standing without it too.
 abbrev pub UnansweredPairsAreIdle : Type 0
 UnansweredPairsAreIdle = (reading : Reading) (book : List Page) (s : Paired) (pair : Pair)
     (steps : List PairStep) → HasOneOpen book → length book ≤ length s.puts
@@ -37,8 +37,9 @@ abbrev pub PairsServeForThemselves : Type 0
 PairsServeForThemselves = (reading : Reading) (book : List Page) (s : Paired) (pair : Pair)
     → MayPair reading book s pair → PairServesFor reading book s pair pair
 
--- A list of standings is closed where none of them is whole, in each the last put has no later
--- moment than the last take, and the list has the standing after each step that may come next.
+-- A list of standings is closed where each of them has counts for all callers of the book and isn't
+-- whole, in each the last put has no later moment than the last take, and the list has the standing
+-- after each step that may come next.
 abbrev pub SuccessorsSuffice : Type 0
 SuccessorsSuffice = (reading : Reading) (book : List Page) (standings : List Paired)
     → ((s : Paired) → IsOnePaired standings s → HasSuccessors reading book standings s)

@@ -71,8 +71,9 @@ fn takes_refute(table: &Table, moments: &[ValueMoments], ahead: &ValueMoments) -
     false
 }
 
-// Whether takes of one value are ahead of its puts, while the takes' moment is no later than the
-// puts' or puts of another value are ahead of its takes at these moments.
+// Whether takes of the value `ahead` by `take_moment` are ahead of its puts by `put_moment`, and
+// besides `take_moment` is no later than `put_moment`, or puts of the value `other` by `put_moment`
+// are ahead of its takes by `take_moment`.
 fn refutes(table: &Table, ahead: u64, other: u64, put_moment: u64, take_moment: u64) -> bool
     ensures { IsTrue result → HasNoPairs table.now }
 {

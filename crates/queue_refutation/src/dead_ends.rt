@@ -218,8 +218,8 @@ impl DeadEnds<'_> {
     }
 
     // Whether the pair of a put and a take leads to one of the standings, or needn't be tried. It
-    // needn't where no view holds one of its calls, where the take may not take the put's value, or
-    // where neither call is answered.
+    // needn't be tried where one of its calls is held by no view, where the take may not take the
+    // put's value, or where neither call is answered.
     fn calls_lead(
         &self,
         standing: &PairState,

@@ -38,8 +38,8 @@ abbrev pub FollowsOn : Drawn → Event → Type 0
 FollowsOn drawn (Invoke call) = IsNextOf drawn.invoked call
 FollowsOn drawn (Return call) = IsNextOf drawn.returned call
 
--- An event comes next: it is an event of the book that isn't drawn, and it comes before each other
--- event of the book that isn't drawn.
+-- An event comes next: it is an event of the book, its call is the next one of its caller to be
+-- invoked or to return, and it comes before each other event of the book that isn't drawn.
 pub record IsNext (book : List Page) (drawn : Drawn) (event : Event) : Type 0 where
   pub is_event : IsEventOf book event
   pub follows : FollowsOn drawn event

@@ -18,13 +18,14 @@ abbrev pub ValidBooksHaveASketch : Type 0
 ValidBooksHaveASketch = (book : List Page) → IsValid book → (events : List Event)
     × IsSketch book events
 
--- An event stands in a sketch once.
+-- An event stands in a sketch at most once.
 abbrev pub EventsStandOnce : Type 0
 EventsStandOnce = (book : List Page) (events : List Event) → IsSketch book events
     → (j k : ℕ) (event : Event)
     → slice_get events j ≡ Some event → slice_get events k ≡ Some event → j ≡ k
 
--- Each call of the book is invoked, and each answered call returns after its invocation.
+-- In the sketch of a valid book each call of the book is invoked, and each answered call returns
+-- after its invocation.
 abbrev pub CallsReturnAfterTheyAreInvoked : Type 0
 CallsReturnAfterTheyAreInvoked = (book : List Page) (events : List Event) → IsValid book
     → IsSketch book events → (call : Call)

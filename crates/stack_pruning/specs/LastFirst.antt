@@ -94,8 +94,9 @@ pub record PutsKept (reading : Reading) (book : List Page) (cut list : List ℕ)
   pub below : AllByRecursion (IsKept reading book cut) list
   pub never_empty : IsNeverEmpty reading book cut
 
--- The next call of a caller puts in a value other than `shown`, what some take shows, or one that
--- is the last item of the list already.
+-- The next call of a caller puts in a value that isn't the one that some take shows, or one that is
+-- the last item of the list already. What the take shows is `shown`: a value, or `None` where it
+-- finds nothing.
 abbrev pub PutsNeedless : Reading → List Page → List ℕ → List ℕ → Option ℕ → ℕ → Type 0
 PutsNeedless reading book cut list shown caller = (value : ℕ)
     × PutsIn reading book (next_call cut caller) value

@@ -9,8 +9,8 @@ use book_base::{Book, Call, Cut, MarkedCallers};
 use container_pruning::Reader;
 use value_pruning::value_put;
 
-/// Whether each call outside the cut that puts in a value is a marked caller's next call, or is
-/// preceded by the next call of the caller `taker`, which is answered.
+/// Whether each call outside the cut that puts in the value `value` is a marked caller's next call,
+/// or is preceded by the next call of the caller `taker`, which is answered.
 pub fn puts_are_next_or_later<R: Reader>(
     reader: &R,
     book: &Book,
@@ -39,8 +39,8 @@ pub fn puts_are_next_or_later<R: Reader>(
     true
 }
 
-// Whether some call of a caller, outside the cut and with a number below `below`, puts in a value,
-// and isn't a marked caller's next call.
+// Whether some call of a caller, outside the cut and with a number below `below`, puts in the value
+// `value`, and isn't a marked caller's next call.
 fn puts_below<R: Reader>(
     reader: &R,
     book: &Book,
@@ -65,7 +65,7 @@ fn puts_below<R: Reader>(
     false
 }
 
-// Whether a call puts in a value, and isn't a marked caller's next call.
+// Whether a call puts in the value `value`, and isn't a marked caller's next call.
 fn puts_past<R: Reader>(
     reader: &R,
     book: &Book,

@@ -36,8 +36,9 @@ pub fn forced_take<R: Reader>(
     }
 }
 
-/// The marks without those on callers whose next calls put in a value other than `shown`, what the
-/// forced take shows, or one that is the last of `words` already.
+/// The marks without those on callers whose next calls put in a value that the forced take doesn't
+/// show, or one that is the last of `words` already. What this take shows is `shown`: a value, or
+/// `None` where it finds nothing.
 pub fn without_needless<R: Reader>(
     reader: &R,
     book: &Book,
@@ -61,8 +62,8 @@ pub fn without_needless<R: Reader>(
     left
 }
 
-// Whether a caller's next call puts in a value other than `shown`, what the forced take shows, or
-// one that is the last of `words` already.
+// Whether a caller's next call puts in a value other than that of `shown`, which is what the forced
+// take shows, or one that is the last of `words` already.
 fn puts_needless<R: Reader>(
     reader: &R,
     book: &Book,

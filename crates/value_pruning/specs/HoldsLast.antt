@@ -19,21 +19,21 @@ pub record HoldsLast (reading : Reading) (held : List ℕ → ℕ)
   pub alike : (one other : List ℕ) (op : ℕ) → (reading.deed op ≡ Takes → held one ≡ held other)
       → (next one op).1 ≡ (next other op).1
 
--- a call outside a cut is answered and reads a value
+-- a call outside a cut is answered and reads the value `v`
 abbrev pub ReadsOutside : Reading → List Page → List ℕ → ℕ → Call → Type 0
 ReadsOutside reading book cut v call = TakesOut reading book call v
     × (slice_index cut call.caller ≤ call.number)
 
--- a call outside a cut writes a value
+-- a call outside a cut writes the value `v`
 abbrev pub WritesOutside : Reading → List Page → List ℕ → ℕ → Call → Type 0
 WritesOutside reading book cut v call = PutsIn reading book call v
     × (slice_index cut call.caller ≤ call.number)
 
--- some answered call outside a cut reads a value
+-- some answered call outside a cut reads the value `v`
 abbrev pub IsRead : Reading → List Page → List ℕ → ℕ → Type 0
 IsRead reading book cut v = (call : Call) × ReadsOutside reading book cut v call
 
--- some call outside a cut writes a value
+-- some call outside a cut writes the value `v`
 abbrev pub IsWritten : Reading → List Page → List ℕ → ℕ → Type 0
 IsWritten reading book cut v = (call : Call) × WritesOutside reading book cut v call
 

@@ -20,9 +20,10 @@ abbrev pub IsRising : ℕ → List ℕ → Type 0
 IsRising bound [] = Unit {0}
 IsRising bound (x ∷ rest) = (x < bound) × AllByRecursion (λ y. x ≤ y) rest × IsRising bound rest
 
--- An object that gives its least value first: a put places its value, below a bound, and a take
--- gives out the first item. An operation that is no take has the same reply at each list, all takes
--- are one operation, and a value is shown by one reply.
+-- An object that gives its least value first: a put places its value, which is below a bound, and a
+-- take gives out the first item, or finds nothing in the empty list. Other operations keep the
+-- list. An operation that is no take has the same reply at each list, all takes are one operation,
+-- and a value is shown by one reply.
 pub record GivesLeastFirst (reading : Reading) (next : List ℕ → ℕ → List ℕ × ℕ)
     (bound : ℕ) : Type 0 where
   pub small : (op v : ℕ) → reading.deed op ≡ Puts v → v < bound
@@ -84,14 +85,14 @@ abbrev pub IsTakenByNone : Reading → List Page → List ℕ → ℕ → Type 0
 IsTakenByNone reading book cut v = (i : ℕ) → MayComeNext book cut (next_call cut i)
     → CouldTake reading book (next_call cut i) v → ⊥
 
--- A value that is put in next, after a cut and at a list, isn't taken by the take that follows: it
--- isn't less than all items, or no call that may come next may take it out.
+-- A value needn't be put in next, after a cut and at a list: it isn't less than all items of the
+-- list, or no call that may come next may take it out.
 abbrev pub IsNeverFirst : Reading → List Page → List ℕ → List ℕ → ℕ → Type 0
 IsNeverFirst reading book cut list v = (IsBelowFirst v list → ⊥)
     ⊎ IsTakenByNone reading book cut v
 
--- The next call of a caller isn't the forced one, and puts in a value that the take which follows
--- doesn't take.
+-- The next call of a caller isn't the forced one, and puts in a value that isn't less than all
+-- items of the list, or that no call that may come next may take out.
 pub record IsUnwanted (reading : Reading) (book : List Page) (cut list : List ℕ) (forced : ℕ)
     (caller : ℕ) : Type 0 where
   pub apart : caller ≢ forced

@@ -14,8 +14,9 @@ use container_pruning::Reader;
 /// some of the marked callers, and these marks suffice. No clause says which.
 ///
 /// - Where no answered call outside the cut reads the value held, and a marked caller's next call
-///   is an answered write of a value that none of them reads either, it is that caller alone.
-/// - Otherwise it is all marked callers but some whose next calls are writes. Left out are
+///   is an answered write of a value that no answered call outside the cut reads either, the answer
+///   is one such caller alone.
+/// - Otherwise the answer is all marked callers but some whose next calls are writes. Left out are
 ///   unanswered writes of a value that no answered call outside the cut reads. Where an answered
 ///   call outside the cut reads the value held, and no call outside it writes that value, all
 ///   writes of other values are left out too.

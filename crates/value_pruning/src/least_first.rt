@@ -234,7 +234,7 @@ fn is_wanted<R: Reader>(
     may_be_taken(reader, book, cut, marks, value)
 }
 
-// Whether a marked caller's next call may take out a value.
+// Whether some marked caller's next call may take out the value `value`.
 fn may_be_taken<R: Reader>(
     reader: &R,
     book: &Book,

@@ -8,7 +8,7 @@ use crate::values::{value_put, value_taken};
 use book_base::{Book, Call, Cut, Sight};
 use container_pruning::Reader;
 
-/// Whether an answered call outside a cut reads a value.
+/// Whether some answered call outside a cut reads the value `value`.
 pub fn is_read<R: Reader>(reader: &R, sight: &Sight, book: &Book, cut: &Cut, value: u64) -> bool
     // The sight lists each call of the book that puts in a value, and each answered one that takes
     // it out.
@@ -23,7 +23,7 @@ pub fn is_read<R: Reader>(reader: &R, sight: &Sight, book: &Book, cut: &Cut, val
     }
 }
 
-/// Whether a call outside a cut writes a value.
+/// Whether some call outside a cut writes the value `value`.
 pub fn is_written<R: Reader>(reader: &R, sight: &Sight, book: &Book, cut: &Cut, value: u64) -> bool
     // The sight lists each call of the book that puts in a value, and each answered one that takes
     // it out.
@@ -38,7 +38,7 @@ pub fn is_written<R: Reader>(reader: &R, sight: &Sight, book: &Book, cut: &Cut, 
     }
 }
 
-// Whether one of `calls` is answered, is outside a cut and reads a value.
+// Whether one of `calls` is answered, is outside a cut and reads the value `value`.
 fn some_reads<R: Reader>(reader: &R, book: &Book, cut: &Cut, calls: &[Call], value: u64) -> bool
     requires wide { length cut.now ≡ length book.now }
     ensures found { IsTrue result → IsRead (R.reading reader.now) book.now cut.now value }
@@ -53,7 +53,7 @@ fn some_reads<R: Reader>(reader: &R, book: &Book, cut: &Cut, calls: &[Call], val
     false
 }
 
-// Whether one of `calls` is outside a cut and writes a value.
+// Whether one of `calls` is outside a cut and writes the value `value`.
 fn some_writes<R: Reader>(reader: &R, book: &Book, cut: &Cut, calls: &[Call], value: u64) -> bool
     requires wide { length cut.now ≡ length book.now }
     ensures found { IsTrue result → IsWritten (R.reading reader.now) book.now cut.now value }
@@ -68,7 +68,7 @@ fn some_writes<R: Reader>(reader: &R, book: &Book, cut: &Cut, calls: &[Call], va
     false
 }
 
-/// Whether a call is answered, outside a cut, and reads a value.
+/// Whether a call is answered, is outside a cut, and reads the value `value`.
 pub fn reads_outside<R: Reader>(reader: &R, book: &Book, cut: &Cut, call: Call, value: u64) -> bool
     // The cut has a count for each caller of the book.
     requires wide { length cut.now ≡ length book.now }
@@ -83,7 +83,7 @@ pub fn reads_outside<R: Reader>(reader: &R, book: &Book, cut: &Cut, call: Call, 
     }
 }
 
-// Whether a call is outside a cut and writes a value.
+// Whether a call is outside a cut and writes the value `value`.
 fn writes_outside<R: Reader>(reader: &R, book: &Book, cut: &Cut, call: Call, value: u64) -> bool
     requires wide { length cut.now ≡ length book.now }
     ensures { IsTrue result ↔ WritesOutside (R.reading reader.now) book.now cut.now value call }

@@ -12,10 +12,10 @@ use crate::values::value_taken;
 use book_base::{Book, Call, Cut, MarkedCallers};
 use container_pruning::Reader;
 
-/// A marked caller whose next call takes out a value, with the least view of all answered calls
-/// outside the cut that take it out. A call that the take's view doesn't hold has no lesser view,
-/// so that few calls are looked at. No clause says that such a caller is found: where none is, only
-/// time is lost.
+/// A marked caller whose next call takes out the value `value`, with the least view of all answered
+/// calls outside the cut that take it out. A call that the take's view doesn't hold has no lesser
+/// view, so that few calls are looked at. No clause says that such a caller is found: where none
+/// is, only time is lost.
 pub fn next_least_take<R: Reader>(
     reader: &R,
     book: &Book,
@@ -42,8 +42,8 @@ pub fn next_least_take<R: Reader>(
     None
 }
 
-// Whether a caller's next call takes out a value, with the least view of all answered calls outside
-// the cut that take it out.
+// Whether a caller's next call takes out the value `value`, with the least view of all answered
+// calls outside the cut that take it out.
 fn takes_least<R: Reader>(reader: &R, book: &Book, cut: &Cut, caller: u32, value: u64) -> bool
     requires wide { length cut.now ≡ length book.now }
     requires caller { caller < length book.now }
@@ -63,8 +63,8 @@ fn takes_least<R: Reader>(reader: &R, book: &Book, cut: &Cut, caller: u32, value
     }
 }
 
-// Whether the view of an answered call is within those of all calls outside the cut that take out a
-// value.
+// Whether the view of the answered call `take` is within those of all answered calls outside the
+// cut that take out the value `value`.
 fn has_least_view<R: Reader>(reader: &R, book: &Book, cut: &Cut, take: Call, value: u64) -> bool
     requires wide { length cut.now ≡ length book.now }
     requires take { IsAnswered book.now take }
@@ -80,8 +80,8 @@ fn has_least_view<R: Reader>(reader: &R, book: &Book, cut: &Cut, take: Call, val
     true
 }
 
-// Whether a caller has a call that takes out a value, that `view` holds, whose number is `from` or
-// greater, and whose own view doesn't contain `view`.
+// Whether a caller has an answered call that takes out the value `value`, is held by `view`, has
+// the number `from` or a greater one, and has an own view that doesn't contain `view`.
 fn takes_sooner<R: Reader>(
     reader: &R,
     book: &Book,
@@ -106,7 +106,8 @@ fn takes_sooner<R: Reader>(
     false
 }
 
-// Whether a call takes out a value, and its own view doesn't contain `view`.
+// Whether a call is answered and takes out the value `value`, and its own view doesn't contain
+// `view`.
 fn is_sooner<R: Reader>(reader: &R, book: &Book, view: &Cut, call: Call, value: u64) -> bool
     requires wide { length view.now ≡ length book.now }
     requires caller { call.caller < length book.now }
