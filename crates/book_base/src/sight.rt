@@ -21,8 +21,8 @@ pub struct Span {
 }
 
 /// What an object prepares of a book before a search, for [`SeqObject::narrow`] to look at: in
-/// `labelled` the calls of each label, in `places` the place of each label there, and in `spans`
-/// the spans of calls, by caller and number. An object may leave each of these empty.
+/// `labelled` the calls of each label, and in `places` the place of each label there. An object may
+/// leave both empty.
 ///
 /// A sight is plain data. What its labels mean, and whether it has all calls of each label, is said
 /// by the object that prepares it.
@@ -32,5 +32,4 @@ pub struct Span {
 pub struct Sight {
     pub labelled: Vec<Labelled>,
     pub places: BTreeMap<u128, u64>,
-    pub spans: Vec<Vec<Span>>,
 }

@@ -25,7 +25,6 @@ pub fn empty_sight(alloc: Global) -> Sight {
     Sight {
         labelled: Vec::new(alloc),
         places: BTreeMap::new(alloc),
-        spans: Vec::new(alloc),
     }
 }
 

@@ -19,7 +19,6 @@ pub fn sight_of_values<R: Reader>(alloc: Global, reader: &R, book: &Book) -> Res
     let mut sight = Sight {
         labelled: Vec::new(alloc),
         places: BTreeMap::new(alloc),
-        spans: Vec::new(alloc),
     };
     for caller in 0..book.callers() {
         list_caller(alloc, reader, book, &mut sight, caller)?;
