@@ -39,7 +39,7 @@ pub struct CaseOutcome {
 }
 
 impl CaseOutcome {
-    // The outcome of a trial all of whose attempts passed.
+    // The outcome of a trial whose attempts have all passed.
     fn good(alloc: Global) -> Result<CaseOutcome> {
         Ok(CaseOutcome {
             passed: true,
@@ -89,9 +89,9 @@ impl Case {
         })
     }
 
-    /// Runs the case. Where it passes and expects a verdict of `verify`, its book is judged in two
-    /// further ways: by sets of one call each, which have to give the same verdict, and, where the
-    /// book is to be legal, at its smaller cuts.
+    /// Runs the case. Where it is one that is tried once as it is, passes, and expects a verdict of
+    /// `verify`, its book is judged in two further ways: by sets of one call each, which have to
+    /// give the same verdict, and, where the book is to be legal, at its smaller cuts.
     pub fn run_with_cuts<R: AllocGlobal + Threads + Sync>(&self, rt: &R) -> Result<CaseOutcome> {
         let outcome = self.run(rt)?;
         if !outcome.passed || self.trial != Trial::Once {
@@ -174,8 +174,8 @@ impl Case {
         self.run_on(rt, &attempt)
     }
 
-    // Runs a case with each prefix of the input, but not the whole input, which has to be refused
-    // as a text that is cut.
+    // Runs a case with each prefix of the input, but not with the whole input. Each prefix has to
+    // be refused as a text that is cut.
     fn run_prefixes<R: AllocGlobal + Threads + Sync>(&self, rt: &R) -> Result<CaseOutcome> {
         for count in 0..self.input.len() {
             let prefix = &self.input[..count];

@@ -16,7 +16,8 @@ use std::alloc::Global;
 const MOST: u64 = 20_000;
 
 /// Tries the cuts within the record counts of the book with this text, at most the first `MOST` of
-/// them, and returns how many were tried. It fails at a cut at which the book has no legal order.
+/// them, and returns how many were tried. It fails at a cut at which the book has no legal order,
+/// or where the check of orders doesn't accept the order that the search finds.
 pub fn try_cuts(alloc: Global, text: &[u8]) -> Result<u64> {
     let (kind, book) = read_book(alloc, text).map_err(|_| anyhow!("the book can't be read"))?;
     let mut cut = Cut::zero(book.callers());

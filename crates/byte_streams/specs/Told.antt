@@ -9,7 +9,7 @@ abbrev pub read_of : List ℕ → List ℕ
 read_of held = take (INPUT_LIMIT + 1) held
 
 -- A source was read to its end, or until one byte more than the limit was read: `bytes` were read,
--- and `left` are the bytes left.
+-- and `left` are the bytes left. Nothing is said of a source that doesn't tell its bytes.
 abbrev pub HasRead : Option (List ℕ) → Option (List ℕ) → List ℕ → Type 0
 HasRead None left bytes = ⊤
 HasRead (Some held) left bytes = (bytes ≡ read_of held)

@@ -10,7 +10,8 @@ pub trait Sink {
     /// The bytes that the sink has taken, where it tells them.
     ghost taken: { Self → Option (List ℕ) };
 
-    /// How often the sink has failed. The count never falls, and rises at a refusal alone.
+    /// How many writes failed, or took nothing of a piece that isn't empty. The count never falls,
+    /// and rises at such writes alone.
     ghost faults: { Self → ℕ };
 
     /// Takes the first bytes of the piece, and answers how many bytes it took.

@@ -40,8 +40,8 @@ fn read_more<S: Source>(
 
 /// Reads a source to its end, or until one byte more than [`INPUT_LIMIT`] was read.
 pub fn read_all<S: Source>(alloc: Global, source: &mut S) -> Result<Vec<u8>, ReadAllError>
-    // The answer is all bytes that the source had, or the first `INPUT_LIMIT` + 1 of them where it
-    // had more. The source has the other bytes left.
+    // Where the source tells its bytes, the answer is all bytes that it had, or the first
+    // `INPUT_LIMIT` + 1 of them where it had more, and the source has the other bytes left.
     ensures read { IfOk result
         (λ bytes. HasRead (S.left source.old) (S.left source.new) bytes.items) }
     // At most `INPUT_LIMIT` + 1 bytes are answered.

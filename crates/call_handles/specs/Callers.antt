@@ -71,7 +71,7 @@ abbrev pub KeepsStanding : KeptByHandle → Type 0
 KeepsStanding kept =
     OrderStandsIn (kind_spec kept.kind) kept.gathered kept.standing
 
--- A caller's handle is sound: its caller is as its stage says, with the kept book, and its kept
+-- A caller's handle is sound: its caller, its stage and its kept book fit one another, and its kept
 -- order stands in that book.
 abbrev pub IsSoundCaller : CallerHandle → Type 0
 IsSoundCaller h = IsSoundAt (rows_of h) h.kept.kind h.kept.gathered h.stage × KeepsStanding h.kept
@@ -85,7 +85,7 @@ abbrev pub MayAnnounce : CallerHandle → Type 0
 MayAnnounce h = (c : Caller Outside) × (h.stage ≡ Idle c)
     × ((local_with c).announced < (rows_of h).cap)
 
--- The caller has announced a call.
+-- The caller has announced a call whose reply isn't handed in yet.
 abbrev pub HasAnnounced : CallerHandle → Type 0
 HasAnnounced h = (call : announced.Announced Outside) × (h.stage ≡ Announced call)
 
@@ -122,8 +122,8 @@ AnswersFor r kind call reply stage answer.Unjudged =
     × IsPublishedBy every_reply r call reply c told seen
     × (stance_of c ≡ record ready { live = false })
 
--- The call that was announced at the handle h has this reply and this answer, and its caller is
--- then as the handle k says.
+-- The call that is announced at the handle h has ended with this reply and this answer, which is
+-- right, and its caller is in the stage of the handle k.
 abbrev pub HasEnded : ℕ → CallerHandle → CallAnswer → CallerHandle → Type 0
 HasEnded reply h found k =
     (call : announced.Announced Outside) × (h.stage ≡ Announced call)

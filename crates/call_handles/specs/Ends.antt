@@ -23,8 +23,8 @@ abbrev pub record_seen : {P : Type 0} → Seen P → Record
 record_seen s = record { reply = reply_seen s; view = view_seen s }
 
 module _ {P : Type 0} (meaning : P → ℕ → ℕ → Meaning) (r : Rows P) where
-  -- The call is one that this caller announced with this operation: the caller made one scan of N
-  -- and then announced the row of the operation, with no other event between.
+  -- The call is one that this caller announced with this operation: the caller made one scan of N,
+  -- then staged and announced the row of the operation, and made no other event.
   pub record IsAnnouncedBy (c : Caller P) (op : ℕ) (call : Announced P) : Type 0 where
     pub still : IsStill meaning r c (caller_announced call)
     pub operation : op_announced call ≡ op

@@ -1,4 +1,4 @@
--- What a program in another language holds.
+-- The handles that a program in another language holds, and when they are sound.
 use Rattle.call_handles.specs.declared.handle.Handle.{Handle}
 use Rattle.call_handles.specs.declared.handle.Handle.TheVariants.{Spare, Table, Caller, Monitor}
 use Rattle.call_handles.specs.Callers.{IsSoundCaller}

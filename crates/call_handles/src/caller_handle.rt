@@ -43,7 +43,7 @@ impl CallerHandle {
     /// The handle of a caller of the table `rows`, which is between two calls. Its calls are judged
     /// by `kind`.
     pub fn new(rows: Arc<Rows, Global>, kind: Kind, caller: Caller) -> CallerHandle
-        // The caller is one of `rows`.
+        // The caller belongs to `rows`.
         requires caller { IsCallerOf every_reply (arc_value rows) caller }
         // The caller is between two calls.
         requires free { IsFree caller }
@@ -70,15 +70,15 @@ impl CallerHandle {
     pub fn into_caller(self) -> Caller
         // The handle is sound: its caller, stage and kept book fit one another.
         requires sound { IsSoundCaller self }
-        // The caller is one of the table's rows.
+        // The caller belongs to the table's rows.
         ensures caller { IsCallerOf every_reply (rows_of self) result }
         // The caller has the number of the handle's caller.
         ensures who { who_of result ≡ who_of (caller_in (stage_of self)) }
         // The caller has the local of the handle's caller.
         ensures local { local_with result ≡ local_with (caller_in (stage_of self)) }
-        // A caller that has announced a call is halted.
+        // Where an announced call waits for its reply, the caller is halted.
         ensures halted { HasAnnounced self → (stance_of result).live ≡ false }
-        // A caller that has announced no call keeps its stance.
+        // Where no announced call waits for its reply, the caller keeps its stance.
         ensures stance { ¬ HasAnnounced self
             → stance_of result ≡ stance_of (caller_in (stage_of self)) }
     {
@@ -138,7 +138,8 @@ impl CallerHandle {
         ensures sound { IsSoundCaller result.0 }
         // The handle that comes back is of this handle's table and kind.
         ensures same { IsOfSameTable self result.0 }
-        // There is an answer exactly where the caller has announced a call.
+        // There is an answer exactly where the caller has announced a call whose reply isn't handed
+        // in yet.
         ensures when { IsSome result.1 ↔ HasAnnounced self }
         // With an answer the call has this reply, and the answer is right: delivered where the book
         // at the cut that its caller has seen has a legal order, illegal where that book has none,
@@ -167,7 +168,8 @@ impl CallerHandle {
         ensures sound { IsSoundCaller result.0 }
         // The handle that comes back is of this handle's table and kind.
         ensures same { IsOfSameTable self result.0 }
-        // The answer is true exactly where the caller has announced a call.
+        // The answer is true exactly where the caller has announced a call whose reply isn't handed
+        // in yet.
         ensures when { IsTrue result.1 ↔ HasAnnounced self }
         // With true the call is published with this reply, nothing is judged, and the caller is
         // between two calls.

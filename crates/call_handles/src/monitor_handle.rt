@@ -45,7 +45,7 @@ impl MonitorHandle {
     /// The handle of a caller of the table `rows`, which is between two calls, as a monitor. The
     /// monitor judges by `kind`, and has made no round. It takes no memory.
     pub fn new(alloc: Global, rows: Arc<Rows, Global>, kind: Kind, caller: Caller) -> MonitorHandle
-        // The caller is one of `rows`.
+        // The caller belongs to `rows`.
         requires caller { IsCallerOf every_reply (arc_value rows) caller }
         // The caller is between two calls.
         requires free { IsFree caller }
@@ -91,7 +91,9 @@ impl MonitorHandle {
         ensures same { IsOfSameWatch self result.0 }
         // There is an answer exactly where the monitor has made no illegal round.
         ensures when { IsSome result.1 ↔ MayJudge self }
-        // With an answer the monitor has made a round with this judgement, which is right.
+        // With an answer the monitor has made a round. The book at the round's cut has a legal
+        // order where the answer is `Legal`, and none where it is `Illegal`. Where the answer is
+        // `Unjudged`, the monitor has scanned M, and has no witness.
         ensures judged { IfSome result.1 (λ found. HasJudged self found result.0) }
         // Without an answer the handle is as it was.
         ensures unchanged { IfNone result.1 (result.0 ≡ self) }

@@ -48,7 +48,7 @@ impl TableHandle {
         requires few_calls { calls ≤ MAX_CALLS }
         // The handle is sound: its parts fit one another.
         ensures sound { IfOk result IsSoundTable }
-        // The table has `callers` callers, with `calls` calls each.
+        // The table has `callers` callers, with at most `calls` calls each.
         ensures sized { IfOk result (λ t.
             ((rows_in t).callers ≡ callers) × ((rows_in t).cap ≡ calls)) }
         // The table judges by this kind.

@@ -1,5 +1,5 @@
--- How clients ask their object: whom a pass fits, and what it counts of its calls, where it counts
--- them.
+-- How clients ask their object: which caller a pass fits, and how a pass counts and tells its
+-- calls, where it does so.
 use Rattle.std.specs.Prelude.{◌≡◌, ℕ, ◌+◌, ◌<◌, List, Option, Some, IfSome, option_map}
 use Rattle.world_core.specs.Local.{Local, Object_step}
 use Rattle.world_core.specs.CallSteps.{all_steps_of}

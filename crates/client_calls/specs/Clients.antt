@@ -1,4 +1,5 @@
--- Clients before, in and after their work.
+-- Clients at work: how many phases a client has made, whether its pass and its capacity suit its
+-- operations, and what stays as it works.
 use Rattle.std.specs.Prelude.{◌≡◌, ℕ, ◌+◌, ◌*◌, ◌≤◌, List, Option, length, vec_capacity}
 use Rattle.book_base.specs.declared.call.Record.{Record}
 use Rattle.world_core.specs.Shape.{Meaning}
@@ -28,15 +29,15 @@ module _ {P T E : Type 0} where
   abbrev pub HasSpent : ℕ → Client P T E → Type 0
   HasSpent allotment c = Spent allotment (length c.sheet.lines.items) c.stand
 
-  -- A client's caller is one of these rows, and its lines and its local are exactly those of the
+  -- A client's caller belongs to these rows, and its lines and its local are exactly those of the
   -- phases that it has made with its operations.
   abbrev pub IsUnderWay : (P → ℕ → ℕ → Meaning) → Rows P
       → (ℕ → Local → Record → List ℕ → LineEnd → Type 0) → Client P T E → Type 0
   IsUnderWay meaning r says c =
       HasCome meaning r says c.sheet.who c.sheet.operations.now c.stand c.sheet.lines.items
 
-  -- A client's pass fits its caller. Where it counts calls, it has counted those of the client's
-  -- state and lines, and may make one for each operation.
+  -- A client's pass fits its caller. A pass that counts calls has counted the client's calls for
+  -- which the object was asked, and allows one call for each operation of the client.
   pub record HasPass (fits : Fits T) (count : T → Option PassCount)
       (c : Client P T E) : Type 0 where
     pub fits_caller : FitsCaller fits c.pass (caller_at c.stand)

@@ -34,7 +34,7 @@ module _ {P : Type 0} where
   ErrorsFit _ own = any_error own ≡ false
 
   -- A client with these operations has come to this state and these lines. Its caller has the
-  -- number `who`, is one of these rows, has made exactly the phases up to this state, and can make
+  -- number `who`, belongs to these rows, has made exactly the phases up to this state, and can make
   -- its next phase, unless it is halted. The lines are those of all its calls but the one under
   -- way.
   pub record HasCome (meaning : P → ℕ → ℕ → Meaning) (r : Rows P)
@@ -63,22 +63,23 @@ module _ {P : Type 0} where
     pub told : IsTold (phases_at (length own) s) (calls_in (local_at_stand s)) pairs
     pub last : EndsAnswered s pairs
 
-  -- With a pass that counts `made` calls and tells `told` the object was asked exactly for the
-  -- calls of this state and these lines whose second phase was made. Where it tells pairs, they are
-  -- what was asked and answered.
+  -- A pass that counts `made` calls has counted exactly the calls of this state and these lines for
+  -- which the object was asked. Where it tells pairs (`told`), they are the operations and the
+  -- replies of these calls.
   pub record HasAskedFor (made : ℕ) (told : Option (List (ℕ × ℕ))) (s : CallerState P)
       (own : List Line) : Type 0 where
     pub made_is : made ≡ asked (phases_at (length own) s)
     pub told_is : IfSome told (HasTold s own)
 
-  -- A pass with this count has counted the calls of this state and these lines, and may make one
-  -- for each of these operations.
+  -- A pass with this count has counted the calls of this state and these lines for which the object
+  -- was asked, and allows one call for each of these operations.
   pub record HasCounted (operations : List ℕ) (s : CallerState P) (own : List Line)
       (count : PassCount) : Type 0 where
     pub asked : HasAskedFor count.made count.told s own
     pub has_capacity : length operations ≤ count.room
 
-  -- A pass that counts calls has counted those of this state and these lines, and may make one for
-  -- each of these operations. Nothing is said of a pass that counts none.
+  -- A pass that counts calls has counted the calls of this state and these lines for which the
+  -- object was asked, and allows one call for each of these operations. Nothing is said of a pass
+  -- that counts none.
   abbrev pub Counts : Option PassCount → List ℕ → CallerState P → List Line → Type 0
   Counts count operations s own = IfSome count (HasCounted operations s own)

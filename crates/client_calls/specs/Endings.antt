@@ -53,7 +53,8 @@ module _ {P : Type 0} where
   StandsAfter (WantsMemory u) = (stance_of u.caller).live ≡ false
 
   -- The end of a call's line is an error where the call halts its caller, and is no error where the
-  -- caller is free for its next call.
+  -- caller is free for its next call. Nothing is said of a call that was left unjudged: it has no
+  -- line.
   abbrev pub FitsError : Ended P → Type 0
   FitsError (GoesOn c end) = (op : ℕ) → is_error (record { op = op; end = end }) ≡ false
   FitsError (Halts c end) = (op : ℕ) → is_error (record { op = op; end = end }) ≡ true
@@ -84,8 +85,9 @@ module _ {P : Type 0} where
       × (own' ≡ own ++ record { op = op; end = end } ∷ [])
   IsNoted op own (WantsMemory u) own' s = (s ≡ Unjudged u) × (own' ≡ own)
 
-  -- A published call has ended, with a line of which `says` is true, where it has one. Its caller
-  -- is still one of these rows, saw a cut, and its progress has changed by this cut alone.
+  -- A published call has ended. Where it has a line, the line's end is as `says` has it. Its caller
+  -- still belongs to these rows, saw a cut, and its progress has changed by this cut alone. The
+  -- caller is halted after an error and where memory was lacking, and else free for its next call.
   pub record HasEnded (meaning : P → ℕ → ℕ → Meaning) (r : Rows P)
       (says : ℕ → Local → Record → List ℕ → LineEnd → Type 0) (p : Published P)
       (e : Ended P) : Type 0 where

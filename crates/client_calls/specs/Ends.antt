@@ -49,8 +49,9 @@ abbrev pub AreLinesOfCalls : (Record → List ℕ → LineEnd → Type 0) → Li
 AreLinesOfCalls says calls own = AllZip (IsLineOf says) calls own
 
 -- What a client leaves, in its caller's local and its lines, for its operations and its allotment.
--- The lines are those of all its calls, with ends of which `says` is true. It made all phases of
--- its allotment, but for those after an error.
+-- There is a line for each of its calls, pending or unchecked for a call without a seen cut, and
+-- with an end as `says` has it for a call with one. The client made all phases of its allotment,
+-- but for those after an error.
 pub record HasLeft (says : ℕ → Local → Record → List ℕ → LineEnd → Type 0) (n : ℕ)
     (operations : List ℕ) (allotment : ℕ) (l : Local) (own : List Line) : Type 0 where
   pub lines : AreLinesOfCalls (says n l) (calls_in l) own

@@ -32,8 +32,8 @@ pub record IsLeftStanding (phases : ℕ) (l : Local) (stance : Stance) : Type 0 
   pub between : stance.live ≡ true → IsIdle l × (stance ≡ fresh_stance)
 
 module _ {P : Type 0} where
-  -- The stance of a caller that is left in this state: as it is where no call of the caller is
-  -- under way, and else halted.
+  -- The stance of a caller that is left in this state: as it is between two calls and where the
+  -- caller is halted already, and else halted.
   abbrev pub stance_left : CallerState P → Stance
   stance_left (Idle c) = stance_of c
   stance_left (Halted c) = stance_of c

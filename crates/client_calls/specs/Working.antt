@@ -6,8 +6,8 @@ use Rattle.report_lines.specs.declared.line.Line.{Line}
 use Rattle.report_lines.specs.Workers.{HasWorked}
 use Rattle.client_calls.specs.Ends.{SaysJudged, HasLeft}
 
--- What a client with a judging ending leaves is what a worker leaves, so that the lines of all such
--- clients are a lawful report.
+-- What a client with a judging ending leaves is what a worker may leave: a line for each call, all
+-- phases of its allotment up to an error, and verdicts by books that its caller gathered.
 abbrev pub JudgingClientsHaveWorked : Type 0
 JudgingClientsHaveWorked =
     (object : SeqSpec) (n : ℕ) (operations : List ℕ) (allotment : ℕ) (l : Local)

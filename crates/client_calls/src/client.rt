@@ -44,18 +44,19 @@ impl<'a, P: Program, T, E: Ending> Client<'a, P, T, E> {
         shared: &Shared<A, P>,
         steps: &mut Steps<L>,
     ) -> Client<'a, P, T, E>
-        // The client's caller is one of the shared rows, and its lines and its local are exactly
+        // The client's caller belongs to the shared rows, and its lines and its local are exactly
         // those of the phases that it has made.
         requires course { IsUnderWay P.meaning shared.now.rows.now
             (E.says (E.object self.sheet.ending)) self }
         // The callers of the shared rows may ask the object.
         requires serves { A.serves shared.now.asks.now shared.now.rows.now }
-        // The client's pass fits its caller. Where it counts calls, it has counted those of the
-        // client, and may make one for each operation.
+        // The client's pass fits its caller. A pass that counts calls has counted the client's
+        // calls for which the object was asked, and allows one call for each operation.
         requires pass { HasPass (A.fits shared.now.asks.now) A.count self }
         // For each operation the caller has a row, and the list of lines has capacity for a line.
         requires room { HasCapacity shared.now.rows.now self }
-        // The sheet's kept order stands in its kept book, judged by the ending's object.
+        // The order that the client keeps stands in the book that it keeps, by the sequential
+        // object that its ending judges by.
         requires standing { KeepsStanding (E.object self.sheet.ending) self.sheet }
         // The client's caller isn't halted.
         requires goes { GoesOnFrom self.stand }
@@ -63,17 +64,18 @@ impl<'a, P: Program, T, E: Ending> Client<'a, P, T, E> {
         requires left { phases_by self < 5 * length self.sheet.operations.now }
         // The client has made one phase more.
         ensures phase { phases_by result ≡ phases_by self.entry + 1 }
-        // The client's caller is still one of the shared rows, and its lines and its local are
+        // The client's caller still belongs to the shared rows, and its lines and its local are
         // exactly those of the phases that it has made.
         ensures course { IsUnderWay P.meaning shared.now.rows.now
             (E.says (E.object result.sheet.ending)) result }
-        // The client's pass still fits its caller. Where it counts calls, it has counted those of
-        // the client, and may make one for each operation.
+        // The client's pass still fits its caller. A pass that counts calls has counted the
+        // client's calls for which the object was asked, and allows one call for each operation.
         ensures pass { HasPass (A.fits shared.now.asks.now) A.count result }
         // For each operation the caller still has a row, and the list of lines has capacity for a
         // line.
         ensures room { HasCapacity shared.now.rows.now result }
-        // The sheet's kept order still stands in its kept book, judged by the ending's object.
+        // The order that the client keeps still stands in the book that it keeps, by the sequential
+        // object that its ending judges by.
         ensures standing { KeepsStanding (E.object result.sheet.ending) result.sheet }
         // The client has the same caller and operations, and at least the capacity for lines that
         // it had.
@@ -110,18 +112,19 @@ impl<'a, P: Program, T, E: Ending> Client<'a, P, T, E> {
         count: u64,
         steps: &mut Steps<L>,
     ) -> Client<'a, P, T, E>
-        // The client's caller is one of the shared rows, and its lines and its local are exactly
+        // The client's caller belongs to the shared rows, and its lines and its local are exactly
         // those of the phases that it has made.
         requires course { IsUnderWay P.meaning shared.now.rows.now
             (E.says (E.object self.sheet.ending)) self }
         // The callers of the shared rows may ask the object.
         requires serves { A.serves shared.now.asks.now shared.now.rows.now }
-        // The client's pass fits its caller. Where it counts calls, it has counted those of the
-        // client, and may make one for each operation.
+        // The client's pass fits its caller. A pass that counts calls has counted the client's
+        // calls for which the object was asked, and allows one call for each operation.
         requires pass { HasPass (A.fits shared.now.asks.now) A.count self }
         // For each operation the caller has a row, and the list of lines has capacity for a line.
         requires room { HasCapacity shared.now.rows.now self }
-        // The sheet's kept order stands in its kept book, judged by the ending's object.
+        // The order that the client keeps stands in the book that it keeps, by the sequential
+        // object that its ending judges by.
         requires standing { KeepsStanding (E.object self.sheet.ending) self.sheet }
         // The client's caller isn't halted.
         requires goes { GoesOnFrom self.stand }
@@ -129,17 +132,18 @@ impl<'a, P: Program, T, E: Ending> Client<'a, P, T, E> {
         requires left { phases_by self + count ≤ 5 * length self.sheet.operations.now }
         // The client has made `count` further phases, or its caller was halted within them.
         ensures spent { HasSpent (phases_by self.entry + count) result }
-        // The client's caller is still one of the shared rows, and its lines and its local are
+        // The client's caller still belongs to the shared rows, and its lines and its local are
         // exactly those of the phases that it has made.
         ensures course { IsUnderWay P.meaning shared.now.rows.now
             (E.says (E.object result.sheet.ending)) result }
-        // The client's pass still fits its caller. Where it counts calls, it has counted those of
-        // the client, and may make one for each operation.
+        // The client's pass still fits its caller. A pass that counts calls has counted the
+        // client's calls for which the object was asked, and allows one call for each operation.
         ensures pass { HasPass (A.fits shared.now.asks.now) A.count result }
         // For each operation the caller still has a row, and the list of lines has capacity for a
         // line.
         ensures room { HasCapacity shared.now.rows.now result }
-        // The sheet's kept order still stands in its kept book, judged by the ending's object.
+        // The order that the client keeps still stands in the book that it keeps, by the sequential
+        // object that its ending judges by.
         ensures standing { KeepsStanding (E.object result.sheet.ending) result.sheet }
         // The client has the same caller and operations, and at least the capacity for lines that
         // it had.
@@ -163,14 +167,14 @@ impl<'a, P: Program, T, E: Ending> Client<'a, P, T, E> {
     ///
     /// A call that was left unjudged for want of memory gets no line.
     pub fn finish(self, _rows: &Rows<P>) -> Finished<P, T, E>
-        // The client's caller is one of `_rows`, and its lines and its local are exactly those of
+        // The client's caller belongs to `_rows`, and its lines and its local are exactly those of
         // the phases that it has made.
         requires course { IsUnderWay P.meaning _rows.now
             (E.says (E.object self.sheet.ending)) self }
         // The list of lines has capacity for a line for each operation.
         requires room { length self.sheet.operations.now ≤ vec_capacity self.sheet.lines }
-        // The finished client's caller has the number and the local of this client's caller, and is
-        // one of the same rows.
+        // The finished client's caller has the number and the local of this client's caller, and
+        // belongs to the same rows.
         ensures caller { IsSame (caller_at self.entry.stand) result.caller }
         // The finished client has the pass of this client.
         ensures pass { result.pass ≡ self.entry.pass }
@@ -194,7 +198,8 @@ impl<'a, P: Program, T, E: Ending> Client<'a, P, T, E> {
         ensures free { is_unjudged self.entry.stand ≡ false → any_error result.lines.items ≡ false
             → phases_by self.entry % 5 ≡ 0 → stance_of result.caller ≡ fresh_stance }
         // Unless the last call was left unjudged, there is a line for each call of the caller, as
-        // the ending says, and these lines determine how many phases the client has made.
+        // the ending says. For each allotment that the client has spent, this allotment and the
+        // lines determine how many phases the client has made.
         ensures leaves { Leaves (E.says (E.object result.ending)) _rows.now.callers
             self.entry.sheet.operations.now self.entry.stand self.entry.sheet.lines.items
             (local_with result.caller) result.lines.items }

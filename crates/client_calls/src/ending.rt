@@ -41,7 +41,7 @@ pub trait Ending {
         standing: &mut Option<KeptOrder>,
         steps: &mut Steps<L>,
     ) -> Ended<P>
-        // The caller of the seen call is one of `rows`.
+        // The caller of the seen call belongs to `rows`.
         requires rows { IsCallerOf P.meaning rows.now (caller_seen seen) }
         // The caller has peeked each word of the kept book, where one is kept.
         requires gathered { IsGatheredBy (local_with (caller_seen seen)) gathered.old }
@@ -50,7 +50,7 @@ pub trait Ending {
         requires standing { OrderStandsIn (object self.old) gathered.old standing.old }
         // The sequential object of the ending stays.
         ensures object { object self.new ≡ object self.old }
-        // The caller is still one of `rows`, with the same number.
+        // The caller still belongs to `rows`, with the same number.
         ensures caller { IsStill P.meaning rows.now (caller_seen seen) (caller_ended result) }
         // The caller's progress is as before.
         ensures progress { progress_of (local_ended result)
@@ -61,7 +61,7 @@ pub trait Ending {
         // error and where memory was lacking.
         ensures stands { StandsAfter result }
         // The end of the line is an error where the call halts its caller, and is no error where
-        // the caller is free for its next call.
+        // the caller is free for its next call. A call that is left unjudged has no line.
         ensures error { FitsError result }
         // The end of the line is as `says` has it for the record and the seen cut of the call.
         // Where memory was lacking, the record and the cut are handed back.

@@ -50,13 +50,13 @@ impl<P> CallerState<P> {
     /// The caller, with its local as it is, and the end of the line of its call under way, where it
     /// leaves one. A caller with a call under way is halted, and any other keeps its stance.
     pub fn stop(self) -> (Caller<P>, Option<LineEnd>)
-        // The caller keeps its number and its local, and is still one of its rows.
+        // The caller keeps its number and its local, and still belongs to its rows.
         ensures caller { IsSame (caller_at self) result.0 }
         // The line of a call under way ends pending without the call's record, and unchecked with
         // it; between two calls, and where the caller is halted, no line is left.
         ensures end { result.1 ≡ end_at self }
-        // The caller's stance stays where no call of it is under way, and else the caller is
-        // halted.
+        // The caller's stance stays between two calls and where the caller is halted already, and
+        // else the caller is halted.
         ensures stance { stance_of result.0 ≡ stance_left self }
     {
         match self {

@@ -35,7 +35,8 @@ ReportsOfLogsAreLogged =
     (phases_in allotments findings)
     (calls_of_lines findings)
 
--- The reply of each answered call of a report over a tally has the form of a tally's replies.
+-- The reply of each answered call of a report over a tally is a value for an increment, and bad for
+-- anything else.
 abbrev pub ReportsOfTalliesAreFormed : Type 0
 ReportsOfTalliesAreFormed =
     (judge : SeqSpec) (n cap : ℕ) (locals : List Local)
@@ -43,7 +44,8 @@ ReportsOfTalliesAreFormed =
     → IsReportOf judge (one_word_shape n cap tally) locals plan allotments findings
     → AreFormed IsTallyReply (length findings.lines) (calls_of_lines findings)
 
--- The reply of each answered call of a report over a cell has the form of a cell's replies.
+-- The reply of each answered call of a report over a cell is done for a write, a value for the
+-- read, and bad for anything else.
 abbrev pub ReportsOfCellsAreFormed : Type 0
 ReportsOfCellsAreFormed =
     (judge : SeqSpec) (n cap : ℕ) (locals : List Local)

@@ -3,17 +3,20 @@
 
 ghost use Rattle.core_runs.specs.LoggedReports.{ReportsOfLogsAreLogged, ReportsOfTalliesAreFormed, ReportsOfCellsAreFormed};
 
-/// The calls of a report over the log of a sequential object are in one log, from which all of them
-/// were answered.
+/// The calls of a report over the log of a sequential object are in one log, and each answered call
+/// has its reply from this log.
 pub fn reports_of_logs_are_logged()
     ensures { ReportsOfLogsAreLogged }
 {}
 
-/// Each reply of a report over a tally has the form of a tally's replies, and each of one over a
-/// cell the form of a cell's.
+/// In a report over a tally an answered increment has a value for its reply. In a report over a
+/// cell an answered write has `done`, and an answered read a value. An operation that the object
+/// doesn't know is answered `bad`.
 pub fn reports_of_words_are_formed()
-    // The reply of each answered call of a report over a tally has the form of a tally's replies.
+    // The reply of each answered call of a report over a tally is a value for an increment, and
+    // `bad` for anything else.
     ensures tallies { ReportsOfTalliesAreFormed }
-    // The reply of each answered call of a report over a cell has the form of a cell's replies.
+    // The reply of each answered call of a report over a cell is `done` for a write, a value for
+    // the read, and `bad` for anything else.
     ensures cells { ReportsOfCellsAreFormed }
 {}

@@ -21,9 +21,9 @@ use std::thread::Threads;
 
 /// Runs all callers of a script, each in a thread of its own where one can be had. Each caller asks
 /// an object inside the world by its pass, with the object's steps as events of the same world, and
-/// judges each of its calls by the sequential object. The answer is their report, which is lawful,
-/// and no line of which is an error, since every run of the object's program is linearizable
-/// (Herlihy and Wing 1990).
+/// judges each of its calls by the sequential object. The answer is their report, which is lawful.
+/// No line of it is an error, since every run of the object's program is linearizable (Herlihy and
+/// Wing 1990).
 ///
 /// Whatever the answer, the bench holds all callers again, the passes are in their order and fit
 /// the object steps that their callers have made, and each caller has made a prefix of its phases.

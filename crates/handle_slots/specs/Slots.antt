@@ -32,8 +32,8 @@ pub record IsSized (name : List ℕ) (callers calls : ℕ) : Type 0 where
   pub some_calls : 1 ≤ calls
   pub few_calls : calls ≤ MAX_CALLS
 
--- The handle is that of a table of the kind with this name, for this many callers with this many
--- calls each, which has given none of its callers.
+-- The handle is that of a table of the kind with this name, for this many callers with at most this
+-- many calls each, which has given none of its callers.
 abbrev pub IsOpened : List ℕ → ℕ → ℕ → Option Handle → Type 0
 IsOpened name callers calls found =
     (t : TableHandle) × (found ≡ Some (Table t)) × (kind_name (kind_in t) ≡ name)
@@ -75,7 +75,8 @@ AreCallers Are before after =
 abbrev pub Begins : ℕ → Option Handle → Option Handle → Type 0
 Begins op before after = AreCallers (HasBegun op) before after
 
--- The call that the caller had announced has this reply, and this answer.
+-- The call that is announced at the handle before has ended with this reply and this answer, which
+-- is right, and its caller is in the stage of the handle after.
 abbrev pub Ends : ℕ → CallAnswer → Option Handle → Option Handle → Type 0
 Ends reply answer before after = AreCallers (λ h k. HasEnded reply h answer k) before after
 

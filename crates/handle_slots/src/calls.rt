@@ -90,9 +90,11 @@ fn answered_in(slot: Slot, given: (Global, u64)) -> (Slot, Option<CallAnswer>)
 }
 
 /// Hands in the reply to the call announced by the caller whose handle is in the slot, and judges
-/// the call. Where this caller has announced none there is no answer, and the handle is as it was.
+/// the call. Where the slot has no caller with an announced call that waits for its reply, there is
+/// no answer, and the handle is as it was.
 pub fn answered(alloc: Global, slot: &mut Slot, reply: u64) -> Option<CallAnswer>
-    // There is an answer exactly where the slot has a caller that has announced a call.
+    // There is an answer exactly where the slot has a caller that has announced a call whose reply
+    // isn't handed in yet.
     ensures when { IsSome result ↔ IsCallers HasAnnounced (handle_in slot.old) }
     // With an answer the call has this reply, and the answer is right: delivered where the book at
     // the cut that its caller has seen has a legal order, illegal where that book has none, or
@@ -142,7 +144,8 @@ fn published_in(slot: Slot, given: (Global, u64)) -> (Slot, bool)
 /// publishes the call without a judgement. The answer is whether a call was announced; where none
 /// was, the handle is as it was.
 pub fn publish(alloc: Global, slot: &mut Slot, reply: u64) -> bool
-    // The answer is true exactly where the slot has a caller that has announced a call.
+    // The answer is true exactly where the slot has a caller that has announced a call whose reply
+    // isn't handed in yet.
     ensures when { IsTrue result ↔ IsCallers HasAnnounced (handle_in slot.old) }
     // With true the call is published with this reply, and nobody has judged it.
     ensures published { IsTrue result → Publishes reply (handle_in slot.old) (handle_in slot.new) }
@@ -184,12 +187,14 @@ fn judged_in(slot: Slot, alloc: Global) -> (Slot, Option<Judgement>)
 }
 
 /// Makes a round of the monitor whose handle is in the slot, where no earlier round was illegal.
-/// The answer is what the round found; there is none where the slot has no such monitor, and then
-/// the handle is as it was.
+/// The answer is what the round found. Where the slot has no monitor, or one that has made an
+/// illegal round, there is no answer, and the handle is as it was.
 pub fn judge(alloc: Global, slot: &mut Slot) -> Option<Judgement>
     // There is an answer exactly where the slot has a monitor that has made no illegal round.
     ensures when { IsSome result ↔ IsMonitors MayJudge (handle_in slot.old) }
-    // With an answer the slot's monitor has made a round with this judgement, which is right.
+    // With an answer the slot's monitor has made a round. The book at the round's cut has a legal
+    // order where the answer is `Legal`, and none where it is `Illegal`. Where the answer is
+    // `Unjudged`, the monitor has scanned M, and has no witness.
     ensures judged { IfSome result
         (λ found. Judges found (handle_in slot.old) (handle_in slot.new)) }
     // Without an answer the handle is as it was.

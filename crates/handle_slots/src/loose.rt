@@ -24,7 +24,7 @@ impl<T: Drop, A: Allocator> Loose<T, A> {
         Loose { at, alloc }
     }
 
-    /// The box of which this is the pointer and the allocator.
+    /// Puts the box together again from its pointer and its allocator.
     pub fn into_box(self) -> Box<T, A>
         ensures { result.value ≡ self.value }
     {

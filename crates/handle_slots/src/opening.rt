@@ -12,8 +12,9 @@ use seq_objects::Kind;
 use std::alloc::Global;
 
 /// Opens a table for this many callers, 1 to 16, with 1 to 256 calls each, which are judged by the
-/// kind of this name, and puts its handle into the slot. The answer is whether it does; it doesn't
-/// where there can be no such table, or the slot has a handle.
+/// kind of this name, and puts its handle into the slot. The answer is whether it does: it doesn't
+/// where no kind has this name, where the callers or the calls aren't within these limits, or where
+/// the slot has a handle.
 pub fn open(
     alloc: Global,
     kind: &[u8],

@@ -1,5 +1,5 @@
 //! Hunts: runs of random scripts over an object, with noise, until one of them shows a book without
-//! a legal order.
+//! a legal order, or as many runs are made as wanted.
 #![tactic(auto)]
 
 mod maker;

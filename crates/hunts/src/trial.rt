@@ -24,13 +24,14 @@ pub struct Catch {
     pub seed: u64,
     /// What the callers were to do in the run.
     pub script: Script,
-    /// The report of the run, of which a line is an error.
+    /// The report of the run, which has an error line.
     pub report: Report,
     /// The book at the seen cut of the first error line.
     pub witness: Book,
 }
 
-/// Runs the script of a seed over an object made for it, which is dropped after the run.
+/// Runs the script of a seed over an object made for it, which is dropped after the run. The answer
+/// is a catch where the report has an error line, and else `None`.
 pub(crate) fn run_seed<R: Threads + Sync, B: BlackBox + Sync + Drop, M: Maker<B>, W: Onlooker>(
     rt: &R,
     alloc: Global,

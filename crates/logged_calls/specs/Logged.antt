@@ -7,10 +7,10 @@ use Rattle.world_core.specs.Calls.{Made}
 use Rattle.report_lines.specs.Phases.{asked, answered, operations_of, answers_in}
 use Rattle.lawful_objects.specs.Pairs.{pairs_of}
 
--- All calls of n callers, each of which made this many phases, went into one log, and were answered
--- from it. The callers of the log are below n. The entries of each caller are, in order, the
--- operations of the calls that it asked the object for: those of its answered calls, and at most
--- one more. The reply of each answered call is the answer to the log up to its entry.
+-- The calls of n callers are in one log, where caller i has made `phases i` phases. The callers of
+-- the log are below n. The entries of each caller are, in order, the operations of the calls that
+-- it asked the object for: those of its answered calls, and at most one more. The reply of each
+-- answered call is the answer to the log up to its entry.
 pub record IsLoggedBy (answer : List Entry → ℕ) (n : ℕ) (phases : ℕ → ℕ)
     (calls : ℕ → List Made) : Type 0 where
   pub log : List Entry

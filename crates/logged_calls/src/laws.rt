@@ -16,9 +16,9 @@ pub fn entries_are_of_calls()
     ensures { EntriesAreOfCalls }
 {}
 
-/// The calls of every run over the log of a sequential object are in one log, from which all of
-/// them were answered. A call that was announced and not asked isn't in the log; one that was asked
-/// is, whether or not its caller has its record.
+/// The calls of every run over the log of a sequential object are in one log, and each answered
+/// call has its reply from this log. A call that was announced and not asked isn't in the log; one
+/// that was asked is, whether or not its caller has its record.
 pub fn runs_of_logs_are_logged()
     ensures { RunsOfLogsAreLogged }
 {}

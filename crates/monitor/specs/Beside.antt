@@ -41,7 +41,8 @@ module _ {P : Type 0} where
     pub rounds : w.rounds ≡ most
 
   -- The watch `w` has made its rounds: its monitor is caller i of the rows `r`, with the progress
-  -- of local `l`, and made at most `most` rounds, unless it lacked memory.
+  -- of local `l`. Unless the monitor lacked memory, it made `most` legal rounds, or at most `most`
+  -- of which the last one alone is illegal.
   pub record HasWatchedAs (spec : SeqSpec) (meaning : P → ℕ → ℕ → Meaning) (r : Rows P) (i : ℕ)
       (l : Local) (most : ℕ) (w : Watch P) : Type 0 where
     pub monitor : Monitor P
@@ -52,7 +53,7 @@ module _ {P : Type 0} where
     pub rounds : w.wants_memory ≡ false
         → HasMadeRounds spec r.callers most l (local_of monitor) (own_of monitor)
 
-  -- The watch `w` has its monitor, whose caller is one of the rows `r` and isn't on the bench `b`.
+  -- The watch `w` has its monitor, whose caller belongs to the rows `r` and isn't on the bench `b`.
   pub record IsAtHand (meaning : P → ℕ → ℕ → Meaning) (r : Rows P) (b : Bench P)
       (w : Watch P) : Type 0 where
     pub monitor : Monitor P

@@ -46,16 +46,19 @@ IsKeptAfter n (Legal cut) kept = IsSomeAnd kept (λ g. (length g.book ≡ n) × 
 IsKeptAfter n (Illegal cut) kept = kept ≡ None
 
 -- The counter of steps rose from `ticks` to `ticks'` by at most as many words as a scan of n
--- callers may take, and by the number of words of the book in `g` that the book kept before lacks.
+-- callers may take, and by the number of words of the book in `g` that the book kept before, if
+-- there was one, lacks. Nothing is said where the book kept before isn't of n callers, or its cut
+-- isn't within that of `g`.
 pub record TicksForBook (n : ℕ) (before : Option Gathered) (g : Gathered)
     (ticks ticks' : ℕ) : Type 0 where
   pub scan : ℕ
   pub few : scan ≤ most_words n
   pub new : TicksForNew n before g (ticks + scan) ticks'
 
--- In a round the counter of steps rose by the words of the scan, and by the words of the round's
--- book that the book kept before lacks. The round's book is the kept one after a legal round, and
--- the own witness after an illegal one.
+-- In a round the counter of steps rose by at most as many words as a scan may take, and by the
+-- number of words of the round's book that the book kept before, if there was one, lacks. Nothing
+-- is said where that book's cut isn't within the round's cut. The round's book is the kept one
+-- after a legal round, and the own witness after an illegal one.
 abbrev pub TicksForRound : ℕ → Option Gathered → Option Gathered → Option Witness → ℕ → ℕ
     → Round → Type 0
 TicksForRound n before kept own ticks ticks' (Legal cut) =
@@ -102,13 +105,13 @@ module _ {P : Type 0} where
     pub idle : IsIdle (local_with c)
     pub stance : stance_of c ≡ ready
 
-  -- A monitor belongs to these rows: its caller is one of them, live and idle, and has gathered the
-  -- book that the monitor keeps.
+  -- A monitor belongs to these rows: its caller belongs to them, is live and idle, and has gathered
+  -- the book that the monitor keeps, if it keeps one.
   pub record IsMonitorOf (meaning : P → ℕ → ℕ → Meaning) (r : Rows P) (m : Monitor P) : Type 0 where
     pub resting : IsResting meaning r m.caller
     pub gathered : IsGatheredBy (local_with m.caller) m.gathered
 
-  -- The monitor m belongs to whatever rows the caller c is one of.
+  -- The monitor m belongs to all rows that the caller c belongs to.
   abbrev pub Becomes : Caller P → Monitor P → Type 0
   Becomes c m = (meaning : P → ℕ → ℕ → Meaning) (r : Rows P) → IsCallerOf meaning r c
       → IsMonitorOf meaning r m

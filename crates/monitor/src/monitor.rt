@@ -44,7 +44,7 @@ impl<P: Program> Monitor<P> {
         requires idle { IsIdle (local_with caller) }
         // The caller makes calls, means to begin no scan, and keeps no reply.
         requires live { stance_of caller ≡ ready }
-        // The monitor belongs to whatever rows `caller` is one of.
+        // The monitor belongs to all rows that `caller` belongs to.
         ensures monitor { Becomes caller result }
         // The monitor's caller is `caller`.
         ensures caller { caller_of result ≡ caller }
@@ -106,7 +106,7 @@ impl<P: Program> Monitor<P> {
         board: &Board,
         steps: &mut Steps<L>,
     ) -> Result<Round, NoMemory>
-        // The monitor's caller is one of `rows`, live and idle, and has gathered the kept book.
+        // The monitor's caller belongs to `rows`, is live and idle, and has gathered the kept book.
         requires rows { IsMonitorOf P.meaning rows.now self.old }
         // The monitor belongs to `board`.
         requires board { IsOn board.now self.old }
@@ -135,8 +135,9 @@ impl<P: Program> Monitor<P> {
             × (placed_by self.new ≡ placed_by self.old) }
         // After want of memory the monitor has no own witness.
         ensures err { OnErr result (own_of self.new ≡ None) }
-        // The counter of steps has risen by the number of words that the scan took, and by the
-        // number of words of the round's book that the kept book lacks.
+        // The counter of steps has risen by at most as many words as a scan may take, and by the
+        // number of words of the round's book that the kept book, if there is one, lacks. Nothing
+        // is said where the kept book's cut isn't within the round's cut.
         ensures ticks { IfOk result
             (TicksForRound rows.now.callers (kept_by self.old) (kept_by self.new)
             (own_of self.new) steps.old steps.new) }
@@ -159,7 +160,7 @@ impl<P: Program> Monitor<P> {
         standing: &mut Option<KeptOrder>,
         steps: &mut Steps<L>,
     ) -> Result<Round, NoMemory>
-        // The monitor's caller is one of `rows`, live and idle, and has gathered the kept book.
+        // The monitor's caller belongs to `rows`, is live and idle, and has gathered the kept book.
         requires rows { IsMonitorOf P.meaning rows.now self.old }
         // The monitor belongs to `board`.
         requires board { IsOn board.now self.old }
@@ -194,8 +195,9 @@ impl<P: Program> Monitor<P> {
             × (placed_by self.new ≡ placed_by self.old) }
         // After want of memory the monitor has no own witness.
         ensures err { OnErr result (own_of self.new ≡ None) }
-        // The counter of steps has risen by the number of words that the scan took, and by the
-        // number of words of the round's book that the kept book lacks.
+        // The counter of steps has risen by at most as many words as a scan may take, and by the
+        // number of words of the round's book that the kept book, if there is one, lacks. Nothing
+        // is said where the kept book's cut isn't within the round's cut.
         ensures ticks { IfOk result
             (TicksForRound rows.now.callers (kept_by self.old) (kept_by self.new)
             (own_of self.new) steps.old steps.new) }

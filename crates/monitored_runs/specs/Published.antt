@@ -27,21 +27,23 @@ PublishedRecordsAreInTheBook =
     → (length (published_of locals) ≡ length (book_in locals))
     × IsWithin (published_of locals) (answered (book_in locals))
 
--- The answer on these callers' calls is right. Where it is no witness, the book of all published
--- records has a legal order. A witness is the book of the calls at a cut that counts published
--- records alone, and has no legal order.
+-- The answer on these callers' calls is right. `None` is right where the book of all published
+-- records has a legal order. A witness is right where it is the book of the calls at a cut that
+-- counts published records alone, and has no legal order.
 abbrev pub IsAnswer : SeqSpec → List Local → Option Witness → Type 0
 IsAnswer spec locals None = HasLegalOrder spec (published_book locals)
 IsAnswer spec locals (Some w) = IsWitnessOf spec locals w
 
--- An answer says exactly whether the book of all published records has a legal order.
+-- An answer is right, and it is `None` exactly where the book of all published records has a legal
+-- order.
 pub record IsExactAnswer (spec : SeqSpec) (locals : List Local)
     (answer : Option Witness) : Type 0 where
   pub is : IsAnswer spec locals answer
   pub exact : (answer ≡ None) ↔ HasLegalOrder spec (published_book locals)
 
--- A right answer says exactly whether the book of all published records has a legal order, and so
--- does a judgement of that book.
+-- A right answer is `None` exactly where the book of all published records has a legal order. A
+-- judgement of that book is a right answer, and likewise `None` exactly where the book has a legal
+-- order.
 abbrev pub AnswersAreExact : Type 0
 AnswersAreExact =
     (spec : SeqSpec) (s : Shape) (locals : List Local)

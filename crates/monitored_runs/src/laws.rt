@@ -19,8 +19,8 @@ pub fn published_records_are_in_the_book()
     ensures { PublishedRecordsAreInTheBook }
 {}
 
-/// A judgement of all published records answers no witness exactly where their book has a legal
-/// order.
+/// A right answer, and a judgement of the book of all published records, has no witness exactly
+/// where this book has a legal order.
 pub fn answers_are_exact()
     ensures { AnswersAreExact }
 {}

@@ -139,13 +139,15 @@ pub fn monitor_asked<
     ensures counted { IfOk result
         (λ _. AreInOrder (IsCountedAll A.count script.now (locals_on bench.new)) passes.new.items) }
     // With an answer the cuts that each monitor was given in this run are those of its rounds over
-    // the calls of all callers. There are at most as many as the script has calls, and one more. At
-    // each cut but the last the book has a legal order. Where there are fewer cuts than that, the
+    // the calls of all callers: at most one more than the script has calls. At each cut but the
+    // last the book has a legal order. Where there are no more cuts than the script has calls, the
     // book at the last one has no legal order.
     ensures rounds { IfOk result
         (λ _. (i : ℕ) (l : Local) → IsMonitor script.now i → on_bench bench.old i ≡ Some l
         → HasMonitored (S.spec sequential.now) script.now (locals_on bench.new) i l) }
-    // An answer is a witness exactly where the book of all published records has no legal order.
+    // An answer is a witness exactly where the book of all published records has no legal order. A
+    // witness is the book of all callers' calls at a cut that counts published records alone, and
+    // has no legal order.
     ensures answer { IfOk result (IsExactAnswer (S.spec sequential.now) (locals_on bench.new)) }
 {
     let most = most_rounds(script);
@@ -218,13 +220,15 @@ where
     ensures told { IfOk result (λ _. AreInOrder
         (IsToldAll B.Pass.made B.Pass.told script.now (locals_on bench.new)) passes.new.items) }
     // With an answer the cuts that each monitor was given in this run are those of its rounds over
-    // the calls of all callers. There are at most as many as the script has calls, and one more. At
-    // each cut but the last the book has a legal order. Where there are fewer cuts than that, the
+    // the calls of all callers: at most one more than the script has calls. At each cut but the
+    // last the book has a legal order. Where there are no more cuts than the script has calls, the
     // book at the last one has no legal order.
     ensures rounds { IfOk result
         (λ _. (i : ℕ) (l : Local) → IsMonitor script.now i → on_bench bench.old i ≡ Some l
         → HasMonitored (S.spec sequential.now) script.now (locals_on bench.new) i l) }
-    // An answer is a witness exactly where the book of all published records has no legal order.
+    // An answer is a witness exactly where the book of all published records has no legal order. A
+    // witness is the book of all callers' calls at a cut that counts published records alone, and
+    // has no legal order.
     ensures answer { IfOk result (IsExactAnswer (S.spec sequential.now) (locals_on bench.new)) }
 {
     passes_are_fresh(rows, object, passes, script);

@@ -31,12 +31,13 @@ AreNeither table = AllByRecursion (λ e. (word : ℕ) → is_operation_of word e
 abbrev pub log_of : List (ℕ × words.OperationEntry × ℕ) → List Entry
 log_of calls = map (λ call. entry call.0 (word_of call.1.code call.2 0)) calls
 
--- The text of a late queue's reply to the last call of a log.
+-- The text of a late queue's reply to the last call of a log. In a late queue a caller's put waits
+-- for that caller's next call.
 abbrev pub late_text : List (ℕ × words.OperationEntry × ℕ) → List ℕ
 late_text calls = reply_word (late_reply (kind_spec Queue) (log_of calls))
 
 -- The text of an inventing counter's reply to the last of some increments, whose callers are listed
--- in the order of the increments.
+-- in the order of the increments. Such a counter answers 99 to the third call of each caller.
 abbrev pub invented_text : List ℕ → List ℕ
 invented_text callers = reply_word (invent_reply (kind_spec Counter)
     (map (λ i. entry i (word_of words.inc.code 0 0)) callers))

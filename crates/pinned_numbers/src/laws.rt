@@ -77,7 +77,7 @@ pub fn codes_of_statuses()
     ensures refused { (code_of statuses.Usage ≡ 2) × (code_of statuses.Refused ≡ 3) }
     // The program ends with 4 where a read failed, and with 5 where a write did.
     ensures failed { (code_of statuses.ReadFault ≡ 4) × (code_of statuses.WriteFault ≡ 5) }
-    // The program ends with 6 where memory was wanted.
+    // The program ends with 6 where memory was lacking.
     ensures no_memory { code_of statuses.NoMemory ≡ 6 }
 {}
 

@@ -3,7 +3,7 @@
 //!
 //! Each line of standard input names a work, how many allocations are used up before it, and `do`
 //! or `leave`, which only prepares it. After the work allocations are used up until one is refused,
-//! or 4,000 were had. A line is printed for each:
+//! or 4,000 were had. One line is printed for each line of input:
 //!
 //! | Line | Meaning |
 //! |---|---|

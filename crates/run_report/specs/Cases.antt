@@ -1,4 +1,4 @@
--- Worked reports of two callers that stop.
+-- Worked reports of two callers that stop, which show that a report belongs to one stop alone.
 use Rattle.std.specs.Prelude.{ℕ, List, [], ◌∷◌, Option, Some}
 use Rattle.seq_objects.specs.declared.kind.Kind.TheVariants.{Queue}
 use Rattle.world_core.specs.World.{Step}
@@ -9,7 +9,8 @@ use Rattle.client_scripts.specs.Plans.{Plan}
 use Rattle.report_laws.specs.Cases.{five_and_six, stopped}
 use Rattle.run_report.specs.Reporting.{IsReportOf}
 
--- The first caller stops after this many phases, and the second after two.
+-- The stops of two callers: the first caller stops after this many phases, and the second after
+-- two.
 abbrev pub stops_after : ℕ → List (Option ℕ)
 stops_after phases = Some phases ∷ Some 2 ∷ []
 

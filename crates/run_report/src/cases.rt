@@ -1,4 +1,4 @@
-//! Worked reports of two callers that stop.
+//! Worked reports of two callers that stop, which show that a report belongs to one stop alone.
 
 ghost use Rattle.std.specs.Prelude.{◌++◌, take};
 ghost use Rattle.world_core.specs.Schedules.{announced_both, published_one, two_calls};
@@ -8,16 +8,16 @@ ghost use Rattle.run_report.specs.Cases.{IsStoppedReport};
 /// its third phase has its record, and one that stops after its fourth has also published it. Both
 /// leave the same lines, but the report of one isn't that of the other.
 pub fn stops_are_kept_to_the_phase()
-    // The worked report is that of a caller that stops after its third phase, where its record
-    // isn't published.
+    // A report with an unchecked call whose record isn't published is that of a caller that stops
+    // after its third phase.
     ensures recorded { IsStoppedReport 3 (take 24 two_calls) }
-    // The worked report is that of a caller that stops after its fourth phase, where its record is
-    // published.
+    // A report with an unchecked call whose record is published is that of a caller that stops
+    // after its fourth phase.
     ensures published { IsStoppedReport 4 (announced_both ++ published_one) }
-    // The worked report isn't that of a caller that stops after its fourth phase, where its record
-    // isn't published.
+    // A report with an unchecked call whose record isn't published isn't that of a caller that
+    // stops after its fourth phase.
     ensures unpublished { ¬ IsStoppedReport 4 (take 24 two_calls) }
-    // The worked report isn't that of a caller that stops after its third phase, where its record
-    // is published.
+    // A report with an unchecked call whose record is published isn't that of a caller that stops
+    // after its third phase.
     ensures published_too_soon { ¬ IsStoppedReport 3 (announced_both ++ published_one) }
 {}

@@ -22,8 +22,9 @@ use std::sync::ledger::Blank;
 use world_core::{Outside, Program};
 
 /// Runs all callers of a script in one thread, by the script's turns: at each turn the caller that
-/// the turn names makes its next phase, unless it has reached its stop or is halted. Each call is
-/// judged by the sequential object. The answer is the callers' report, which is lawful.
+/// the turn names makes its next phase, unless it has reached its stop or the end of its calls, or
+/// is halted. Each call is judged by the sequential object. The answer is the callers' report,
+/// which is lawful.
 ///
 /// Whatever the answer, the bench holds all callers again, the passes are in their order, and each
 /// caller has made a prefix of its phases: all of them where a report is answered, but for those

@@ -18,7 +18,7 @@ use row_table::Bench;
 use script_workers::Pace;
 use world_core::Program;
 
-// A word of this type has 64 bits.
+// Every `u64` is less than 2 to the power 64.
 fn read_word(word: &u64)
     ensures { word.now < 2 ^ 64 }
 {
@@ -55,8 +55,8 @@ fn read_replies(lines: &[Own])
     }
 }
 
-/// The report of these lines, which callers left that are back on their bench with their passes. At
-/// the pace `_pace` the script gave the callers their allotments.
+/// The report of a script's callers that are back on their bench with their passes, and left these
+/// lines. The pace says how many phases each caller was given.
 pub(crate) fn report_of<P: Program, T, S: SeqObject, A: Asks<Program = P, Pass = T>>(
     _shared: &Shared<A, P>,
     _bench: &Bench<P>,

@@ -30,9 +30,9 @@ pub record IsCoreReport {P : Type 0} (object : SeqSpec) (meaning : P → ℕ →
   pub report : IsBenchReport object meaning rows bench plan allotments findings
   pub no_error : list_any any_error findings.lines ≡ false
 
--- The findings are a lawful report of a plan's callers, of the locals on this bench, with the calls
--- of these passes. With pass i the object was asked for just the calls that the lines of caller i
--- determine, and where the pass tells a list, this has their operations and their replies.
+-- The findings are a lawful report of a plan's callers, of the locals on this bench. With pass i
+-- the object was asked for just the calls that the lines of caller i determine, and where the pass
+-- tells a list, this has their operations and their replies.
 pub record IsToldBenchReport {P T : Type 0} (object : SeqSpec) (meaning : P → ℕ → ℕ → Meaning)
     (rows : Rows P) (bench : Bench P) (made : T → ℕ) (told : T → Option (List (ℕ × ℕ)))
     (passes : List T) (plan : Plan) (allotments : List ℕ) (findings : Findings) : Type 0 where

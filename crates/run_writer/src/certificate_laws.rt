@@ -2,8 +2,8 @@
 
 ghost use Rattle.run_writer.specs.CertificateLaws.{LawfulReportsHaveAnOrder, CertificatesNeedAnOrder, DeliveredRepliesStandInTheOrder, CertificatesAreRead, CertificatesHaveOneBook};
 
-/// A lawful report has a certificate, whose order has each delivered reply. A report has no
-/// certificate where what was delivered has no legal order.
+/// What was delivered in a lawful report has a legal order, and each legal order of it has each
+/// delivered reply. A report has no certificate where what was delivered has no legal order.
 pub fn lawful_reports_have_certificates()
     // The book of what a lawful report delivered has a legal order.
     ensures order { LawfulReportsHaveAnOrder }
@@ -13,8 +13,8 @@ pub fn lawful_reports_have_certificates()
     ensures replies { DeliveredRepliesStandInTheOrder }
 {}
 
-/// Whoever reads a certificate of a report reads the report's kind, the book of what was delivered,
-/// of which there is one, and a legal order of this book.
+/// Whoever reads a certificate of a report reads the report's kind, the one book of what was
+/// delivered, and a legal order of this book.
 pub fn certificates_tell_of_what_was_delivered()
     // A text that is a certificate of a report has the report's kind, the book of what was
     // delivered, and a legal order of it.

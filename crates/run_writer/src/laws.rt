@@ -9,7 +9,8 @@ ghost use Rattle.reports.specs.Cases.{of_queue, worked};
 ghost use Rattle.run_writer.specs.declared.form.Form.TheVariants.{Counts as Numbers};
 ghost use Rattle.run_writer.specs.Runs.{IsRunOutput, counts_text, StatusesTellErrors, FormsWriteOneText, CertificatesAreLegal, CertificatesAreOfTheirKind, CertificatesTellOneBook};
 
-/// A report has one text, and so have its counts.
+/// Of each report at most one text is written in the form `Report`, and at most one in the form
+/// `Counts`.
 pub fn a_report_and_its_counts_have_one_text()
     ensures { FormsWriteOneText }
 {}

@@ -16,9 +16,9 @@ use reports::{Counts, Report};
 use seq_objects::put_number;
 use std::alloc::Global;
 
-/// Writes what a form shows of a report that was judged by a sequential object. The form of a
-/// certificate needs a report that has one, as every lawful report has. All of the text is built
-/// before its first byte is written.
+/// Writes what a form shows of a report that was judged by a sequential object. The form
+/// `Certificate` needs a report whose delivered book has a legal order; every lawful report is one.
+/// All of the text is built before its first byte is written.
 pub fn write_report<S: SeqObject, K: Sink>(
     alloc: Global,
     form: Form,

@@ -77,8 +77,9 @@ where
         bench.new passes.new.items i }
 
     // The headline: what the sink has taken fits the status. It is all that the form shows of a
-    // lawful report of the locals on the bench, with the calls of the passes; a prefix of it with
-    // `WriteFault`; and nothing with `NoMemory`.
+    // lawful report of the locals on the bench; a prefix of that with `WriteFault`; and nothing
+    // with `NoMemory`. Each pass counts just the calls that the object was asked for by its
+    // caller's lines in this report.
     ensures ends { RunEnds (kind_spec script.now.kind)
         (IsToldBenchReport (kind_spec script.now.kind) ⟦<Outside as Program>⟧.meaning rows.now
         bench.new B.Pass.made B.Pass.told passes.new.items script.now (run_allotments script.now))
@@ -141,8 +142,9 @@ pub fn replay_and_write<B: BlackBox, K: Sink>(
         bench.new passes.new.items i }
 
     // The headline: what the sink has taken fits the status. It is all that the form shows of a
-    // lawful report of the locals on the bench, with the calls of the passes; a prefix of it with
-    // `WriteFault`; and nothing with `NoMemory`.
+    // lawful report of the locals on the bench; a prefix of that with `WriteFault`; and nothing
+    // with `NoMemory`. Each pass counts just the calls that the object was asked for by its
+    // caller's lines in this report.
     ensures ends { RunEnds (kind_spec script.now.kind)
         (IsToldBenchReport (kind_spec script.now.kind) ⟦<Outside as Program>⟧.meaning rows.now
         bench.new B.Pass.made B.Pass.told passes.new.items script.now

@@ -82,7 +82,8 @@ module _ {P T : Type 0} where
 
   -- Caller i is back on the bench with its pass, and item i of `lines` has its lines. Where no line
   -- is an error and it stopped between two calls, or made all of them, it is free for its next
-  -- call. Where memory was lacking, for whichever caller (`wanted`), its lines may be any.
+  -- call. Where memory was lacking for any caller (`wanted`), nothing is said of the lines of
+  -- caller i, or of its being free.
   pub record IsBack (meaning : P → ℕ → ℕ → Meaning) (r : Rows P) (says : Says) (fits : Fits T)
       (count : T → Option PassCount) (course : RunCourse) (b : Bench P) (passes : List T)
       (lines : List (List Line)) (wanted : Bool) (i : ℕ) : Type 0 where

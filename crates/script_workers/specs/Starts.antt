@@ -109,14 +109,15 @@ pub record IsNewCount (operations : ℕ) (count : PassCount) : Type 0 where
   pub has_capacity : operations ≤ count.room
   pub silent : IfSome count.told (λ pairs. pairs ≡ [])
 
--- The pass is one of caller i of these rows with which no call was made. It fits the caller without
--- object steps, and where it counts calls, one may be made for each operation of the caller.
+-- The pass fits caller i of these rows without object steps. Where it counts calls, none was made
+-- with it, it tells of none, and one may be made for each operation of the caller.
 pub record IsFreshPass {P T : Type 0} (r : Rows P) (fits : Fits T) (count : T → Option PassCount)
     (operations : List (List ℕ)) (i : ℕ) (pass : T) : Type 0 where
   pub fits_caller : fits r.callers r.cap pass i []
   pub counts : IfSome (count pass) (IsNewCount (length (operations_at operations i)))
 
--- There is a new pass for each caller, in order.
+-- There is one pass for each caller, in order. Each fits its caller without object steps. Where it
+-- counts calls, none was made with it, and one may be made for each operation of the caller.
 pub record AreFreshPasses {P T : Type 0} (r : Rows P) (fits : Fits T) (count : T → Option PassCount)
     (operations : List (List ℕ)) (passes : List T) : Type 0 where
   pub as_many : length passes ≡ length operations

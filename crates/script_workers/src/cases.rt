@@ -3,10 +3,10 @@
 ghost use Rattle.std.specs.Prelude.{[], ◌∷◌};
 ghost use Rattle.script_workers.specs.Cases.{in_second_call, with_object_step, silent_pass, pass_of, IsBackAfter};
 
-/// A caller in its second call has made its sixth phase, or its seventh as well, in which the
-/// object was asked. It was given at least as many phases; its calls have the operations that it
-/// was given, and the record of its first call is published. Its second call has no object step
-/// before the object was asked.
+/// A caller that is back in its second call has made six phases where that call is announced, and
+/// seven where the object was asked for it. It isn't back after six phases where it was given
+/// fewer, where a call has another operation than it was given, where the record of its first call
+/// isn't published, where its second call has an object step, or where the object was asked twice.
 pub fn callers_are_back_after_their_phases()
     // A caller in its second call whose pass tells of its first call alone has made 6 of 6 phases.
     ensures announced { IsBackAfter 6 6 (in_second_call 7 1) (pass_of ((5, 50) ∷ [])) }

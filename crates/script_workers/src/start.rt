@@ -34,7 +34,7 @@ pub fn allotment_of(script: &Script, who: u32) -> u64
 }
 
 // A worker that has made no phase, for a caller that is off its bench and has made no call. The
-// worker's allotment is the phases up to the caller's stop.
+// worker's allotment is all the caller's phases, up to its stop where it has one.
 fn begin<'a, P: Program, T, E: Ending, A: Asks<Program = P, Pass = T>>(
     _shared: &Shared<A, P>,
     caller: Caller<P>,
@@ -80,7 +80,8 @@ fn begin<'a, P: Program, T, E: Ending, A: Asks<Program = P, Pass = T>>(
     }
 }
 
-// Makes an empty list of lines for each caller, with capacity for one of each of its operations.
+// Makes an empty list of lines for each caller, with capacity for a line for each of its
+// operations.
 fn make_capacity(alloc: Global, script: &Script) -> Result<Vec<Own>, NoMemory>
     ensures all { IfOk result (λ room. vec_len room ≡ length script.now.operations) }
     ensures capacity { IfOk result (λ room. length script.now.operations ≤ vec_capacity room) }
@@ -97,8 +98,8 @@ fn make_capacity(alloc: Global, script: &Script) -> Result<Vec<Own>, NoMemory>
 }
 
 /// Takes the callers of a script off their bench, from the last to the first, each into a worker
-/// for the phases up to its stop. It answers the workers, and an empty list for the lines of all
-/// callers.
+/// for all its phases, up to its stop where it has one. It answers the workers, and an empty list
+/// for the lines of all callers.
 ///
 /// The list `passes` has the callers' passes, in order, and each worker gets an ending of the kind
 /// of `ending`. Where memory is lacking, no caller leaves the bench, and no pass the list.
@@ -136,7 +137,8 @@ pub fn start_all<'a, P: Program, T, E: Ending, A: Asks<Program = P, Pass = T>>(
     // There is one worker for each caller of the script.
     ensures all { IfOk result (λ r. vec_len r.0 ≡ length script.now.operations) }
     // The workers are those of the script's callers, the last caller's first. Each has its client,
-    // before its first phase, with the operations of its caller and the allotment up to its stop.
+    // before its first phase, with the operations of its caller and an allotment of all its phases,
+    // up to its stop where it has one.
     ensures workers { IfOk result (λ r. AreDownFrom (length script.now.operations)
         (IsStart P.meaning shared.now.rows.now E.says E.object (A.fits shared.now.asks.now) A.count
         (course_of script.now (run_allotments script.now) (E.object ending.now))) r.0.items) }

@@ -46,8 +46,8 @@ impl<'a, P: Program, T, E: Ending> Worker<'a, P, T, E> {
 
 /// Lets the workers of a script's callers make their phases in the order of the script's turns, in
 /// one thread. At each turn the worker of the caller that the turn names makes its next phase,
-/// unless the caller has reached its stop or is halted. One counter counts the steps of all
-/// callers.
+/// unless the caller has reached its stop or the end of its calls, or is halted. One counter counts
+/// the steps of all callers.
 pub fn take_turns<'a, P: Program, T, E: Ending, A: Asks<Program = P, Pass = T>, L: Ledger>(
     shared: &Shared<A, P>,
     script: &Script,
@@ -62,7 +62,8 @@ pub fn take_turns<'a, P: Program, T, E: Ending, A: Asks<Program = P, Pass = T>, 
     // There is one worker for each caller of the script.
     requires all { length workers.old.items ≡ length script.now.operations }
     // The workers are those of the script's callers, the last caller's first. Each has its client,
-    // before its first phase, with the operations of its caller and the allotment up to its stop.
+    // before its first phase, with the operations of its caller and an allotment of all its phases,
+    // up to its stop where it has one.
     requires workers { AreDownFrom (length script.now.operations)
         (IsStart P.meaning shared.now.rows.now E.says E.object (A.fits shared.now.asks.now) A.count
         (course_of script.now (run_allotments script.now) (E.object _ending.now)))
@@ -70,8 +71,8 @@ pub fn take_turns<'a, P: Program, T, E: Ending, A: Asks<Program = P, Pass = T>, 
     // There is still one worker for each caller of the script.
     ensures all { length workers.new.items ≡ length script.now.operations }
     // The workers are still those of the script's callers, the last caller's first. The client of
-    // each has made a phase for each turn that names its caller, up to its stop, or was halted
-    // before.
+    // each has made a phase for each turn that names its caller, up to its stop or the end of its
+    // calls, or was halted before.
     ensures workers { AreDownFrom (length script.now.operations)
         (IsSpent P.meaning shared.now.rows.now E.says E.object (A.fits shared.now.asks.now) A.count
         (course_of script.now (replay_allotments script.now) (E.object _ending.now)))

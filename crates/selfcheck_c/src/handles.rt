@@ -144,7 +144,8 @@ pub extern "C" fn selfcheck_answered(alloc: Global, slot: &mut Slot, reply: u64)
     // makes no further call.
     ensures unjudged { result ≡ NO_MEMORY →
         Ends reply CallAnswer.Unjudged (handle_in slot.old) (handle_in slot.new) }
-    // The status is `UNFIT` exactly where the slot has no caller that has announced a call.
+    // The status is `UNFIT` exactly where the slot has no caller with an announced call whose reply
+    // isn't handed in yet.
     ensures unfit { (result ≡ UNFIT) ↔ ¬ IsCallers HasAnnounced (handle_in slot.old) }
     // With `UNFIT` the handle is as it was.
     ensures unchanged { result ≡ UNFIT → handle_in slot.new ≡ handle_in slot.old }
@@ -160,10 +161,11 @@ pub extern "C" fn selfcheck_answered(alloc: Global, slot: &mut Slot, reply: u64)
 }
 
 /// Hands in the object's reply to the call that the slot's caller has announced, and publishes the
-/// call. It judges nothing: the table's monitors judge the call.
+/// call. It judges nothing: the judgement is left to the table's monitors.
 #[unsafe(no_mangle)]
 pub extern "C" fn selfcheck_publish(alloc: Global, slot: &mut Slot, reply: u64) -> u32
-    // The status is `DONE` exactly where the slot has a caller that has announced a call.
+    // The status is `DONE` exactly where the slot has a caller with an announced call whose reply
+    // isn't handed in yet.
     ensures when { (result ≡ DONE) ↔ IsCallers HasAnnounced (handle_in slot.old) }
     // With `DONE` the call is published with this reply, and nobody has judged it.
     ensures published { result ≡ DONE → Publishes reply (handle_in slot.old) (handle_in slot.new) }
@@ -221,14 +223,15 @@ pub extern "C" fn selfcheck_witness(
 ) -> u32
     // With `DONE` the text fits the buffer.
     ensures held { result ≡ DONE → written.new ≤ length buffer.new }
-    // With `DONE` the first `written` bytes of the buffer are the text of the book of the error,
-    // which has no legal order.
+    // With `DONE` the first `written` bytes of the buffer are the text of the book of the caller's
+    // error, or of the monitor's illegal round. This book has no legal order.
     ensures text { result ≡ DONE → Witnesses (handle_in slot.old) (take written.new buffer.new) }
     // With `DONE` the bytes of the buffer after the first `written` are as they were.
     ensures rest { result ≡ DONE → drop written.new buffer.new ≡ drop written.new buffer.old }
     // With `NO_ROOM` the count `written` is greater than the length of the buffer.
     ensures no_room { result ≡ NO_ROOM → length buffer.old < written.new }
-    // With `NO_ROOM` there is a text, `written` bytes long, of the book of the error.
+    // With `NO_ROOM` there is a text, `written` bytes long, of the book of the caller's error or of
+    // the monitor's illegal round.
     ensures unheld { result ≡ NO_ROOM → (wanted : List ℕ) × Witnesses (handle_in slot.old) wanted
         × (length wanted ≡ written.new) }
     // With `UNFIT` the slot has neither a caller whose last call was an error nor a monitor that

@@ -30,7 +30,7 @@ pub const LEGAL: u32 = 0;
 pub const ILLEGAL: u32 = 1;
 /// The bytes are no text of the wanted form.
 pub const REFUSED: u32 = 3;
-/// Memory was wanted.
+/// Memory was lacking.
 pub const NO_MEMORY: u32 = 6;
 /// The buffer is too short for the text that the call would write.
 pub const NO_ROOM: u32 = 8;

@@ -4,8 +4,8 @@ ghost use Rattle.selfcheck_c.specs.Refusals.{TellsFault};
 
 use book_base::{TextFault, What};
 
-/// Why a text was refused: the line that is wrong, counted from 1, and the number of what is wrong
-/// in it.
+/// Why a text was refused: the line of its first fault, counted from 1, and the number of what is
+/// wrong in this line.
 #[repr(C)]
 #[derive(Clone, Copy)]
 pub struct Refusal {

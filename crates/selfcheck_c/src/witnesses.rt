@@ -34,7 +34,7 @@ pub extern "C" fn selfcheck_smaller(
     // With `ILLEGAL` the text fits the buffer.
     ensures held { result ≡ ILLEGAL → written.new ≤ length buffer.new }
     // With `ILLEGAL` the first `written` bytes of the buffer are the text of a part of the book
-    // that has no legal order and that no rule makes smaller.
+    // that has no legal order, shows that the book has none either, and is made smaller by no rule.
     ensures smaller { result ≡ ILLEGAL → IsSmallerWitness text.now (take written.new buffer.new) }
     // With `ILLEGAL` the bytes of the buffer after the first `written` are as they were.
     ensures rest { result ≡ ILLEGAL → drop written.new buffer.new ≡ drop written.new buffer.old }
@@ -43,8 +43,8 @@ pub extern "C" fn selfcheck_smaller(
     ensures refused { result ≡ REFUSED → IsGivenRefusal text.now refusal.new }
     // With `NO_ROOM` the count `written` is greater than the length of the buffer.
     ensures no_room { result ≡ NO_ROOM → length buffer.old < written.new }
-    // With `NO_ROOM` there is a text of a part of the book that has no legal order and that no rule
-    // makes smaller, and it is `written` bytes long.
+    // With `NO_ROOM` there is a text, `written` bytes long, of a part of the book that has no legal
+    // order, shows that the book has none either, and is made smaller by no rule.
     ensures unheld { result ≡ NO_ROOM → (wanted : List ℕ) × IsSmallerWitness text.now wanted
         × (length wanted ≡ written.new) }
     // The status is `LEGAL`, `ILLEGAL`, `REFUSED`, `NO_MEMORY` or `NO_ROOM`.

@@ -5,8 +5,8 @@ use std::alloc::Global;
 /// How many moments past that of the forced call's view are looked at.
 const FAR: u64 = 32;
 
-/// A put of a value, with the moment of the first view that holds it; or a take of a value, with the
-/// moment of its own view.
+/// A put of a value, with the moment of the first view that holds it; or a take of a value, with
+/// the moment of its own view.
 #[derive(Clone, Copy, Debug, PartialEq, Eq, PartialOrd, Ord)]
 struct Dealt {
     value: u64,

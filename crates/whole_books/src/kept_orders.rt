@@ -27,7 +27,7 @@ fn two(first: u64, second: u64) -> Cut
 }
 
 // The first caller's enqueue of 5 has no answer. The second caller has made its first call and then
-// others, each of which has its answer and a view that holds the enqueue.
+// others. Each call of the second caller has its answer, and a view that holds the enqueue.
 fn half_answered(alloc: Global, first: (OpWord, u64), others: (OpWord, u64)) -> Result<Book, Fail>
     ensures { IfOk result (λ book. length book ≡ 2) }
 {

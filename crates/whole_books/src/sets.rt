@@ -3,9 +3,9 @@ use set_order::{Joins, SetVerdict, check_sets};
 use setbook_text::read_setbook;
 use std::test::Fail;
 
-// A set of three calls has one set before it and one after it. Of the two unanswered calls, the
-// join of 3 has to be in the set of three, whose replies have its number, and the join of 5 may be
-// left out.
+// A set of three calls has one set before it and one after it. A reply has one bit for each number
+// that was joined. The unanswered join of 3 has to be in the set of three, since the replies of
+// this set have the bit of 3. The unanswered join of 5 may be left out.
 #[test]
 fn three_calls_stand_in_one_set(rt: HostRuntime) -> Result<(), Fail> {
     let book = read_setbook(

@@ -13,7 +13,7 @@ use Rattle.lawful_objects.specs.declared.log_box.LogBox.{LogBox}
 use Rattle.lawful_objects.specs.Passes.{caller_of_pass, made_with, cap_of_pass, IsPassOf}
 
 module _ {P : Type 0} where
-  -- A caller has the number `i` at a table.
+  -- A caller belongs to a table, and has the number `i` there.
   pub record IsAt (meaning : P → ℕ → ℕ → Meaning) (r : Rows P) (i : ℕ) (c : Caller P) : Type 0 where
     pub caller : IsCallerOf meaning r c
     pub who : who_of c ≡ i

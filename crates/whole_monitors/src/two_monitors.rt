@@ -17,7 +17,7 @@ use std::thread::{Threads, join_mut};
 use world_core::{Outside, Program};
 
 // Makes one round of a monitor. The answer is whether the round was illegal, or `None` where memory
-// was wanted.
+// was lacking.
 fn look<L: Ledger>(
     alloc: Global,
     rows: &Rows,
@@ -69,7 +69,7 @@ enum Turns {
 }
 
 // Makes one round of each of two monitors. The answer is whether each round was illegal, or `None`
-// for a round where memory was wanted.
+// for a round where memory was lacking.
 fn make_rounds<K: Ledger + Send, L: Ledger + Send, R: Threads>(
     rt: &R,
     alloc: Global,

@@ -14,8 +14,8 @@ use std::thread::Threads;
 use work_halves::Work;
 use world_core::Outside;
 
-// A door, open or shut: a worker, which opens the door where the value that all workers share is
-// `true`.
+// A door as a worker: its work leaves the door open exactly where the value that all workers share
+// is `true`.
 #[derive(Drop)]
 struct Door {
     open: bool,

@@ -1,5 +1,5 @@
-//! Tests of whole runs: over a meeting of two callers, which tells whether their calls overlapped,
-//! and over the objects inside the world at their real sizes.
+//! Tests of whole runs: over a meeting, an object that replies `done` to both of its two callers
+//! only where their calls overlapped, and over the objects inside the world at their real sizes.
 #![tactic(auto)]
 
 #[cfg(test)]

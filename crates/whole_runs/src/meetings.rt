@@ -1,4 +1,6 @@
-//! Runs and replays over a meeting of two callers.
+//! Runs and replays over a meeting: an object of two callers, each of whom raises a flag and waits
+//! a while for the other one's flag. The reply is `done` where the other flag is found up, and else
+//! `bad`.
 ghost use Rattle.std.specs.Prelude.{◌≡◌, length};
 ghost use Rattle.run_report.specs.Passes.{AreUnusedPasses};
 
@@ -33,7 +35,8 @@ const MET: [&[u8]; 3] = [
 const MISSED: &str =
     "report 2\nobject queue\ncallers 2\ncalls 1 1\n0 0 enq 1 bad view 0:1 error seen 0:1\n1 0 enq 1 done view 0:1 1:1 error seen 0:1 1:1\nend\nbook 2\nobject queue\ncallers 2\ncalls 1 0\n0 0 enq 1 bad view 0:1\nend\n";
 
-// What is written of a run of a script's two callers at a meeting, each in a thread.
+// Runs a script's two callers over a meeting, each in a thread, and writes their report to `sink`.
+// The answer is the status.
 fn run_meeting<R: Threads + Sync>(
     rt: &R,
     alloc: Global,
@@ -47,7 +50,8 @@ fn run_meeting<R: Threads + Sync>(
     Ok(status)
 }
 
-// What is written of a replay of a script's two callers at a meeting.
+// Replays a script's two callers over a meeting by the script's turns, and writes their report to
+// `sink`. The answer is the status.
 fn replay_meeting(alloc: Global, script: &Script, sink: &mut MemorySink) -> Result<Status, NoMemory>
     requires { length script.now.operations ≡ 2 }
 {

@@ -38,7 +38,7 @@ fn only_calls_of_a_legal_order_have_numbers(rt: HostRuntime) -> Result<(), Fail>
     Ok(())
 }
 
-// Sixteen calls, of which one extends over the end of the first row, and one is open in both rows.
+// Sixteen calls: one extends over the end of the first row, and one is open in both rows.
 const SIXTEEN: &[u8] = b"book 2\nobject queue\ncallers 2\ncalls 15 1\n\
     0 0 enq 5 done view 0:1 1:1\n0 1 deq =5 view 0:2 1:1\n\
     0 2 enq 6 done view 0:3 1:1\n0 3 deq =6 view 0:4 1:1\n\
