@@ -12,13 +12,7 @@ pub enter-requires-clause-walk : goal.enter-requires-clause-walk
 enter-requires-clause-walk g c =
     let object = c.args.self.now.object.now in
     let old = c.args.walk.now in
-    let new : Walk = record {
-      frames = old.frames;
-      counts = old.counts;
-      here = old.here;
-      choices = c.pop.new.self;
-      memo = old.memo;
-    } in
+    let new : Walk = record old { choices = c.pop.new.self } in
     (walk-choose c.args.self.now.book.now c.args.self.now.prefix.now
     (g.S.SeqObject.spec object) old new c.in-Some.choice c.requires.walk c.in-Some.ensures.items
     refl refl refl refl).0
@@ -39,13 +33,7 @@ retreat-requires g c =
     let object = c.args.self.now.object.now in
     let spec = g.S.SeqObject.spec object in
     let old = c.args.walk.now in
-    let new : Walk = record {
-      frames = old.frames;
-      counts = old.counts;
-      here = old.here;
-      choices = c.pop.new.self;
-      memo = c.remember.new.self;
-    } in
+    let new : Walk = record old { choices = c.pop.new.self; memo = c.remember.new.self } in
     let none : old.choices.items ≡ [] =
     nil_from_length old.choices.items (let e = c.in-None.ensures.cases.0 in search rules) in
     let walk : IsWalk book c.args.self.now.prefix.now spec old [] = subst

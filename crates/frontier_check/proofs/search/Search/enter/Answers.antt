@@ -50,12 +50,9 @@ returns-then-remembers-clause-outcome g c =
     let spec = g.S.SeqObject.spec c.args.self.now.object.now in
     let old = c.args.walk.now in
     let e = c.step.ensures in
-    let new : Walk = record {
-      frames = c.step.new.walk.frames;
+    let new : Walk = record (c.step.new.walk) {
       counts = c.set_count.new.counts;
       here = c.copy_from.new.self;
-      choices = c.step.new.walk.choices;
-      memo = c.step.new.walk.memo;
     } in
     let made : List ℕ → ℕ → Contents = λ words room. record { words = words; room = room } in
     let there : Remembers old.memo (raised old.counts.items c.args.place.caller)
@@ -155,12 +152,9 @@ returns-in_ok-push-in-None-clause-outcome g c =
       words = c.in_ok-words.words;
       choices = c.replace-choices.result;
     } in
-    let new : Walk = record {
+    let new : Walk = record (c.step.new.walk) {
       frames = c.push.new.self;
-      counts = c.step.new.walk.counts;
-      here = c.step.new.walk.here;
       choices = c.replace-choices.new.dest;
-      memo = c.step.new.walk.memo;
     } in
     let deeper : IsDeeper book spec.next old new frame = record {
       frames = c.in_ok-push-in-None.ensures.items ∙ ap (λ v. v.items ++ frame ∷ []) e.frames;
@@ -189,12 +183,9 @@ returns-in_ok-push-in-Some-clause-outcome g c =
       words = c.in_ok-words.words;
       choices = c.replace-choices-in-Some.result;
     } in
-    let new : Walk = record {
+    let new : Walk = record (c.step.new.walk) {
       frames = c.push-in-Some.new.self;
-      counts = c.step.new.walk.counts;
-      here = c.step.new.walk.here;
       choices = c.replace-choices-in-Some.new.dest;
-      memo = c.step.new.walk.memo;
     } in
     let deeper : IsDeeper book spec.next old new frame = record {
       frames = c.in_ok-push-in-Some.ensures.items ∙ ap (λ v. v.items ++ frame ∷ []) e.frames;
