@@ -49,7 +49,7 @@ overtaken_early = caller_page (5 ∷ []) (answer 0 (1 ∷ 1 ∷ []) ∷ []) ∷ 
 abbrev pub overtaking : List Place
 overtaking = stand 1 0 0 ∷ stand 0 0 0 ∷ stand 0 1 6 ∷ []
 
--- an object that replies ten times the operation, and keeps nothing
+-- an object that replies ten times the operation, and leaves its list as it is
 abbrev pub tenfold_next : List ℕ → ℕ → List ℕ × ℕ
 tenfold_next list op = (list, 10 * op)
 

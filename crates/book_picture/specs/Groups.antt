@@ -13,11 +13,12 @@ is_of_no_group [] = false
 is_of_no_group (x ∷ []) = not (x == 103) && not (x == 47)
 is_of_no_group (x ∷ y ∷ rest) = not (x == 103) && not ((x == 47) && (y == 103))
 
--- Whether each '<' of the text belongs to no tag of a group, whatever follows the text.
+-- Whether each '<' of the text begins neither `<g` nor `</g`, whatever bytes follow the text.
 abbrev pub is_plain : List ℕ → Bool
 is_plain [] = true
 is_plain (x ∷ rest) = (not (x == 60) || is_of_no_group rest) && is_plain rest
 
--- The text `after` is `before` with a text appended that has no tag of a group.
+-- The text `after` is `before` with a text appended in which each '<' begins neither `<g` nor
+-- `</g`, whatever bytes follow that text.
 abbrev pub GrowsPlain : List ℕ → List ℕ → Type 0
 GrowsPlain before after = (text : List ℕ) × (is_plain text ≡ true) × (after ≡ before ++ text)

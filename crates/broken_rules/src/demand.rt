@@ -10,7 +10,8 @@ use crate::act::act_of;
 use book_base::{Book, Call};
 use seq_objects::Kind;
 
-/// What is asked of each call of a book, about a first call and a second call of it.
+/// What may be asked of each call of a book where two calls of this book are given: the first call
+/// and the second call.
 #[derive(Clone, Copy, Debug)]
 pub(crate) enum Demand {
     /// The puts of the first call's value come after the first call.

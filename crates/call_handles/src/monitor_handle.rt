@@ -42,8 +42,8 @@ impl MonitorHandle {
     ghost use Rattle.call_handles.specs.Callers.{every_reply};
     ghost use Rattle.call_handles.specs.Monitors.{rows_watched, kind_watched, monitor_in, IsSoundMonitor, IsOfSameWatch, MayJudge, HasFoundWrong, HasJudged, IsFoundWitness};
 
-    /// The handle of a caller of the table `rows`, which is between two calls, as a monitor. The
-    /// monitor judges by `kind`, and has made no round. It takes no memory.
+    /// Makes `caller`, a caller of the table `rows` that is between two calls, a monitor, and gives
+    /// its handle. The monitor judges by `kind`, and has made no round. No memory is taken.
     pub fn new(alloc: Global, rows: Arc<Rows, Global>, kind: Kind, caller: Caller) -> MonitorHandle
         // The caller belongs to `rows`.
         requires caller { IsCallerOf every_reply (arc_value rows) caller }
@@ -51,7 +51,7 @@ impl MonitorHandle {
         requires free { IsFree caller }
         // The handle is sound: its monitor, board and kept order fit one another.
         ensures sound { IsSoundMonitor result }
-        // The handle has these rows and this kind.
+        // The handle's table is `rows`, and its monitor judges by `kind`.
         ensures table { (rows_watched result ≡ arc_value rows) × (kind_watched result ≡ kind) }
         // The handle's monitor is `caller`.
         ensures caller { caller_of (monitor_in result) ≡ caller }

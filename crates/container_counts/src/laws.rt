@@ -11,8 +11,8 @@ pub fn takes_follow_puts()
 
 /// All that was put in before a take that finds nothing was taken out before it.
 pub fn finds_leave_nothing()
-    // Where more puts of some values have taken effect before any view holds a take that finds
-    // nothing than takes may have taken out by the take's own view, no container that begins empty
-    // has a legal order of the book.
+    // A take finds nothing, and no view up to a moment holds it. Where more puts of some values
+    // have taken effect by this moment than takes may have taken out by the moment of the take's
+    // own view, or by a later one, no container that begins empty has a legal order of the book.
     ensures { FindsLeaveNothing }
 {}

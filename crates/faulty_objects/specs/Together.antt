@@ -1,5 +1,6 @@
--- The transcripts of all callers of a split tally, of a one-pass queue and of a meeting, and the
--- one history of their accesses.
+-- What the transcripts of all callers and the one history of their accesses show of three objects:
+-- the split tally, whose increment is a load and a later store; the one-pass queue, whose dequeue
+-- goes through the places once; and the meeting.
 use Rattle.std.specs.Prelude.{◌≡◌, ◌≢◌, ℕ, ◌-◌, ◌%◌, ◌^◌, ◌⊎◌, Bool, true, false, List, [], ◌∷◌, ◌++◌, All, count_by}
 use Rattle.seq_objects.specs.Replies.{reply_none, reply_value}
 use Rattle.lawful_objects.specs.Forms.{cell_may}
@@ -9,8 +10,9 @@ use Rattle.shared_words.specs.Histories.{Access, access, IsLawfulHistory}
 use Rattle.shared_words.specs.Transcripts.{Transcript, AreOfOneHistory}
 use Rattle.faulty_objects.specs.Forms.{IsSplit, queue_may, item_index, IsOnePass, up, meeting_may, HasRaised, IsMeeting}
 
--- The calls of all n callers of a split tally are of this one history of loads and stores. Each
--- load found what the last store before it stored, or 0 where there is none.
+-- The transcripts are those of all n callers of a split tally, and this lawful history has just the
+-- loads and stores of their calls. Each load found the word that the last store before it stored,
+-- or 0 where there is none.
 pub record TellOneSplit (n : ℕ) (history : List Access)
     (transcripts : List Transcript) : Type 0 where
   pub told : AreOfOneHistory cell_may (λ _. IsSplit) n history transcripts
@@ -24,7 +26,8 @@ is_addition (Loaded place found) = false
 is_addition (Swapped place word found) = false
 
 -- Each addition to a one-pass queue's counter found the number of additions before it, modulo 2^64.
--- So the places are given in order, and each of them once where there are at most 2^64 additions.
+-- The number found is the place that an enqueue gets. So enqueues get the places in order, and no
+-- place twice where there are at most 2^64 additions.
 abbrev pub PlacesAreInOrder : List Access → Type 0
 PlacesAreInOrder history = (before rest : List Access) (who found : ℕ)
     → history ≡ before ++ access who (Added 0 1 found) ∷ rest
@@ -62,8 +65,9 @@ pub record IsGiven (who reply : ℕ) (history : List Access) : Type 0 where
 abbrev pub IsNoneOrGiven : ℕ → ℕ → List Access → Type 0
 IsNoneOrGiven who reply history = (reply ≡ reply_none) ⊎ IsGiven who reply history
 
--- The calls of all n callers of a one-pass queue with this many places are of this one history. The
--- counter gives the places in order, modulo 2^64, and each item that is taken was put in.
+-- The transcripts are those of all n callers of a one-pass queue with this many places, and this
+-- lawful history has just the accesses of their calls. The counter gives the places in order,
+-- modulo 2^64, and each item that is taken from a place was put there by the last access before.
 pub record TellOneQueue (places n : ℕ) (history : List Access)
     (transcripts : List Transcript) : Type 0 where
   pub told : AreOfOneHistory queue_may (λ _. IsOnePass places) n history transcripts
@@ -75,14 +79,16 @@ abbrev pub LoadsFindRaisedFlags : List Access → Type 0
 LoadsFindRaisedFlags history = (before rest : List Access) (who flag : ℕ)
     → history ≡ before ++ access who (Loaded flag up) ∷ rest → HasRaised flag before
 
--- The calls of all n callers of a meeting are of this one history. A flag is found up only after
--- the caller to whom it belongs has raised it.
+-- The transcripts are those of all n callers of a meeting, and this lawful history has just the
+-- accesses of their calls. A load finds a flag up only after the caller to whom the flag belongs
+-- has raised it.
 pub record TellOneMeeting (n : ℕ) (history : List Access)
     (transcripts : List Transcript) : Type 0 where
   pub told : AreOfOneHistory meeting_may (λ caller _. IsMeeting caller) n history transcripts
   pub raised : LoadsFindRaisedFlags history
 
--- In the history of a one-pass queue the counter gives the places in order, modulo 2^64.
+-- In each lawful history of a one-pass queue each addition to the counter found the number of
+-- additions before it, modulo 2^64.
 abbrev pub QueuesGivePlacesInOrder : Type 0
 QueuesGivePlacesInOrder = (history : List Access) → IsLawfulHistory queue_may history
     → PlacesAreInOrder history

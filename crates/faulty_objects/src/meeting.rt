@@ -31,9 +31,10 @@ impl Usage for Flags {
     ghost may = { meeting_may };
 }
 
-/// A meeting of two callers: each raises its own flag, and waits a while for the other one's flag
-/// to be up. It shows whether callers are at work at the same time: a caller whose call ends before
-/// the other caller's first call begins waits in vain, and its reply is `bad`.
+/// A meeting of two callers: each raises its own flag, which stays up, and waits a while for the
+/// other one's flag to be up. A call that ends before the other caller's first call begins waits in
+/// vain, and its reply is `bad`. So where the first call of each caller has the reply `done`, these
+/// two calls overlap.
 #[derive(Drop)]
 pub struct Meeting {
     pub(crate) words: SharedWords<Flags>,

@@ -3,8 +3,8 @@ use Rattle.std.specs.Prelude.{◌≡◌, ℕ, ◌*◌, ◌≤◌, [], vec_len, v
 use Rattle.lawful_objects.specs.declared.log_pass.Tools.{Tools}
 use Rattle.lawful_objects.specs.Scratches.{HasCapacity}
 
--- The tools of a new pass: no pair yet, with capacity for the pairs of all calls; and a scratch for
--- logs of n callers with cap calls each.
+-- The tools of a new pass: no pair yet, with capacity for `cap` pairs, one for each call of the
+-- pass's own caller; and a scratch for logs of n callers with `cap` calls each.
 pub record AreReady (n cap : ℕ) (t : Tools) : Type 0 where
   pub pairs : t.pairs.items ≡ []
   pub room : cap ≤ vec_capacity t.pairs

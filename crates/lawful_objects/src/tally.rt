@@ -90,7 +90,7 @@ impl Tally {
             × (cap_of_pass pass.new ≡ cap_of_pass pass.old) }
         // The pass's calls are those that it had, and then this operation with this reply.
         ensures pairs { pairs_in pass.new ≡ pairs_in pass.old ++ (op, result) ∷ [] }
-        // The reply is a value to the increment, and `bad` to any other operation.
+        // The reply to the increment is a value, and the reply to any other operation is `bad`.
         ensures form { IsTallyReply op result }
         // The history that the pass knew before the call is a prefix of the one that it knows after
         // it.
@@ -112,9 +112,9 @@ impl Tally {
             ≡ range_with_len 0 (callers_of self.word) }
         // Each pass belongs to this tally.
         requires own { All (IsTallyPass self) passes.items }
-        // The passes are of one history of increments. The history has as many increments as the
-        // passes have calls of the increment, each found the number of those before it, and the
-        // word is left as the number of all, modulo 2^64.
+        // The passes are of one history, which has just the increments of their calls. Each
+        // increment found the number of those before it, and the word ends as the number of all
+        // increments, both modulo 2^64.
         ensures history { (history : List Access)
             × TellOneTally (callers_of self.word) history (map transcript_of passes.items) }
     {

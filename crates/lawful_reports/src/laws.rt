@@ -15,8 +15,9 @@ pub fn witnesses_have_no_order()
     ensures { WitnessesHaveNoOrder }
 {}
 
-/// Where a line of a lawful report is an error, no run that ends with the report's calls has a
-/// linearizable object history (Herlihy and Wing 1990).
+/// Where a line of a lawful report is an error, a run at whose end the callers have made just the
+/// report's calls, each as far as the report says, has no linearizable object history (Herlihy and
+/// Wing 1990).
 pub fn no_run_leaves_an_error()
     ensures { NoRunLeavesAnError }
 {}

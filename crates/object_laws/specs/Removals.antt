@@ -9,11 +9,13 @@ use Rattle.seq_objects.specs.Replies.{reply_none, reply_value}
 use Rattle.seq_objects.specs.Readings.{value_of, shown_value, queue_reading, stack_reading}
 use Rattle.object_laws.specs.Runs.{IsRunOfKind, does}
 
--- The values that some steps put in, in the order of the steps.
+-- The values that some steps put in, in the order of the steps. A step is an operation word with
+-- its reply.
 abbrev pub put_in : Reading → List (ℕ × ℕ) → List ℕ
 put_in reading steps = filter_map (put_by reading) steps
 
--- The values that some steps give out, in the order of the steps.
+-- The values that some steps give out, in the order of the steps. A step is an operation word with
+-- its reply.
 abbrev pub given_out : Reading → List (ℕ × ℕ) → List ℕ
 given_out reading steps = filter_map (taken_by reading) steps
 
@@ -56,8 +58,9 @@ pub record IsNewest (steps : List (ℕ × ℕ)) (value : ℕ) : Type 0 where
   pub puts : put_by stack_reading push ≡ Some value
   pub even : AreEven later
 
--- A pop gives the newest value on the stack, or none where the steps before it give out as many
--- values as they put in, and no prefix of them gives out more than it puts in.
+-- The reply to a pop after some steps gives the newest value on the stack after these steps. Or it
+-- is `none`: then the steps give out as many values as they put in, and no prefix of them gives out
+-- more than it puts in.
 abbrev pub GivesTheNewest : List (ℕ × ℕ) → ℕ → Type 0
 GivesTheNewest before reply = ((reply ≡ reply_none) × AreEven before)
     ⊎ ((value : ℕ) × (reply ≡ reply_value value) × IsNewest before value)

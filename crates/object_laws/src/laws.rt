@@ -69,12 +69,13 @@ pub fn priority_queues_give_the_least()
 /// A value that is taken was put in before, more often than it was given out before. So each value
 /// comes out at most as often as it was put in.
 pub fn takes_take_what_was_put()
-    // A dequeue of a queue gives a value that was put in before it more often than it was given
-    // out.
+    // Where a dequeue of a queue gives a value, this value was put in before the dequeue more often
+    // than it was given out before.
     ensures queues { TakesTakeWhatWasPut kinds.Queue queue_reading }
-    // A pop of a stack gives a value that was put in before it more often than it was given out.
+    // Where a pop of a stack gives a value, this value was put in before the pop more often than it
+    // was given out before.
     ensures stacks { TakesTakeWhatWasPut kinds.Stack stack_reading }
-    // A `min` of a priority queue gives a value that was put in before it more often than it was
-    // given out.
+    // Where a `min` of a priority queue gives a value, this value was put in before the `min` more
+    // often than it was given out before.
     ensures pqueues { TakesTakeWhatWasPut kinds.Pqueue pqueue_reading }
 {}

@@ -20,8 +20,8 @@ pub fn increments_are_counted()
         ∷ Returned (call_of 0 0) (value 1) ∷ Returned (call_of 1 0) (value 0) ∷ [] }
     // The steps of one caller that increments alone are a run.
     ensures alone { IsRun tally_alone counted_alone }
-    // Before a caller has added, the tally refuses it another sum, a step that finds another word
-    // than the tally has, and the replies 0 and `bad`.
+    // Before a caller has added 1, the tally refuses it a step that adds 2, one that adds nothing,
+    // one that finds another word than the tally has, and the replies 0 and `bad`.
     ensures before { IsTrue (refuses_in tally_pair both_increments refused_before_adding) }
     // The tally allows both callers to add 1 to the word found.
     ensures adds { IsTrue (allows_in tally_pair both_increments
@@ -38,14 +38,14 @@ pub fn increments_are_counted()
 pub fn writes_are_read()
     // The steps of a write of 9 and a read of it are a run.
     ensures run { IsRun cell_pair written_and_read }
-    // The word of the cell is 9 after the write.
+    // The word of the cell is 9 after the write and the read.
     ensures word { object_word cell_pair (end_of cell_pair written_and_read) 0 ≡ 9 }
     // The history has both invocations, then the read's return with 9, and the write's with done.
     ensures history { history_of cell_pair written_and_read
         ≡ Invoked (call_of 0 0) write_nine ∷ Invoked (call_of 1 0) read
         ∷ Returned (call_of 1 0) (value 9) ∷ Returned (call_of 0 0) done ∷ [] }
-    // Before its step a call gets no reply from the cell; a write may store nothing but its
-    // argument, and a read may not change the word.
+    // Before the steps of a write of 9 and a read, the cell refuses the write a step that stores 8
+    // or the whole operation word, the read a step that stores 9, and both of them a reply.
     ensures before { IsTrue (refuses_in cell_pair write_and_read refused_before_writing) }
     // The cell allows the write to store its argument, and the read to leave the word.
     ensures steps { IsTrue (allows_in cell_pair write_and_read

@@ -81,7 +81,8 @@ pub fn codes_of_statuses()
     ensures no_memory { code_of statuses.NoMemory ≡ 6 }
 {}
 
-/// The operations that faulty machines take for puts and for takes, by the table of operations.
+/// Which operations of the eight kinds faulty machines count as puts, which as takes, and which as
+/// neither.
 pub fn codes_of_puts_and_takes()
     // An enqueue, a push, a write, an increment, an add, an insert and a put are puts.
     ensures puts { ArePuts (words.enq ∷ words.push ∷ words.write ∷ words.inc
@@ -97,7 +98,7 @@ pub fn codes_of_puts_and_takes()
 pub fn late_puts_wait()
     // A caller's put is made before that caller's next take.
     ensures own { late_text ((0, words.enq, 7) ∷ (0, words.deq, 0) ∷ []) ≡ codes "=7" }
-    // A caller's put isn't made before another caller's take.
+    // A caller's put isn't made yet when another caller's take comes right after it.
     ensures other { late_text ((0, words.enq, 7) ∷ (1, words.deq, 0) ∷ []) ≡ codes "none" }
     // A caller's first put is made before another caller's take once the caller has made its second
     // put.

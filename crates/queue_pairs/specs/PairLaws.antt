@@ -7,7 +7,8 @@ use Rattle.book_base.specs.Pruning.{HasOneOpen}
 use Rattle.history_rules.specs.Container.{Reading, IsQueue}
 use Rattle.queue_pairs.specs.Pairs.{HasPairs}
 
--- A valid book with one open of a queue that begins empty has pairs where it has a legal order.
+-- Where a valid book with one open has a legal order for a queue that begins empty, the book has
+-- pairs: some steps lead from the standing that covers no call to one that is whole.
 abbrev pub LegalOrdersHavePairs : Type 0
 LegalOrdersHavePairs =
     (reading : Reading) (spec : SeqSpec) (book : List Page)

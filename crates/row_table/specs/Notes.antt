@@ -23,8 +23,8 @@ phase_in local.Viewing = Viewing
 phase_in local.Publishing = Publishing
 phase_in local.Judging = Judging
 
--- What a caller keeps of a scan under way: the state of the scan after the words that it took, and
--- whether the scan is the view's.
+-- What caller `me` of n keeps of a scan under way: the state of the scan after the words that the
+-- scan has taken, and whether it is the scan for the view of the caller's call.
 abbrev pub under_way : ℕ → ℕ → Scan → ScanUnderWay
 under_way n me scan = record { core = standing n me scan.region scan.taken; is_view = scan.is_view }
 

@@ -42,7 +42,7 @@ stack_deed (Some Pop) = Takes
 stack_deed None = Neither
 
 -- How a stack is read: a push puts in, a pop takes out, and the values of a list are those of its
--- words, the one that was pushed last first.
+-- words, from the word at its end, which was pushed last, to its first word.
 abbrev pub stack_reading : Reading
 stack_reading = record {
   deed = λ word. stack_deed (stack_operation word);

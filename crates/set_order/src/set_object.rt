@@ -43,8 +43,9 @@ pub trait SetObject {
         // The capacity of the replies doesn't change.
         ensures replies { replies.new.room ≡ replies.old.room };
 
-    /// Whether an operation may still get this reply, alone or beside others, at this list or after
-    /// more is served. An object that leaves this out rules out no reply.
+    /// Answers `false` only where an operation can't get this reply any more, alone or beside
+    /// others, at this list or after more is served. An object that doesn't define this function
+    /// always answers `true`.
     fn may_reply(&self, state: &State, op: OpWord, reply: u64) -> bool
         // The answer is `false` only where the operation never gets this reply, at this list or
         // after more is served.

@@ -23,10 +23,12 @@ Lacks list v = AllByRecursion (λ x. x ≢ v) list
 abbrev pub EndsWith : List ℕ → ℕ → Type 0
 EndsWith list v = (below : List ℕ) × (list ≡ below ++ v ∷ [])
 
--- An object that gives its last value first: a put adds its value, below a bound, at the end; a
--- take gives out the last item, or shows nothing at the empty list; and an operation that does
--- neither doesn't change the list. An operation that is no take has the same reply at each list,
--- all takes are one operation, and a value is shown by one reply.
+-- An object that gives its last value first. A put adds its value, which is below a bound, at the
+-- list's end; an operation that is neither a put nor a take leaves the list as it is; and the reply
+-- to an operation that is no take is the same at each list. A take removes the last item, and its
+-- reply shows the item, if this is below the bound; at the empty list it changes nothing, and its
+-- reply shows no value. At most one operation word is a take, and at most one reply word shows a
+-- given value.
 pub record GivesLastFirst (reading : Reading) (next : List ℕ → ℕ → List ℕ × ℕ)
     (bound : ℕ) : Type 0 where
   pub small : (op v : ℕ) → reading.deed op ≡ Puts v → v < bound
@@ -94,9 +96,8 @@ pub record PutsKept (reading : Reading) (book : List Page) (cut list : List ℕ)
   pub below : AllByRecursion (IsKept reading book cut) list
   pub never_empty : IsNeverEmpty reading book cut
 
--- The next call of a caller puts in a value that isn't the one that some take shows, or one that is
--- the last item of the list already. What the take shows is `shown`: a value, or `None` where it
--- finds nothing.
+-- The next call of a caller puts in some value, and the list ends with this value already, or the
+-- value isn't what some take shows (`shown`; `None` where that take finds nothing).
 abbrev pub PutsNeedless : Reading → List Page → List ℕ → List ℕ → Option ℕ → ℕ → Type 0
 PutsNeedless reading book cut list shown caller = (value : ℕ)
     × PutsIn reading book (next_call cut caller) value
@@ -109,19 +110,20 @@ pub record IsItem (reading : Reading) (book : List Page) (cut : List ℕ) (bound
   pub puts : PutsIn reading book put v
   pub inside : Holds cut put
 
--- A list after a cut has a top: it ends with the top's last word, where there is one; each item is
--- below a bound and put in by some call of the cut; and where the top says that the items are kept,
--- no answered call outside the cut takes any of them.
+-- What `top` says of a list after a cut is right: the list ends with `top.last`, if that is a word,
+-- and where `top.kept` is true, no answered call outside the cut takes an item of the list.
+-- Besides, each item is below a bound and put in by some call of the cut.
 pub record HasTop (reading : Reading) (book : List Page) (cut : List ℕ) (bound : ℕ) (top : Top)
     (list : List ℕ) : Type 0 where
   pub last : IfSome top.last (EndsWith list)
   pub items : AllByRecursion (IsItem reading book cut bound) list
   pub kept : IsTrue top.kept → AllByRecursion (IsKept reading book cut) list
 
--- Two lists of words, `ends` and `others`, stand for a list after a cut: the list ends with the
--- last word of `ends`, if there is one; the list lacks each value that isn't among `others` and
--- that a caller's next call, and no other call, puts in; and, where `look` is true, no answered
--- call outside the cut takes an item of the list if none takes one of `others`.
+-- What two lists of words, `ends` and `others`, tell of a list after a cut is right. The list ends
+-- with the last word of `ends`, if there is one. A value that one call of the book alone puts in,
+-- where this is a caller's next call, isn't in the list unless it is in `others`. And where `look`
+-- is true: if no answered call outside the cut takes an item of `others`, none takes an item of the
+-- list.
 pub record StandFor (reading : Reading) (book : List Page) (cut ends others : List ℕ) (look : Bool)
     (list : List ℕ) : Type 0 where
   pub last : (v : ℕ) → EndsWith ends v → EndsWith list v

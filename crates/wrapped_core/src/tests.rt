@@ -14,7 +14,8 @@ use std::thread::Threads;
 const THREE_CALLS: &[u8] =
     b"script 2\nobject counter\ncallers 1\ncalls 3\n0 0 inc\n0 1 #8589934592\n0 2 inc\nturns\nend\n";
 
-// The report of a script's callers who take tickets from one dispenser.
+// Runs a script over one dispenser, whose first ticket has the number `first`, and gives the run's
+// report.
 fn take_tickets<R: Threads + Sync>(
     rt: &R,
     alloc: Global,
