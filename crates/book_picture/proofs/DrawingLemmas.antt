@@ -1,17 +1,14 @@
 -- What can be drawn of a book, and the elements that are drawn one after the other.
-use Rattle.std.proofs.Common.{◌≡◌, ℕ, ◌<◌, ◌∙◌, List, Vec, [], ◌∷◌, ◌++◌, length, get_or, take, Some, refl, sym, ap, subst, ◌+◌, inl, inr, slice_get, append_assoc, option_map, arith}
-use Rattle.std.proofs.lemmas.Bool.{cases_lt}
+use Rattle.std.proofs.Common.{◌≡◌, ℕ, ◌<◌, ◌∙◌, List, Vec, [], ◌∷◌, ◌++◌, length, get_or, take, Some, refl, sym, ap, subst, ◌+◌, slice_get, append_assoc, option_map}
 use Rattle.std.proofs.lemmas.Option.{slice_get-map, slice_get-get_or, slice_get_read, get_or_from_slice_get}
 use Rattle.std.proofs.lemmas.List.{append-nil, map-append, take_more}
 use Rattle.std.specs.declared.alloc.Global.{Global}
-use Rattle.book_base.specs.declared.call.Call.{Call}
-use Rattle.book_base.specs.Book.{Page, answers_of}
+use Rattle.book_base.specs.Book.{Page, IsCall}
 use Rattle.sketch.specs.declared.event.Event.{Event}
 use Rattle.call_intervals.specs.declared.interval.Interval.{Interval}
 use Rattle.call_intervals.specs.Intervals.{StandsOn, AreTold, rows_of}
-use Rattle.book_picture.specs.declared.row.Row.{Row}
-use Rattle.book_picture.specs.Sheets.{IsDrawable, AreDrawable, AreAllDrawable}
-use Rattle.book_picture.specs.Elements.{IsElementOf, AreElementsOf, AreLanesElements}
+use Rattle.book_picture.specs.Sheets.{AreDrawable, AreAllDrawable}
+use Rattle.book_picture.specs.Elements.{AreElementsOf, AreLanesElements}
 
 -- the row of the lane at place i is this lane's items
 row_at : (lanes : List (Vec Interval Global)) (i : ℕ) (lane : Vec Interval Global)
@@ -41,28 +38,20 @@ drawable_lane book lanes i lane items less here same all =
 
 -- an interval at a place of a lane can be drawn
 pub drawable_at : (book : List Page) (lane : List Interval) (i : ℕ) (d : Interval) → i < length lane
-    → AreDrawable book lane → IsDrawable book (get_or lane i d)
+    → AreDrawable book lane → IsCall book (get_or lane i d).call
 drawable_at book lane i d less all = all i (get_or lane i d) (slice_get-get_or lane i d less)
 
 -- the intervals of a book's events can be drawn
 pub told_is_drawable : (book : List Page) (events : List Event) (lanes : List (List Interval))
     → AreTold book events lanes → AreAllDrawable book lanes
-told_is_drawable book events lanes told caller k interval at =
-    let is = told caller k interval at in
-    record {
-      call = is.call;
-      answered = elim (cases_lt interval.call.number (answers_of book interval.call.caller)) [
-        | inl answered ↦ inr answered
-        | inr open_is ↦ inl (is.open_is.1 (λ answered. absurd (omega (arith, answered))))
-      ];
-    }
+told_is_drawable book events lanes told caller k interval at = (told caller k interval at).call
 
-module _ (class : Call → List ℕ) (rows : List Row) where
+module _ (is_element : Interval → List ℕ → Type 0) where
   -- the elements of a lane and then that of one more interval are those of the lane with this
   -- interval
   elements_more : (lane : List Interval) (interval : Interval) (text more : List ℕ)
-      → AreElementsOf class rows lane text → IsElementOf class rows interval more
-      → AreElementsOf class rows (lane ++ interval ∷ []) (text ++ more)
+      → AreElementsOf is_element lane text → is_element interval more
+      → AreElementsOf is_element (lane ++ interval ∷ []) (text ++ more)
   elements_more [] interval text more none is =
       (more, [], is, refl, ap (λ (t : List ℕ). t ++ more) none ∙ sym (append-nil more))
   elements_more (x ∷ xs) interval text more (first, rest, has, are, e) is = (
@@ -75,8 +64,8 @@ module _ (class : Call → List ℕ) (rows : List Row) where
 
   -- the elements of some lanes and then those of one more are those of the lanes with this one
   lanes_elements_more : (lanes : List (List Interval)) (lane : List Interval) (text more : List ℕ)
-      → AreLanesElements class rows lanes text → AreElementsOf class rows lane more
-      → AreLanesElements class rows (lanes ++ lane ∷ []) (text ++ more)
+      → AreLanesElements is_element lanes text → AreElementsOf is_element lane more
+      → AreLanesElements is_element (lanes ++ lane ∷ []) (text ++ more)
   lanes_elements_more [] lane text more none is =
       (more, [], is, refl, ap (λ (t : List ℕ). t ++ more) none ∙ sym (append-nil more))
   lanes_elements_more (x ∷ xs) lane text more (first, rest, has, are, e) is = (
@@ -89,25 +78,25 @@ module _ (class : Call → List ℕ) (rows : List Row) where
 
   -- the first i elements of a lane and then that of interval i are its first i + 1 elements
   pub elements_turn : (lane : List Interval) (i : ℕ) (d : Interval) (text more : List ℕ)
-      → i < length lane → AreElementsOf class rows (take i lane) text
-      → IsElementOf class rows (get_or lane i d) more
-      → AreElementsOf class rows (take (i + 1) lane) (text ++ more)
+      → i < length lane → AreElementsOf is_element (take i lane) text
+      → is_element (get_or lane i d) more
+      → AreElementsOf is_element (take (i + 1) lane) (text ++ more)
   elements_turn lane i d text more less are is =
-      subst (λ (xs : List Interval). AreElementsOf class rows xs (text ++ more))
+      subst (λ (xs : List Interval). AreElementsOf is_element xs (text ++ more))
       (sym (take_more lane i d less))
       (elements_more (take i lane) (get_or lane i d) text more are is)
 
   -- the elements of the first i lanes and then those of lane i are those of the first i + 1 lanes
   pub lanes_turn : (lanes : List (Vec Interval Global)) (i : ℕ) (lane : Vec Interval Global)
       (text more : List ℕ) → i < length lanes → lane ≡ get_or lanes i lane
-      → AreLanesElements class rows (rows_of (take i lanes)) text
-      → AreElementsOf class rows lane.items more
-      → AreLanesElements class rows (rows_of (take (i + 1) lanes)) (text ++ more)
+      → AreLanesElements is_element (rows_of (take i lanes)) text
+      → AreElementsOf is_element lane.items more
+      → AreLanesElements is_element (rows_of (take (i + 1) lanes)) (text ++ more)
   lanes_turn lanes i lane text more less here are is =
       let items : Vec Interval Global → List Interval = λ v. v.items in
       let grown : take (i + 1) lanes ≡ take i lanes ++ lane ∷ [] = take_more lanes i lane less
       ∙ ap (λ (v : Vec Interval Global). take i lanes ++ v ∷ []) (sym here) in
       let listed : rows_of (take (i + 1) lanes) ≡ rows_of (take i lanes) ++ lane.items ∷ [] =
       ap rows_of grown ∙ map-append items (take i lanes) (lane ∷ []) in
-      subst (λ (ls : List (List Interval)). AreLanesElements class rows ls (text ++ more))
+      subst (λ (ls : List (List Interval)). AreLanesElements is_element ls (text ++ more))
       (sym listed) (lanes_elements_more (rows_of (take i lanes)) lane.items text more are is)

@@ -1,9 +1,10 @@
 -- Texts that have no group, whatever follows them.
-use Rattle.std.proofs.Common.{◌≡◌, ◌≢◌, ℕ, suc, ◌<◌, ◌^◌, Bool, true, false, not, ◌&&◌, ◌||◌, ◌==◌, List, [], ◌∷◌, ◌++◌, length, get_or, codes, decimal, Option, Some, None, Result, Ok, Err, refl, sym, ap, ◌∙◌, append_assoc, inl, inr, arith}
+use Rattle.std.proofs.Common.{◌≡◌, ◌≢◌, ℕ, suc, ◌<◌, ◌^◌, Bool, true, false, not, ◌&&◌, ◌||◌, ◌==◌, List, [], ◌∷◌, ◌++◌, length, get_or, take, ◌+◌, codes, decimal, Option, Some, None, Result, Ok, Err, refl, sym, ap, subst, ◌∙◌, append_assoc, inl, inr, arith}
 use Rattle.std.specs.Prelude.{OnOk}
 use Rattle.std.specs.Char.{encode_utf8}
 use Rattle.std.proofs.lemmas.Bool.{cases_Bool, and_parts, and_from, cond_both, eqb-false, ne_eqb, both_ways}
-use Rattle.std.proofs.lemmas.List.{append-nil}
+use Rattle.std.specs.List.{flat_map}
+use Rattle.std.proofs.lemmas.List.{append-nil, take_more, flat_map_more}
 use Rattle.std.proofs.lemmas.Str.{inside_one}
 use Rattle.list_laws.proofs.FirstMarks.{decimal-Lacks}
 use Rattle.seq_objects.specs.declared.kind.Kind.{Kind}
@@ -11,11 +12,13 @@ use Rattle.seq_objects.specs.declared.kind.Kind.TheVariants as kinds
 use Rattle.seq_objects.specs.Words.{kind_name}
 use Rattle.book_base.specs.declared.call.Call.{Call}
 use Rattle.book_picture.specs.declared.marked_calls.MarkedCalls.{MarkedCalls}
-use Rattle.book_picture.specs.Elements.{GrowsByBar}
+use Rattle.book_picture.specs.declared.sheet.Bar.{Bar}
+use Rattle.book_picture.specs.Bars.{outline_class, outline_close, outline_at, badge_at}
 use Rattle.book_picture.specs.Escape.{escape_of, escaped}
 use Rattle.book_picture.specs.Groups.{HasNoGroup, is_of_no_group, is_plain, GrowsPlain}
 use Rattle.book_picture.specs.declared.sheet.TheConstants.{STYLE}
-use Rattle.book_picture.specs.Titles.{line_text, title, error_text, error_line, first_lines, opening, IsOpening, GrowsByLines, SaysFirst}
+use Rattle.book_picture.specs.Titles.{line_text, title, error_text, error_line, first_lines, opening, notes_with, notes_text}
+use Rattle.book_picture.specs.Heads.{lane_at}
 
 -- bytes that begin no tag of a group begin none whatever follows them
 still_of_none : (a b : List ℕ) → is_of_no_group a ≡ true → is_of_no_group (a ++ b) ≡ true
@@ -132,24 +135,40 @@ has_no_group text plain = record {
 
 -- ---- texts that grow
 
-pub grows_nothing : (text : List ℕ) → GrowsPlain text text
-grows_nothing text = ([], refl, sym (append-nil text))
+pub grows_nothing : (text : List ℕ) → GrowsPlain [] text text
+grows_nothing text = record { plain = refl; grown = sym (append-nil text) }
 
-pub grows_then : (a b d : List ℕ) → GrowsPlain a b → GrowsPlain b d → GrowsPlain a d
-grows_then a b d h k = (
-  h.0 ++ k.0,
-  plain-append h.0 k.0 h.1 k.1,
-  k.2 ∙ ap (λ (t : List ℕ). t ++ k.0) h.2 ∙ append_assoc a h.0 k.0,
-)
+-- a text grown by one text and then by another has grown by both
+pub grows_then : (s t a b d : List ℕ) → GrowsPlain s a b → GrowsPlain t b d
+    → GrowsPlain (s ++ t) a d
+grows_then s t a b d h k = record {
+  plain = plain-append s t h.plain k.plain;
+  grown = k.grown ∙ ap (λ (u : List ℕ). u ++ t) h.grown ∙ append_assoc a s t;
+}
 
--- a text grown by a line of text has grown by a plain text
+-- a text that has grown by a line of text
 pub grows_line : (a b class text : List ℕ) (x y : ℕ) → is_plain class ≡ true → x < 2 ^ 64
-    → y < 2 ^ 64 → b ≡ a ++ line_text class x y text → GrowsPlain a b
+    → y < 2 ^ 64 → b ≡ a ++ line_text class x y text → GrowsPlain (line_text class x y text) a b
 grows_line a b class text x y word across down e =
-    (line_text class x y text, plain_line class x y text word across down, e)
+    record { plain = plain_line class x y text word across down; grown = e }
+
+-- a text that has grown by the texts of the first i items, and then by that of item i, has grown by
+-- those of the first i + 1 items
+pub flat_turn : {X : Type 0} (f : X → List ℕ) (xs : List X) (i : ℕ) (x : X) (a b d : List ℕ)
+    → i < length xs → x ≡ get_or xs i x → GrowsPlain (flat_map f (take i xs)) a b
+    → GrowsPlain (f x) b d → GrowsPlain (flat_map f (take (i + 1) xs)) a d
+flat_turn {X = X} f xs i x a b d less here h k =
+    let grown : take (i + 1) xs ≡ take i xs ++ x ∷ [] =
+    take_more xs i x less ∙ ap (λ (y : X). take i xs ++ y ∷ []) (sym here) in
+    subst (λ (t : List ℕ). GrowsPlain t a d)
+    (flat_map_more f [] (take i xs) x ∙ ap (flat_map f) (sym grown))
+    (grows_then (flat_map f (take i xs)) (f x) a b d h k)
+
+-- ---- parts of a picture
 
 pub plain_opening : (width height : ℕ) → width < 2 ^ 64 → height < 2 ^ 64
     → is_plain (opening width height) ≡ true
+unfolding opening
 plain_opening width height across down =
     let ground : List ℕ =
     STYLE.now ++ codes "<rect width=\"100%\" height=\"100%\" fill=\"#ffffff\"/>\n" in
@@ -176,72 +195,85 @@ plain_first_lines legal marks error =
     (plain_line (codes "title") 12 24 (title legal marks) refl (omega arith) (omega arith))
     (plain_error error)
 
-pub plain_from : (a b : List ℕ) → a ≡ [] → GrowsPlain a b → is_plain b ≡ true
-plain_from a b e h = ap is_plain (h.2 ∙ ap (λ (t : List ℕ). t ++ h.0) e) ∙ h.1
+pub plain_notes : (kind : Kind) → is_plain (notes_text kind) ≡ true
+unfolding notes_with
+plain_notes kind = plain_number 12 _ (omega arith) (plain-append (kind_name kind) _
+    (plain_kind kind) (plain_number 12 _ (omega arith) refl))
+
+pub plain_lane : (middle base right caller : ℕ) → middle < 2 ^ 64 → base < 2 ^ 64 → right < 2 ^ 64
+    → caller < 2 ^ 64 → is_plain (lane_at middle base right caller) ≡ true
+unfolding lane_at
+plain_lane middle base right caller m b r n =
+    plain_number middle _ m (plain_number right _ r (plain_number middle _ m
+    (plain_number 12 _ (omega arith) (plain_number base _ b (plain_number caller _ n refl)))))
+
+plain_class : (bar : Bar) → is_plain (outline_class bar) ≡ true
+plain_class bar =
+    let P : List ℕ → Type 0 = λ text. is_plain text ≡ true in
+    cond_both {A = List ℕ} (not bar.begins && not bar.ends) (codes " through") _ P (λ _. refl)
+    (λ _. cond_both {A = List ℕ} bar.is_open (codes " open") _ P (λ _. refl) (λ _. refl))
+
+plain_close : (bar : Bar) → is_plain (outline_close bar) ≡ true
+plain_close bar =
+    let P : List ℕ → Type 0 = λ text. is_plain text ≡ true in
+    cond_both {A = List ℕ} ((bar.begins && not bar.ends) || (not bar.begins && bar.ends)) [] _ P
+    (λ _. refl) (λ _. refl)
+
+-- the outline of a bar, by its coordinates
+pub plain_outline : (bar : Bar) (start top turn bottom : ℕ) → start < 2 ^ 64 → top < 2 ^ 64
+    → turn < 2 ^ 64 → bottom < 2 ^ 64
+    → is_plain (outline_at (outline_class bar) start top turn bottom (outline_close bar)) ≡ true
+unfolding outline_at
+plain_outline bar start top turn bottom s t u b =
+    let class : List ℕ = outline_class bar in
+    let close : List ℕ = outline_close bar in
+    let from_last : List ℕ = close ++ codes "\"/>\n" in
+    let from_bottom : List ℕ = codes " H " ++ (decimal start ++ from_last) in
+    let from_turn : List ℕ = codes " V " ++ (decimal bottom ++ from_bottom) in
+    let from_top : List ℕ = codes " H " ++ (decimal turn ++ from_turn) in
+    let from_start : List ℕ = codes " " ++ (decimal top ++ from_top) in
+    let path : List ℕ = codes "\" d=\"M " ++ (decimal start ++ from_start) in
+    plain-append (codes "<path class=\"bar") (class ++ path) refl
+    (plain-append class path (plain_class bar)
+    (plain_number start from_start s
+    (plain_number top from_top t
+    (plain_number turn from_turn u
+    (plain_number bottom from_bottom b
+    (plain_number start from_last s
+    (plain-append close (codes "\"/>\n") (plain_close bar) refl)))))))
+
+pub plain_badge : (x y base number : ℕ) → x < 2 ^ 64 → y < 2 ^ 64 → base < 2 ^ 64
+    → number < 2 ^ 64 → is_plain (badge_at x y base number) ≡ true
+unfolding badge_at
+plain_badge x y base number across down below small =
+    plain_number x _ across (plain_number y _ down (plain_number x _ across
+    (plain_number base _ below (plain_number number _ small refl))))
 
 -- what follows from a fact on success holds on success
 pub on_ok : {T E : Type 0} (r : Result T E) (P Q : Type 0) → OnOk r P → (P → Q) → OnOk r Q
 on_ok (Ok x) P Q h f = f h
 on_ok (Err e) P Q h f = h
 
--- a text grown by a bar, and then by a plain text, has grown by a bar
-pub bar_then : (a b d : List ℕ) → GrowsByBar a b → GrowsPlain b d → GrowsByBar a d
-bar_then a b d h k = (
-  h.0 ++ k.0,
-  (
-    plain-append h.0 k.0 h.1.0 k.1,
-    (
-      h.1.1.0 ++ k.0,
-      ap (λ (t : List ℕ). t ++ k.0) h.1.1.1 ∙ append_assoc (codes "<path class=\"bar") h.1.1.0 k.0,
-    ),
-  ),
-  k.2 ∙ ap (λ (t : List ℕ). t ++ k.0) h.2 ∙ append_assoc a h.0 k.0,
-)
-
 -- ---- the head
 
-pub head_says : (lines a b d : List ℕ) → IsOpening a → GrowsByLines lines a b → GrowsPlain b d
-    → SaysFirst lines d
-head_says lines a b d start h k = record {
-  width = start.0;
-  height = start.1;
-  rest = h.0 ++ k.0;
-  text_is = k.2 ∙ ap (λ (t : List ℕ). t ++ k.0) h.2
-      ∙ append_assoc a (lines ++ h.0) k.0
-      ∙ ap (λ (t : List ℕ). a ++ t) (append_assoc lines h.0 k.0)
-      ∙ ap (λ (t : List ℕ). t ++ (lines ++ (h.0 ++ k.0))) start.4;
-}
+-- a text grown by two texts and then by a third
+pub by_lines : (first second notes a b d f : List ℕ) → is_plain (first ++ second) ≡ true
+    → b ≡ a ++ first → d ≡ b ++ second → GrowsPlain notes d f
+    → GrowsPlain ((first ++ second) ++ notes) a f
+by_lines first second notes a b d f plain e is k =
+    grows_then (first ++ second) notes a d f (record {
+      plain = plain;
+      grown = is ∙ ap (λ (t : List ℕ). t ++ second) e ∙ append_assoc a first second;
+    }) k
 
-pub head_plain : (lines a b d : List ℕ) → is_plain lines ≡ true → IsOpening a
-    → GrowsByLines lines a b → GrowsPlain b d → is_plain d ≡ true
-head_plain lines a b d plain start h k =
-    let first : is_plain a ≡ true =
-    ap is_plain start.4 ∙ plain_opening start.0 start.1 start.2 start.3 in
-    let legend : is_plain (lines ++ h.0) ≡ true = plain-append lines h.0 plain h.1 in
-    let before : is_plain b ≡ true = ap is_plain h.2 ∙ plain-append a (lines ++ h.0) first legend in
-    ap is_plain k.2 ∙ plain-append b k.0 before k.1
-
-pub by_lines : (first second a b d f : List ℕ) → b ≡ a ++ first → d ≡ b ++ second → GrowsPlain d f
-    → GrowsByLines (first ++ second) a f
-by_lines first second a b d f e is k = (
-  k.0,
-  k.1,
-  k.2 ∙ ap (λ (t : List ℕ). t ++ k.0)
-      (is ∙ ap (λ (t : List ℕ). t ++ second) e ∙ append_assoc a first second)
-      ∙ append_assoc a (first ++ second) k.0,
-)
-
--- a text that says something first says it still with more after it
-pub says_more : (lines other head more text : List ℕ) → lines ≡ other → SaysFirst lines head
-    → text ≡ head ++ more → SaysFirst other text
-says_more lines other head more text same h e =
-    let start : List ℕ = opening h.width h.height in
-    record {
-      width = h.width;
-      height = h.height;
-      rest = h.rest ++ more;
-      text_is = e ∙ ap (λ (t : List ℕ). t ++ more) h.text_is
-          ∙ append_assoc start (lines ++ h.rest) more
-          ∙ ap (λ (t : List ℕ). start ++ t) (append_assoc lines h.rest more)
-          ∙ ap (λ (t : List ℕ). start ++ (t ++ (h.rest ++ more))) same;
-    }
+-- a plain text that has grown twice
+pub head_grown : (start lines notes rows a b d : List ℕ) → is_plain start ≡ true → a ≡ start
+    → GrowsPlain (lines ++ notes) a b → GrowsPlain rows b d
+    → (is_plain d ≡ true) × (d ≡ start ++ (lines ++ (notes ++ rows)))
+head_grown start lines notes rows a b d plain e h k =
+    let all = grows_then (lines ++ notes) rows a b d h k in
+    let is : d ≡ start ++ ((lines ++ notes) ++ rows) =
+    all.grown ∙ ap (λ (t : List ℕ). t ++ ((lines ++ notes) ++ rows)) e in (
+      ap is_plain is ∙ plain-append start ((lines ++ notes) ++ rows) plain all.plain,
+      is ∙ ap (λ (t : List ℕ). start ++ t) (append_assoc lines notes rows),
+    )

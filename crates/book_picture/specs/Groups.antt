@@ -18,7 +18,8 @@ abbrev pub is_plain : List ℕ → Bool
 is_plain [] = true
 is_plain (x ∷ rest) = (not (x == 60) || is_of_no_group rest) && is_plain rest
 
--- The text `after` is `before` with a text appended in which each '<' begins neither `<g` nor
--- `</g`, whatever bytes follow that text.
-abbrev pub GrowsPlain : List ℕ → List ℕ → Type 0
-GrowsPlain before after = (text : List ℕ) × (is_plain text ≡ true) × (after ≡ before ++ text)
+-- The text `after` is `before` with the text `more` appended, in which each '<' begins neither `<g`
+-- nor `</g`, whatever bytes follow it.
+pub record GrowsPlain (more before after : List ℕ) : Type 0 where
+  pub plain : is_plain more ≡ true
+  pub grown : after ≡ before ++ more

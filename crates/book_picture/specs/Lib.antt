@@ -4,5 +4,7 @@ pub mod MarkedCalls
 pub mod Values
 pub mod Rows
 pub mod Titles
+pub mod Bars
+pub mod Heads
 pub mod Sheets
 pub mod Elements

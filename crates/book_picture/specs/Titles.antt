@@ -1,13 +1,12 @@
 -- The lines of text in a picture, and its first lines, which say what the picture is of.
-use Rattle.std.specs.Prelude.{◌≡◌, ℕ, ◌<◌, ◌^◌, Bool, true, false, List, [], ◌++◌, codes, decimal, Option, Some, None}
+use Rattle.std.specs.Prelude.{ℕ, Bool, true, false, List, [], ◌++◌, codes, decimal, Option, Some, None}
 use Rattle.book_base.specs.declared.call.Call.{Call}
-use Rattle.frontier_check.specs.declared.verdict.Verdict.{Verdict}
-use Rattle.frontier_check.specs.declared.verdict.Verdict.TheVariants.{Legal, Illegal}
+use Rattle.seq_objects.specs.declared.kind.Kind.{Kind}
+use Rattle.seq_objects.specs.Words.{kind_name}
 use Rattle.book_picture.specs.declared.marked_calls.MarkedCalls.{MarkedCalls}
 use Rattle.book_picture.specs.declared.marked_calls.MarkedCalls.TheVariants.{Unasked, Smaller, TooLarge, NoMemory}
-use Rattle.book_picture.specs.declared.sheet.TheConstants.{STYLE}
+use Rattle.book_picture.specs.declared.sheet.TheConstants.{STYLE, MARGIN}
 use Rattle.book_picture.specs.Escape.{escaped}
-use Rattle.book_picture.specs.Groups.{is_plain}
 
 -- The SVG element of a line of text, with its class in the style sheet and its coordinates in
 -- pixels.
@@ -15,11 +14,6 @@ abbrev pub line_text : List ℕ → ℕ → ℕ → List ℕ → List ℕ
 line_text class x y text =
     codes "<text class=\"" ++ (class ++ (codes "\" x=\"" ++ (decimal x
     ++ (codes "\" y=\"" ++ (decimal y ++ (codes "\">" ++ (escaped text ++ codes "</text>\n")))))))
-
--- Whether a verdict is that a book has a legal order.
-abbrev pub is_legal : Verdict → Bool
-is_legal (Legal order) = true
-is_legal Illegal = false
 
 -- What the title of a picture says of the book: that it is legal, or illegal.
 abbrev pub verdict_text : Bool → List ℕ
@@ -55,27 +49,20 @@ first_lines legal marks error =
 
 -- The text of a picture before its first line of text, for a width and a height in pixels: the
 -- opening tag, the style and the background.
-abbrev pub opening : ℕ → ℕ → List ℕ
+unfoldable pub opening : ℕ → ℕ → List ℕ
 opening width height =
     codes "<svg xmlns=\"http://www.w3.org/2000/svg\" width=\""
     ++ (decimal width ++ (codes "\" height=\"" ++ (decimal height ++ (codes "\">\n"
     ++ (STYLE.now ++ codes "<rect width=\"100%\" height=\"100%\" fill=\"#ffffff\"/>\n")))))
 
--- A text is what comes before the first line of text in a picture, for some width and height below
--- 2 ^ 64.
-abbrev pub IsOpening : List ℕ → Type 0
-IsOpening text = (width : ℕ) × (height : ℕ) × (width < 2 ^ 64) × (height < 2 ^ 64)
-    × (text ≡ opening width height)
+-- The two lines of text that say how a picture is read, with the text `name` before them.
+unfoldable pub notes_with : List ℕ → List ℕ
+notes_with name = codes "<text class=\"note\" x=\"" ++ (decimal MARGIN ++ (codes "\" y=\"44\">"
+    ++ (name ++ (codes ": a bar begins where its call is first seen invoked, and ends with its "
+    ++ (codes "return.</text>\n<text class=\"note\" x=\"" ++ (decimal MARGIN
+    ++ (codes "\" y=\"62\">Where a bar with a reply ends left of another, its call precedes "
+    ++ codes "the other.</text>\n")))))))
 
--- The text `after` is `before`, then the text `lines`, and then a text without a tag of a group.
-abbrev pub GrowsByLines : List ℕ → List ℕ → List ℕ → Type 0
-GrowsByLines lines before after = (rest : List ℕ) × (is_plain rest ≡ true)
-    × (after ≡ before ++ (lines ++ rest))
-
--- The text of a picture has, for some width and height, what comes before the first line of text,
--- and right after it the text `lines`.
-pub record SaysFirst (lines text : List ℕ) : Type 0 where
-  pub width : ℕ
-  pub height : ℕ
-  pub rest : List ℕ
-  pub text_is : text ≡ opening width height ++ (lines ++ rest)
+-- How a picture is read, with the name of the kind.
+abbrev pub notes_text : Kind → List ℕ
+notes_text kind = notes_with (kind_name kind)

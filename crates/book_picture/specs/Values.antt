@@ -8,7 +8,7 @@ use Rattle.seq_objects.specs.declared.entry.Arity.TheVariants.{Nullary, Unary, B
 use Rattle.seq_objects.specs.declared.kind.Kind.{Kind}
 use Rattle.seq_objects.specs.declared.kind.Kind.TheVariants as kinds
 use Rattle.seq_objects.specs.Words.{entries, is_known_word, code_of, argument_of}
-use Rattle.seq_objects.specs.Readings.{shown_value}
+use Rattle.seq_objects.specs.Replies.{shown_value}
 use Rattle.sketch.specs.declared.event.Event.{Event}
 use Rattle.sketch.specs.declared.event.Event.TheVariants.{Invoke, Return}
 use Rattle.sketch.specs.Sketch.{StandsIn}

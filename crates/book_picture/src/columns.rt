@@ -1,10 +1,12 @@
-ghost use Rattle.std.specs.Prelude.{◌≡◌, ◌+◌, length, IfOk};
+ghost use Rattle.std.specs.Prelude.{◌≡◌, ◌+◌, ◌≤◌, length, IfOk};
 ghost use Rattle.call_intervals.specs.Intervals.{rows_of};
-ghost use Rattle.book_picture.specs.Sheets.{IsDrawable, AreDrawable, AreAllDrawable};
+ghost use Rattle.book_base.specs.Book.{IsCall};
+ghost use Rattle.book_picture.specs.Rows.{capped, AreRising};
+ghost use Rattle.book_picture.specs.Sheets.{AreDrawable, AreAllDrawable};
 
 use crate::label::Label;
 use crate::row::Stretch;
-use book_base::{Book, NoMemory};
+use book_base::{Book, Call, NoMemory};
 use call_intervals::Interval;
 use seq_objects::Kind;
 use std::alloc::Global;
@@ -25,7 +27,8 @@ pub(crate) fn column_edges(
     stretch: Stretch,
 ) -> Result<Vec<usize>, NoMemory>
     requires { AreAllDrawable book.now (rows_of lanes.now) }
-    ensures { IfOk result (λ edges. length edges.items ≡ stretch.places + 1) }
+    ensures count { IfOk result (λ edges. length edges.items ≡ stretch.places + 1) }
+    ensures rising { IfOk result (λ edges. AreRising edges.items) }
 {
     let mut edges = Vec::new(alloc);
     edges.push(LEFT)?;
@@ -49,6 +52,7 @@ fn next_edge(
     last: usize,
 ) -> Result<usize, NoMemory>
     requires { AreAllDrawable book.now (rows_of lanes.now) }
+    ensures { IfOk result (λ edge. capped (last + LEAST) ≤ edge) }
 {
     let mut edge = last.saturating_add(LEAST);
     for lane in lanes {
@@ -74,7 +78,7 @@ fn lane_edge(
         if let Some(part) = stretch.part_of(interval) {
             if part.end == edges.len() {
                 let left = edges[part.begin];
-                edge = edge.max(bar_end(alloc, kind, book, interval, left)?);
+                edge = edge.max(bar_end(alloc, kind, book, interval.call, left)?);
             }
         }
     }
@@ -86,11 +90,11 @@ fn bar_end(
     alloc: Global,
     kind: Kind,
     book: &Book,
-    interval: &Interval,
+    call: Call,
     left: usize,
 ) -> Result<usize, NoMemory>
-    requires { IsDrawable book.now interval.now }
+    requires { IsCall book.now call }
 {
-    let label = Label::of(alloc, kind, book, interval)?;
+    let label = Label::of(alloc, kind, book, call)?;
     Ok(left.saturating_add(label.width()))
 }

@@ -1,8 +1,8 @@
-ghost use Rattle.std.specs.Prelude.{◌≡◌, ℕ, ◌++◌, List, is_some, string_bytes, IfOk, OnOk};
-ghost use Rattle.book_picture.specs.Elements.{AreElementsOf, AreLanesElements, ShowsEachCall};
+ghost use Rattle.std.specs.Prelude.{◌≡◌, ℕ, ◌++◌, List, option_map, string_bytes, IfOk, OnOk};
 ghost use Rattle.call_intervals.specs.Intervals.{rows_of};
+ghost use Rattle.book_picture.specs.Bars.{IsShownOf, order_in};
+ghost use Rattle.book_picture.specs.Elements.{IsElementOf, AreElementsOf, AreLanesElements, top_of, IsPicture};
 ghost use Rattle.book_picture.specs.Sheets.{AreDrawable, AreAllDrawable};
-ghost use Rattle.book_picture.specs.Titles.{is_legal, first_lines, SaysFirst};
 ghost use Rattle.book_picture.specs.Values.{class_of_call};
 
 use crate::marked_calls::MarkedCalls;
@@ -39,14 +39,10 @@ pub fn draw_book(
     marks: &MarkedCalls,
     error: Option<Call>,
 ) -> Result<String, NoMemory>
-    // The picture shows each call of the book by one element on its caller's lane, with its class
-    // and a bar in each row in which it has a place.
-    ensures calls { IfOk result (λ text.
-        ShowsEachCall kind book.now marks.now (string_bytes text)) }
-    // The picture's first lines say whether the book is legal, whether calls are marked, and, where
-    // `error` is a call, that the first error line of the run is that of this call.
-    ensures says { IfOk result (λ text.
-        SaysFirst (first_lines (is_legal verdict.now) marks.now error) (string_bytes text)) }
+    // The text is the book's picture, with these marks, the numbers of the verdict's order, where
+    // the verdict carries one, and a line on the call `error`, where this is one.
+    ensures { IfOk result (λ text.
+        IsPicture kind book.now (order_in verdict.now) marks.now error (string_bytes text)) }
 {
     let events = sketch(alloc, book)?;
     let lanes = call_lanes(alloc, book, &events)?;
@@ -69,7 +65,9 @@ pub fn draw_book(
 }
 
 // The height at which the first row begins: below the line on the first error, where there is one.
-fn top_of(error: Option<Call>) -> usize {
+fn top_of(error: Option<Call>) -> usize
+    ensures { result ≡ top_of error }
+{
     match error {
         Some(_) => TOP + LINE,
         None => TOP,
@@ -78,7 +76,7 @@ fn top_of(error: Option<Call>) -> usize {
 
 // The legal order that a verdict carries, where it carries one.
 fn order_of(verdict: &Verdict) -> Option<&[Place]>
-    ensures { is_some result ≡ is_legal verdict.now }
+    ensures { option_map (λ o. o.now) result ≡ order_in verdict.now }
 {
     match verdict {
         Verdict::Legal(order) => Some(order.as_slice()),
@@ -94,8 +92,10 @@ fn put_lanes(
 ) -> Result<(), NoMemory>
     requires { AreAllDrawable sheet.now.book.now (rows_of lanes.now) }
     ensures { OnOk result ((text : List ℕ) × AreLanesElements
+        (IsElementOf
         (class_of_call sheet.now.kind sheet.now.book.now sheet.now.values.now sheet.now.marks.now)
-        sheet.now.rows.now (rows_of lanes.now) text
+        (IsShownOf sheet.now.kind sheet.now.book.now (option_map (λ o. o.now) sheet.now.order))
+        sheet.now.rows.now) (rows_of lanes.now) text
         × (string_bytes out.new ≡ string_bytes out.old ++ text)) }
 {
     for lane in lanes {
@@ -108,8 +108,10 @@ fn put_lanes(
 fn put_lane(out: &mut String, sheet: &PictureSheet, lane: &[Interval]) -> Result<(), NoMemory>
     requires { AreDrawable sheet.now.book.now lane.now }
     ensures { OnOk result ((text : List ℕ) × AreElementsOf
+        (IsElementOf
         (class_of_call sheet.now.kind sheet.now.book.now sheet.now.values.now sheet.now.marks.now)
-        sheet.now.rows.now lane.now text
+        (IsShownOf sheet.now.kind sheet.now.book.now (option_map (λ o. o.now) sheet.now.order))
+        sheet.now.rows.now) lane.now text
         × (string_bytes out.new ≡ string_bytes out.old ++ text)) }
 {
     for interval in lane {

@@ -1,8 +1,9 @@
-ghost use Rattle.std.specs.Prelude.{◌≡◌, IfOk};
-ghost use Rattle.book_picture.specs.Sheets.{IsDrawable};
+ghost use Rattle.std.specs.Prelude.{◌≡◌, ◌++◌, option_map, IfOk, OnOk};
+ghost use Rattle.book_base.specs.Book.{IsCall, record_of};
+ghost use Rattle.book_picture.specs.Bars.{operation_line, reply_line};
 
-use book_base::{Book, NoMemory};
-use call_intervals::Interval;
+use crate::values::reply_of;
+use book_base::{Book, Call, NoMemory};
 use seq_objects::{Kind, put_reply};
 use std::alloc::Global;
 
@@ -22,22 +23,17 @@ pub(crate) struct Label {
 
 impl Label {
     /// The label of a call of a book.
-    pub fn of(
-        alloc: Global,
-        kind: Kind,
-        book: &Book,
-        interval: &Interval,
-    ) -> Result<Label, NoMemory>
-        requires { IsDrawable book.now interval.now }
+    pub fn of(alloc: Global, kind: Kind, book: &Book, call: Call) -> Result<Label, NoMemory>
+        requires { IsCall book.now call }
+        ensures operation { IfOk result
+            (λ label. label.operation.items ≡ operation_line kind book.now call) }
+        ensures reply { IfOk result (λ label. label.reply.items
+            ≡ reply_line (option_map (λ r. r.reply) (record_of book.now call))) }
     {
         let mut operation = Vec::new(alloc);
-        kind.put_op(&mut operation, book.op(interval.call))?;
+        kind.put_op(&mut operation, book.op(call))?;
         let mut reply = Vec::new(alloc);
-        if interval.is_open {
-            reply.extend_from_slice(b"no reply")?;
-        } else {
-            put_reply(&mut reply, book.record(interval.call).reply)?;
-        }
+        put_reply_line(&mut reply, reply_of(book, call))?;
         Ok(Label { operation, reply })
     }
 
@@ -45,5 +41,15 @@ impl Label {
     pub fn width(&self) -> usize {
         let letters = self.operation.len().max(self.reply.len());
         letters.saturating_mul(LETTER).saturating_add(BESIDE)
+    }
+}
+
+// Appends the second line of a label: the reply to a call, or that there is none.
+fn put_reply_line(out: &mut Vec<u8>, reply: Option<u64>) -> Result<(), NoMemory>
+    ensures { OnOk result (out.new.items ≡ out.old.items ++ reply_line reply) }
+{
+    match reply {
+        Some(reply) => put_reply(out, reply),
+        None => Ok(out.extend_from_slice(b"no reply")?),
     }
 }

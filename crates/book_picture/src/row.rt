@@ -1,7 +1,7 @@
 //! A row of a picture, and the part of an interval in it.
 
-ghost use Rattle.std.specs.Prelude.{◌≡◌, ◌-◌, ◌<◌, ◌≤◌, length, is_some, IfSome};
-ghost use Rattle.book_picture.specs.Rows.{has_part};
+ghost use Rattle.std.specs.Prelude.{◌≡◌, ◌-◌, ◌<◌, ◌≤◌, length, IfSome};
+ghost use Rattle.book_picture.specs.Rows.{part_in};
 
 use call_intervals::Interval;
 
@@ -38,7 +38,7 @@ impl Stretch {
     /// The part of an interval that is on the places of the row, or `None` where no place of the
     /// interval is.
     pub fn part_of(self, interval: &Interval) -> Option<IntervalPart>
-        ensures some { is_some result ≡ has_part self.first self.places interval.now }
+        ensures part { result ≡ part_in self.first self.places interval.now }
         ensures place { IfSome result (λ part. (part.begin < part.end) × (part.end ≤ self.places)) }
     {
         let begin = interval.begin.saturating_sub(self.first);
@@ -60,8 +60,8 @@ impl Stretch {
 impl Row {
     /// The part of an interval in the row, if it has one.
     pub fn part_of(&self, interval: &Interval) -> Option<IntervalPart>
-        ensures some { is_some result
-            ≡ has_part self.now.first (length self.now.edges.items - 1) interval.now }
+        ensures part { result
+            ≡ part_in self.now.first (length self.now.edges.items - 1) interval.now }
         ensures place { IfSome result (λ part. (part.begin < part.end)
             × (part.end < length self.now.edges.items)) }
     {

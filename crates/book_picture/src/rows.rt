@@ -1,6 +1,6 @@
 //! The rows that the places of a sketch are folded into.
 
-ghost use Rattle.std.specs.Prelude.{IfOk};
+ghost use Rattle.std.specs.Prelude.{length, IfOk};
 ghost use Rattle.call_intervals.specs.Intervals.{rows_of};
 ghost use Rattle.book_picture.specs.Sheets.{AreAllDrawable};
 ghost use Rattle.book_picture.specs.Rows.{AreFolded};
@@ -29,7 +29,7 @@ pub(crate) fn folded(
     top: usize,
 ) -> Result<Vec<Row>, NoMemory>
     requires { AreAllDrawable book.now (rows_of lanes.now) }
-    ensures { IfOk result (λ rows. AreFolded places rows.items) }
+    ensures { IfOk result (λ rows. AreFolded places (length lanes.now) top rows.items) }
 {
     let height = lanes.len().saturating_mul(LANE).saturating_add(BETWEEN);
     let mut rows = Vec::new(alloc);

@@ -1,10 +1,16 @@
-ghost use Rattle.std.specs.Prelude.{◌≡◌, ◌<◌, ◌++◌, length, true, codes, is_some, string_bytes, IsTrue, IfOk, OnOk};
-ghost use Rattle.book_base.specs.Book.{IsCall};
-ghost use Rattle.book_picture.specs.Elements.{ArePartsIn, IsElementOf, GrowsByBar, GrowsByPart, GrowsByParts};
-ghost use Rattle.book_picture.specs.Groups.{HasNoGroup, is_plain, GrowsPlain};
-ghost use Rattle.book_picture.specs.Titles.{line_text, verdict_text, title, error_text, error_line, first_lines, IsOpening, GrowsByLines, SaysFirst};
+ghost use Rattle.std.specs.Prelude.{◌≡◌, ℕ, ◌+◌, ◌-◌, ◌≤◌, ◌<◌, ◌++◌, List, length, Option, Some, true, codes, is_some, option_map, slice_get, string_bytes, IfOk, OnOk};
+ghost use Rattle.book_base.specs.declared.call.Call.{Call};
+ghost use Rattle.book_base.specs.declared.call.Place.{Place};
+ghost use Rattle.book_base.specs.Book.{IsCall, record_of};
+ghost use Rattle.book_picture.specs.declared.row.Row.{Row};
+ghost use Rattle.book_picture.specs.declared.label.Label.{Label};
+ghost use Rattle.book_picture.specs.Bars.{Shown, shown_by, IsShownOf, IsNumberIn, bar_of, outline_class, outline_start, outline_turn, outline_close, outline_text, label_text, number_text, bar_text};
+ghost use Rattle.book_picture.specs.Elements.{part_text, parts_text, IsElementOf};
+ghost use Rattle.book_picture.specs.Groups.{is_plain, GrowsPlain};
+ghost use Rattle.book_picture.specs.Heads.{lane_text, lanes_text, rows_text, IsHead};
+ghost use Rattle.book_picture.specs.Rows.{capped, lane_top};
+ghost use Rattle.book_picture.specs.Titles.{line_text, verdict_text, title, error_text, error_line, first_lines, opening, notes_text};
 ghost use Rattle.book_picture.specs.Values.{class_of_call};
-ghost use Rattle.book_picture.specs.Sheets.{IsDrawable};
 
 use crate::escape::put_escaped;
 use crate::label::Label;
@@ -85,14 +91,14 @@ impl PictureSheet<'_> {
     /// The text before the bars of a picture: the opening tag, the style and the background, the
     /// legend, and in each row the lanes with their callers.
     pub fn head(&self) -> Result<String, NoMemory>
-        ensures plain { IfOk result (λ text. HasNoGroup (string_bytes text)) }
-        ensures says { IfOk result (λ text.
-            SaysFirst (first_lines (is_some self.now.order) self.now.marks.now self.now.error)
-            (string_bytes text)) }
+        ensures { IfOk result (λ text. IsHead self.now.kind
+            (first_lines (is_some self.now.order) self.now.marks.now self.now.error)
+            self.now.rows.now (length self.now.book.now) (string_bytes text)) }
     {
         let callers = self.book.callers();
         let width = width_of(self.rows);
-        let mut out = self.opening(width, height_of(self.rows, callers))?;
+        let height = height_of(self.rows, callers);
+        let mut out = self.opening(width, height)?;
         self.put_legend(&mut out)?;
         put_rows(&mut out, self.rows, callers, width.saturating_sub(MARGIN))?;
         Ok(out)
@@ -101,7 +107,7 @@ impl PictureSheet<'_> {
     // The text of a picture before its legend: the opening tag with the picture's width and height
     // in pixels, the style and the background.
     fn opening(&self, width: usize, height: usize) -> Result<String, NoMemory>
-        ensures { IfOk result (λ text. IsOpening (string_bytes text)) }
+        ensures { IfOk result (λ text. string_bytes text ≡ opening width height) }
     {
         let mut out = String::new(self.alloc);
         write!(
@@ -115,8 +121,9 @@ impl PictureSheet<'_> {
 
     // Appends the legend: what the picture says of the book, and how a picture is read.
     fn put_legend(&self, out: &mut String) -> Result<(), NoMemory>
-        ensures { OnOk result (GrowsByLines
-            (first_lines (is_some self.now.order) self.now.marks.now self.now.error)
+        ensures { OnOk result (GrowsPlain
+            (first_lines (is_some self.now.order) self.now.marks.now self.now.error
+            ++ notes_text self.now.kind)
             (string_bytes out.old) (string_bytes out.new)) }
     {
         let title = self.title()?;
@@ -159,9 +166,10 @@ impl PictureSheet<'_> {
 
     /// The SVG element of the call of an interval, a group.
     pub fn element(&self, interval: &Interval) -> Result<String, NoMemory>
-        requires { IsDrawable self.now.book.now interval.now }
+        requires { IsCall self.now.book.now interval.now.call }
         ensures { IfOk result (λ text. IsElementOf
             (class_of_call self.now.kind self.now.book.now self.now.values.now self.now.marks.now)
+            (IsShownOf self.now.kind self.now.book.now (option_map (λ o. o.now) self.now.order))
             self.now.rows.now interval.now (string_bytes text)) }
     {
         let caller = interval.call.caller;
@@ -188,12 +196,14 @@ impl PictureSheet<'_> {
 
     // The inside of a call's element: in each row the call's bar, if it has a part in the row.
     fn inside(&self, interval: &Interval) -> Result<String, NoMemory>
-        requires { IsDrawable self.now.book.now interval.now }
-        ensures plain { IfOk result (λ text. IsTrue (is_plain (string_bytes text))) }
-        ensures parts { IfOk result (λ text.
-            ArePartsIn self.now.rows.now interval.now (string_bytes text)) }
+        requires { IsCall self.now.book.now interval.now.call }
+        ensures { IfOk result (λ text. (shown : Shown)
+            × IsShownOf self.now.kind self.now.book.now (option_map (λ o. o.now) self.now.order)
+            interval.now.call shown
+            × (is_plain (parts_text self.now.rows.now interval.now shown) ≡ true)
+            × (string_bytes text ≡ parts_text self.now.rows.now interval.now shown)) }
     {
-        let label = Label::of(self.alloc, self.kind, self.book, interval)?;
+        let label = Label::of(self.alloc, self.kind, self.book, interval.call)?;
         let number = self.number(interval.call);
         let mut out = String::new(self.alloc);
         put_parts(&mut out, self.rows, interval, &label, number)?;
@@ -201,7 +211,9 @@ impl PictureSheet<'_> {
     }
 
     // The number of a call in the legal order, counted from 1, where there is an order that has it.
-    fn number(&self, call: Call) -> Option<usize> {
+    fn number(&self, call: Call) -> Option<usize>
+        ensures { IsNumberIn (option_map (λ o. o.now) self.now.order) call result }
+    {
         match self.order {
             Some(order) => number_in(order, call),
             None => None,
@@ -213,7 +225,7 @@ impl Bar {
     // The further class of a bar's outline, where it has one: `through`, undrawn, where neither of
     // the bar's edges is drawn, and else `open`, dashed, where the call is unanswered.
     fn class(self) -> &'static str
-        ensures { is_plain result.now ≡ true }
+        ensures { result.now ≡ outline_class self }
     {
         if !self.begins && !self.ends {
             " through"
@@ -226,7 +238,9 @@ impl Bar {
 
     // The x coordinate at which a bar's outline begins and ends: that of the right edge where only
     // the left one is drawn, and else that of the left edge.
-    fn start(self) -> usize {
+    fn start(self) -> usize
+        ensures { result ≡ outline_start self }
+    {
         if self.begins && !self.ends {
             self.right
         } else {
@@ -236,7 +250,9 @@ impl Bar {
 
     // The x coordinate of the edge that a bar's outline runs down: the left edge where only this is
     // drawn, and else the right one.
-    fn turn(self) -> usize {
+    fn turn(self) -> usize
+        ensures { result ≡ outline_turn self }
+    {
         if self.begins && !self.ends {
             self.left
         } else {
@@ -247,14 +263,20 @@ impl Bar {
     // The path command that closes a bar's outline where both of the bar's edges are drawn or
     // neither is; else nothing.
     fn close(self) -> &'static str
-        ensures { is_plain result.now ≡ true }
+        ensures { result.now ≡ outline_close self }
     {
-        if self.begins == self.ends { " Z" } else { "" }
+        if self.begins && !self.ends || !self.begins && self.ends {
+            ""
+        } else {
+            " Z"
+        }
     }
 }
 
 // The width of a sheet with the given rows, in pixels.
-fn width_of(rows: &[Row]) -> usize {
+fn width_of(rows: &[Row]) -> usize
+    ensures { LEAST_WIDTH ≤ result }
+{
     let mut width = LEAST_WIDTH;
     for row in rows {
         let last = row.edges.last().copied().unwrap_or(0);
@@ -264,16 +286,21 @@ fn width_of(rows: &[Row]) -> usize {
 }
 
 // The height of a sheet with the given rows, each with a lane for each caller, in pixels.
-fn height_of(rows: &[Row], callers: u32) -> usize {
-    let mut height = 0;
+fn height_of(rows: &[Row], callers: u32) -> usize
+    ensures { (k : ℕ) (row : Row) → slice_get rows.now k ≡ Some row
+        → lane_top row.top callers ≤ result }
+{
+    let mut height: usize = 0;
     for row in rows {
-        height = lane_top(row.top, callers);
+        height = height.max(lane_top(row.top, callers));
     }
     height
 }
 
 // The height at which the lane of a caller begins in a row that begins at `top`, in pixels.
-fn lane_top(top: usize, caller: u32) -> usize {
+fn lane_top(top: usize, caller: u32) -> usize
+    ensures { result ≡ lane_top top caller }
+{
     (caller as usize).saturating_mul(LANE).saturating_add(top)
 }
 
@@ -291,7 +318,8 @@ fn put_error_line(alloc: Global, out: &mut String, call: Call) -> Result<(), NoM
 
 // Appends the two lines of text that say how a picture is read, with the name of the kind.
 fn put_notes(out: &mut String, kind: Kind) -> Result<(), NoMemory>
-    ensures { OnOk result (GrowsPlain (string_bytes out.old) (string_bytes out.new)) }
+    ensures { OnOk result (GrowsPlain (notes_text kind)
+        (string_bytes out.old) (string_bytes out.new)) }
 {
     let kind = kind.name();
     write!(
@@ -306,7 +334,8 @@ fn put_notes(out: &mut String, kind: Kind) -> Result<(), NoMemory>
 
 // Appends the lanes of all callers in each row.
 fn put_rows(out: &mut String, rows: &[Row], callers: u32, right: usize) -> Result<(), NoMemory>
-    ensures { OnOk result (GrowsPlain (string_bytes out.old) (string_bytes out.new)) }
+    ensures { OnOk result (GrowsPlain (rows_text rows.now right callers)
+        (string_bytes out.old) (string_bytes out.new)) }
 {
     for row in rows {
         put_lanes(out, row.top, callers, right)?;
@@ -316,7 +345,8 @@ fn put_rows(out: &mut String, rows: &[Row], callers: u32, right: usize) -> Resul
 
 // Appends the lanes of all callers in the row that begins at the height `top`, in pixels.
 fn put_lanes(out: &mut String, top: usize, callers: u32, right: usize) -> Result<(), NoMemory>
-    ensures { OnOk result (GrowsPlain (string_bytes out.old) (string_bytes out.new)) }
+    ensures { OnOk result (GrowsPlain (lanes_text top right callers)
+        (string_bytes out.old) (string_bytes out.new)) }
 {
     for caller in 0..callers {
         put_lane(out, top, caller, right)?;
@@ -326,17 +356,16 @@ fn put_lanes(out: &mut String, top: usize, callers: u32, right: usize) -> Result
 
 // Appends a lane: its line, and the number of its caller.
 fn put_lane(out: &mut String, top: usize, caller: u32, right: usize) -> Result<(), NoMemory>
-    ensures { OnOk result (GrowsPlain (string_bytes out.old) (string_bytes out.new)) }
+    ensures { OnOk result (GrowsPlain (lane_text top right caller)
+        (string_bytes out.old) (string_bytes out.new)) }
 {
     let middle = lane_top(top, caller).saturating_add(BAR / 2);
     let base = middle.saturating_add(4);
     write!(
         out,
-        "<line class=\"lane\" x1=\"100\" y1=\"{middle}\" x2=\"{right}\" y2=\"{middle}\"/>\n"
-    )?;
-    write!(
-        out,
-        "<text class=\"note\" x=\"{MARGIN}\" y=\"{base}\">caller {caller}</text>\n"
+        "<line class=\"lane\" x1=\"100\" y1=\"{middle}\" \
+         x2=\"{right}\" y2=\"{middle}\"/>\n\
+         <text class=\"note\" x=\"{MARGIN}\" y=\"{base}\">caller {caller}</text>\n"
     )?;
     Ok(())
 }
@@ -349,7 +378,8 @@ fn put_parts(
     label: &Label,
     number: Option<usize>,
 ) -> Result<(), NoMemory>
-    ensures { OnOk result (GrowsByParts rows.now interval.now
+    ensures { OnOk result (GrowsPlain
+        (parts_text rows.now interval.now (shown_by label.now number))
         (string_bytes out.old) (string_bytes out.new)) }
 {
     for row in rows {
@@ -366,7 +396,8 @@ fn put_part(
     label: &Label,
     number: Option<usize>,
 ) -> Result<(), NoMemory>
-    ensures { OnOk result (GrowsByPart row.now interval.now
+    ensures { OnOk result (GrowsPlain
+        (part_text interval.now (shown_by label.now number) row.now)
         (string_bytes out.old) (string_bytes out.new)) }
 {
     match row.part_of(interval) {
@@ -379,6 +410,7 @@ fn put_part(
 fn bar_of(row: &Row, interval: &Interval, part: IntervalPart) -> Bar
     requires begin { part.begin < length row.now.edges.items }
     requires end { part.end < length row.now.edges.items }
+    ensures { result ≡ bar_of row.now interval.now part }
 {
     Bar {
         left: row.edges[part.begin].saturating_add(GAP),
@@ -392,7 +424,8 @@ fn bar_of(row: &Row, interval: &Interval, part: IntervalPart) -> Bar
 
 // Appends a bar, with its label and, where the legal order has its call, the number in the order.
 fn put_bar(out: &mut String, bar: Bar, label: &Label, number: Option<usize>) -> Result<(), NoMemory>
-    ensures { OnOk result (GrowsByBar (string_bytes out.old) (string_bytes out.new)) }
+    ensures { OnOk result (GrowsPlain (bar_text bar (shown_by label.now number))
+        (string_bytes out.old) (string_bytes out.new)) }
 {
     put_outline(out, bar)?;
     put_label(out, bar, label)?;
@@ -401,7 +434,8 @@ fn put_bar(out: &mut String, bar: Bar, label: &Label, number: Option<usize>) -> 
 
 // Appends the outline of a bar.
 fn put_outline(out: &mut String, bar: Bar) -> Result<(), NoMemory>
-    ensures { OnOk result (GrowsByBar (string_bytes out.old) (string_bytes out.new)) }
+    ensures { OnOk result (GrowsPlain (outline_text bar)
+        (string_bytes out.old) (string_bytes out.new)) }
 {
     let class = bar.class();
     let start = bar.start();
@@ -418,7 +452,9 @@ fn put_outline(out: &mut String, bar: Bar) -> Result<(), NoMemory>
 
 // Appends the label of a bar: the operation, and below it the reply.
 fn put_label(out: &mut String, bar: Bar, label: &Label) -> Result<(), NoMemory>
-    ensures { OnOk result (GrowsPlain (string_bytes out.old) (string_bytes out.new)) }
+    ensures { OnOk result (GrowsPlain
+        (label_text bar label.now.operation.items label.now.reply.items)
+        (string_bytes out.old) (string_bytes out.new)) }
 {
     let x = bar.left.saturating_add(9);
     put_line(out, "call", x, bar.top.saturating_add(18), &label.operation)?;
@@ -427,7 +463,8 @@ fn put_label(out: &mut String, bar: Bar, label: &Label) -> Result<(), NoMemory>
 
 // Appends the call's number in the legal order to its bar, where it has one.
 fn put_number(out: &mut String, bar: Bar, number: Option<usize>) -> Result<(), NoMemory>
-    ensures { OnOk result (GrowsPlain (string_bytes out.old) (string_bytes out.new)) }
+    ensures { OnOk result (GrowsPlain (number_text bar number)
+        (string_bytes out.old) (string_bytes out.new)) }
 {
     if let Some(number) = number {
         let x = bar.right.saturating_sub(15);

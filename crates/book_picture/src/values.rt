@@ -80,8 +80,8 @@ pub(crate) fn value_of(kind: Kind, book: &Book, call: Call) -> Option<u64>
     value_of_step(kind, op, reply)
 }
 
-// The reply to a call, where it is answered.
-fn reply_of(book: &Book, call: Call) -> Option<u64>
+/// The reply to a call, where it is answered.
+pub(crate) fn reply_of(book: &Book, call: Call) -> Option<u64>
     requires { IsCall book.now call }
     ensures { result ≡ option_map (λ r. r.reply) (record_of book.now call) }
 {

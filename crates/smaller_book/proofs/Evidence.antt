@@ -1,109 +1,302 @@
--- Evidence of evidence is evidence.
-use Rattle.std.proofs.Common.{◌≡◌, ℕ, Bool, true, false, not, ◌||◌, List, [], ◌∷◌, Option, Some, None, refl, sym, subst}
+-- What evidence tells of a book, and which calls it keeps.
+use Rattle.std.proofs.Common.{◌≡◌, ℕ, ◌<◌, ◌∙◌, Bool, true, false, List, [], ◌∷◌, length, get_or, unwrap_or, Option, Some, None, refl, sym, ap, subst, inl, inr, arith}
+use Rattle.std.specs.Prelude.{option_map, if◌then◌else◌}
+use Rattle.std.specs.Option.{IsSomeAnd}
+use Rattle.std.specs.List.{range_with_len}
 use Rattle.std.proofs.lemmas.Bool.{true≢false}
+use Rattle.std.proofs.lemmas.List.FromFn.{get_or-range_with_len, length-range_with_len}
+use Rattle.std.proofs.lemmas.List.{length-map}
+use Rattle.std.proofs.lemmas.Option.{slice_get_within, same_Some}
+use Rattle.list_laws.proofs.Options.{map_some}
+use Rattle.book_base.specs.declared.call.Call.{Call}
+use Rattle.book_base.specs.declared.call.Record.{Record}
 use Rattle.book_base.specs.SeqSpec.{spec_from}
-use Rattle.book_base.specs.Book.{Page}
+use Rattle.book_base.specs.Cut.{Holds}
+use Rattle.book_base.specs.Book.{Page, calls_of, IsCall, IsAnswered, operation_of, record_of}
 use Rattle.book_base.specs.Order.{HasLegalOrder}
+use Rattle.book_base.specs.Reaching.{Leaves}
+use Rattle.book_base.proofs.ViewLemmas.{same_call, answer_stands, record_from_part}
+use Rattle.book_base.proofs.GrowthLemmas.{below_calls}
 use Rattle.seq_objects.specs.declared.kind.Kind.{Kind}
 use Rattle.seq_objects.specs.declared.kind.Kind.TheVariants as kinds
-use Rattle.seq_objects.specs.Objects.{kind_next}
-use Rattle.smaller_book.specs.Part.{CarriesOver}
-use Rattle.smaller_book.specs.Keys.{key_of_item, is_among, items_without, IsWellFormed, IsEvidence, EvidenceTells}
-use Rattle.smaller_book.proofs.Filtering.{filter-all, filter-filter, rises-filter, keys_once-filter}
+use Rattle.seq_objects.specs.Words as words
+use Rattle.seq_objects.specs.Words.{OperationEntry, is_known_word, is_operation_of, argument_of}
+use Rattle.seq_objects.specs.Objects.{kind_next, kind_spec}
+use Rattle.smaller_book.specs.Part.{numbers_of, count_below, original, IsNamed, IsPart}
+use Rattle.smaller_book.specs.Numbers.{picked}
+use Rattle.smaller_book.specs.ReadOnly.{IsReadOnly}
+use Rattle.smaller_book.specs.Earliest.{all_numbers}
+use Rattle.smaller_book.specs.Keys.{value_shown, key_by_kind, key_of_step, key_of_call, is_among, CarriesOverWithoutSome}
+use Rattle.smaller_book.specs.Evidence.{IsStep, AreSteps, EvidenceIsAPart, EvidenceCarriesOver, EvidenceTells, EvidenceKeepsTheRest}
+use Rattle.smaller_book.proofs.Counts.{counted_from_below, find_number}
+use Rattle.smaller_book.proofs.Following.{some_that, record_was}
+use Rattle.smaller_book.proofs.ReadOnly.{has_one_without_read_only}
+use Rattle.smaller_book.proofs.LeastCuts.{numbers_of-all, original-all, carried_to_cut}
+use Rattle.smaller_book.proofs.CarryingOver.{carries_from_all, carries_twice}
+use Rattle.smaller_book.proofs.KeyRows.{unnamed_goes}
+use Rattle.smaller_book.proofs.KeyLaw.{has_one_without_keys}
+use Rattle.smaller_book.proofs.PartsOfParts.{numbers_of-composed, get_or-picked, original-composed}
+use Rattle.smaller_book.proofs.Steps.{book_at_some_cut, step_part, steps_part, evidence_part}
 
--- the set of no keys
-abbrev pub no_keys : ℕ → Bool
-no_keys key = false
+-- Each part that is evidence of a book is the part of the book that has the calls with its numbers.
+pub evidence_is_a_part : EvidenceIsAPart
+evidence_is_a_part = evidence_part
 
--- the keys that are in the first set or in the second one
-abbrev pub either_keys : (ℕ → Bool) → (ℕ → Bool) → ℕ → Bool
-either_keys first second key = first key || second key
+step_carries : (kind : Kind) (book : List Page) (names : List (List ℕ)) (part : List Page)
+    → IsStep kind book names part → CarriesOverWithoutSome kind book part
+step_carries kind book names part step =
+    elim step.rule [
+      | inl back ↦
+          carries_from_all kind book part
+          (carried_to_cut (kind_next kind) book back.at_some_cut.cut part step.valid
+          back.at_some_cut.within (book_at_some_cut book part step.valid back.at_some_cut))
+      | inr other ↦ elim other [
+        | inl lacks ↦
+            carries_from_all kind book part
+            (has_one_without_read_only (kind_next kind) book names part lacks.is_part
+            lacks.read_only)
+        | inr lacks ↦ (
+          lacks.keys,
+          has_one_without_keys kind lacks.keys book part lacks.one_open
+              (subst (λ (ns : List (List ℕ)). IsPart book ns part) lacks.named lacks.is_part),
+        )
+      ]
+    ]
 
-none_among : (o : Option ℕ) → not (is_among no_keys o) ≡ true
-none_among None = refl
-none_among (Some key) = refl
+steps_carry : (kind : Kind) (book : List Page) (steps : List (List (List ℕ)))
+    (names : List (List ℕ)) (part : List Page) → AreSteps kind book steps names part
+    → CarriesOverWithoutSome kind book part
+steps_carry kind book [] names part (valid, same, named) =
+    carries_from_all kind book part
+    (λ (list : List ℕ) legal. subst
+    (λ (b : List Page). HasLegalOrder (spec_from list (kind_next kind)) b) (sym same) legal)
+steps_carry kind book (first ∷ later) names part (mid, rest, step, on, named) =
+    carries_twice kind book mid part (step_carries kind book first mid step)
+    (steps_carry kind mid later rest part on)
 
--- A list without the items of no keys is the list.
-pub items_without-none : (kind : Kind) (list : List ℕ) → items_without kind no_keys list ≡ list
-items_without-none kind list =
-    filter-all (λ (item : ℕ). not (is_among no_keys (key_of_item kind item))) list
-    (λ (item : ℕ). none_among (key_of_item kind item))
+-- A book carries over, without the items of some keys, to each part that is evidence of it.
+pub evidence_carries_over : EvidenceCarriesOver
+evidence_carries_over kind book names part evidence =
+    steps_carry kind book evidence.steps names part evidence.lead
 
-or_on : (a b : Bool) → not a ≡ true → not (a || b) ≡ not b
-or_on true b on = absurd (true≢false (sym on))
-or_on false b on = refl
+-- A legal order of a book gives one of each part to which the book carries over, since no object
+-- begins with an item that has a key.
+carries_tells : (kind : Kind) (book part : List Page) → CarriesOverWithoutSome kind book part
+    → HasLegalOrder (kind_spec kind) book → HasLegalOrder (kind_spec kind) part
+carries_tells kinds.Queue book part (keys, carries) order = carries [] tt order
+carries_tells kinds.Stack book part (keys, carries) order = carries [] tt order
+carries_tells kinds.Register book part (keys, carries) order = carries (0 ∷ []) tt order
+carries_tells kinds.Counter book part (keys, carries) order = carries (0 ∷ []) tt order
+carries_tells kinds.IntSet book part (keys, carries) order = carries [] tt order
+carries_tells kinds.Pqueue book part (keys, carries) order = carries [] tt order
+carries_tells kinds.CasRegister book part (keys, carries) order = carries (0 ∷ []) tt order
+carries_tells kinds.Map book part (keys, carries) order = carries [] tt order
 
-or_off : (a b : Bool) → not a ≡ false → not (a || b) ≡ false
-or_off true b off = refl
-or_off false b off = absurd (true≢false off)
-
-among_on : (first second : ℕ → Bool) (o : Option ℕ) → not (is_among first o) ≡ true
-    → not (is_among (either_keys first second) o) ≡ not (is_among second o)
-among_on first second None on = refl
-among_on first second (Some key) on = or_on (first key) (second key) on
-
-among_off : (first second : ℕ → Bool) (o : Option ℕ) → not (is_among first o) ≡ false
-    → not (is_among (either_keys first second) o) ≡ false
-among_off first second None off = off
-among_off first second (Some key) off = or_off (first key) (second key) off
-
--- A list without the items of some keys, and then without those of others, is the list without the
--- items of all of them.
-pub items_without-twice : (kind : Kind) (first second : ℕ → Bool) (list : List ℕ)
-    → items_without kind second (items_without kind first list)
-    ≡ items_without kind (either_keys first second) list
-items_without-twice kind first second list =
-    filter-filter (λ (item : ℕ). not (is_among first (key_of_item kind item)))
-    (λ (item : ℕ). not (is_among second (key_of_item kind item)))
-    (λ (item : ℕ). not (is_among (either_keys first second) (key_of_item kind item))) list
-    (λ (item : ℕ) on. among_on first second (key_of_item kind item) on)
-    (λ (item : ℕ) off. among_off first second (key_of_item kind item) off)
-
--- A well-formed list without the items of some keys is well-formed.
-pub well_formed-without : (kind : Kind) (keys : ℕ → Bool) (list : List ℕ) → IsWellFormed kind list
-    → IsWellFormed kind (items_without kind keys list)
-well_formed-without kinds.Pqueue keys list formed =
-    rises-filter (λ (item : ℕ). not (is_among keys (key_of_item kinds.Pqueue item))) list formed
-well_formed-without kinds.Map keys list formed =
-    keys_once-filter (λ (item : ℕ). not (is_among keys (key_of_item kinds.Map item))) list formed
-well_formed-without kinds.Queue keys list formed = tt
-well_formed-without kinds.Stack keys list formed = tt
-well_formed-without kinds.IntSet keys list formed = tt
-well_formed-without kinds.Register keys list formed = tt
-well_formed-without kinds.Counter keys list formed = tt
-well_formed-without kinds.CasRegister keys list formed = tt
-
--- A part that has a legal order from each list from which the book has one is evidence of the book,
--- by the set of no keys.
-pub evidence_from_all : (kind : Kind) (book part : List Page)
-    → CarriesOver (kind_next kind) book part → IsEvidence kind book part
-evidence_from_all kind book part carries = (
-  no_keys,
-  λ list formed legal.
-      subst (λ (l : List ℕ). HasLegalOrder (spec_from l (kind_next kind)) part)
-      (sym (items_without-none kind list)) (carries list legal),
-)
-
--- A part that is evidence of a part, which is evidence of the book, is evidence of the book.
-pub evidence_twice : (kind : Kind) (book mid part : List Page) → IsEvidence kind book mid
-    → IsEvidence kind mid part → IsEvidence kind book part
-evidence_twice kind book mid part (first, outer) (second, inner) = (
-  either_keys first second,
-  λ list formed legal.
-      subst (λ (l : List ℕ). HasLegalOrder (spec_from l (kind_next kind)) part)
-      (items_without-twice kind first second list)
-      (inner (items_without kind first list) (well_formed-without kind first list formed)
-      (outer list formed legal)),
-)
-
--- A legal order of a book gives one of each part that is evidence of it, since no object begins
--- with an item that has a key.
+-- A legal order of a book gives one of each part that is evidence of it.
 pub evidence_tells : EvidenceTells
-evidence_tells kinds.Queue book part (keys, carries) order = carries [] tt order
-evidence_tells kinds.Stack book part (keys, carries) order = carries [] tt order
-evidence_tells kinds.Register book part (keys, carries) order = carries (0 ∷ []) tt order
-evidence_tells kinds.Counter book part (keys, carries) order = carries (0 ∷ []) tt order
-evidence_tells kinds.IntSet book part (keys, carries) order = carries [] tt order
-evidence_tells kinds.Pqueue book part (keys, carries) order = carries [] tt order
-evidence_tells kinds.CasRegister book part (keys, carries) order = carries (0 ∷ []) tt order
-evidence_tells kinds.Map book part (keys, carries) order = carries [] tt order
+evidence_tells kind book names part evidence order =
+    carries_tells kind book part (evidence_carries_over kind book names part evidence) order
+
+-- ---- the calls that evidence keeps
+
+all_named : (book : List Page) (call : Call) → IsCall book call → IsNamed (all_numbers book) call
+all_named book call inside =
+    let n : ℕ = calls_of book call.caller in
+    let P : List ℕ → Type 0 = λ xs. (k : ℕ) × (k < length xs) × (get_or xs k 0 ≡ call.number) in
+    let there : P (range_with_len 0 n) = (
+      call.number,
+      omega (arith, length-range_with_len 0 n, inside),
+      omega (arith, get_or-range_with_len 0 n call.number 0 inside),
+    ) in
+    subst P (sym (numbers_of-all book call.caller)) there
+
+-- A read-only call of a part was a read-only call of the book.
+was_read_only : (next : List ℕ → ℕ → List ℕ × ℕ) (book : List Page) (names : List (List ℕ))
+    (part : List Page) → IsPart book names part → (call : Call) → IsCall part call
+    → IsReadOnly next part call → IsReadOnly next book (original names call)
+was_read_only next book names part is call inside leaves =
+    let known = some_that (record_of part call)
+    (λ (r : Record). Leaves next (unwrap_or (operation_of part call) 0) r.reply) leaves in
+    let was = record_was book names part is call known.0 known.1 in
+    let word : unwrap_or (operation_of part call) 0
+    ≡ unwrap_or (operation_of book (original names call)) 0 =
+    ap (λ (o : Option ℕ). unwrap_or o 0) (is.operations call inside) in
+    let there : Leaves next (unwrap_or (operation_of book (original names call)) 0) was.0.reply =
+    subst (λ (op : ℕ). Leaves next op was.0.reply) word
+    (subst (λ (reply : ℕ). Leaves next (unwrap_or (operation_of part call) 0) reply)
+    was.2.reply known.2) in
+    subst (λ o. IsSomeAnd o (λ (r : Record).
+    Leaves next (unwrap_or (operation_of book (original names call)) 0) r.reply))
+    (sym was.1) there
+
+shown_none : (is_put : Bool) (value : ℕ) (reply : Option ℕ)
+    → (if is_put then Some value else value_shown reply) ≡ None
+    → (if is_put then Some value else value_shown None) ≡ None
+shown_none true value reply none = none
+shown_none false value reply none = refl
+
+kind_key_none : (kind : Kind) (word : ℕ) (reply : Option ℕ) → key_by_kind kind word reply ≡ None
+    → key_by_kind kind word None ≡ None
+kind_key_none kinds.Queue word reply none =
+    shown_none (is_operation_of word words.enq) (argument_of word) reply none
+kind_key_none kinds.Stack word reply none =
+    shown_none (is_operation_of word words.push) (argument_of word) reply none
+kind_key_none kinds.Pqueue word reply none =
+    shown_none (is_operation_of word words.insert) (argument_of word) reply none
+kind_key_none kinds.IntSet word reply none = none
+kind_key_none kinds.Map word reply none = none
+kind_key_none kinds.Register word reply none = none
+kind_key_none kinds.Counter word reply none = none
+kind_key_none kinds.CasRegister word reply none = none
+
+step_key_none : (kind : Kind) (is_known : Bool) (word : ℕ) (reply : Option ℕ)
+    → (if is_known then key_by_kind kind word reply else None) ≡ None
+    → (if is_known then key_by_kind kind word None else None) ≡ None
+step_key_none kind true word reply none = kind_key_none kind word reply none
+step_key_none kind false word reply none = refl
+
+-- An operation that is about no key with a reply is about none without it.
+fewer_keys : (kind : Kind) (word : ℕ) (small whole : Option ℕ)
+    → ((reply : ℕ) → small ≡ Some reply → whole ≡ Some reply) → key_of_step kind word whole ≡ None
+    → key_of_step kind word small ≡ None
+fewer_keys kind word None whole same none =
+    step_key_none kind (is_known_word kind word) word whole none
+fewer_keys kind word (Some reply) whole same none =
+    subst (λ (o : Option ℕ). key_of_step kind word o ≡ None) (same reply refl) none
+
+-- Where a call of a part was about no key, it is about none.
+key_was_none : (kind : Kind) (book : List Page) (names : List (List ℕ)) (part : List Page)
+    → IsPart book names part → (call : Call) → IsCall part call
+    → key_of_call kind book (original names call) ≡ None → key_of_call kind part call ≡ None
+key_was_none kind book names part is call inside none =
+    let whole : Option ℕ =
+    option_map (λ (r : Record). r.reply) (record_of book (original names call)) in
+    let small : Option ℕ = option_map (λ (r : Record). r.reply) (record_of part call) in
+    let same : (reply : ℕ) → small ≡ Some reply → whole ≡ Some reply = λ reply e.
+    let known = map_some (record_of part call) (λ (r : Record). r.reply) reply e in
+    let was = record_was book names part is call known.0 known.1 in
+    ap (option_map (λ (r : Record). r.reply)) was.1
+    ∙ ap (λ (n : ℕ). Some n) (sym was.2.reply ∙ known.2) in
+    let here : key_of_step kind (unwrap_or (operation_of part call) 0) whole ≡ None =
+    subst (λ (o : Option ℕ). key_of_step kind (unwrap_or o 0) whole ≡ None)
+    (sym (is.operations call inside)) none in
+    fewer_keys kind (unwrap_or (operation_of part call) 0) small whole same here
+
+-- A step keeps each call that is neither read-only nor about a key and that is held by the view of
+-- an answered call which it keeps.
+step_keeps : (kind : Kind) (book : List Page) (names : List (List ℕ)) (part : List Page)
+    → IsStep kind book names part → (call other : Call) (small r : Record)
+    → record_of part call ≡ Some small → record_of book (original names call) ≡ Some r
+    → Holds r.view other → ¬ IsReadOnly (kind_next kind) book other
+    → key_of_call kind book other ≡ None → IsNamed names other
+step_keeps kind book names part step call other small r there known held writes keyless =
+    let is : IsPart book names part = step_part kind book names part step in
+    let inside : IsCall book other = omega (
+      arith,
+      held,
+      below_calls book r.view (step.valid.within (original names call) r known) other.caller,
+    ) in
+    let named = find_number (numbers_of names other.caller) other.number in
+    elim named [
+      | inl found ↦ found
+      | inr none ↦
+          let unnamed : ¬ IsNamed names other = λ h. none h.0 h.1 h.2 in
+          elim step.rule [
+            | inl back ↦
+                let at = book_at_some_cut book part step.valid back.at_some_cut in
+                let was = record_from_part book back.at_some_cut.cut part at call small there in
+                let here : IsCall part call = omega (
+                  arith,
+                  is.answers call.caller,
+                  slice_get_within _ call.number small there,
+                ) in
+                let same : original names call ≡ call =
+                ap (λ (ns : List (List ℕ)). original ns call) back.named
+                ∙ original-all part call here in
+                let one : small ≡ r = same_Some small r
+                (sym was.1 ∙ (sym (ap (record_of book) same) ∙ known)) in
+                let seen : Holds small.view other =
+                subst (λ (x : Record). Holds x.view other) (sym one) held in
+                let stays : IsCall part other =
+                (at.calls other).1 (call, small, was.0, was.1, seen) in
+                absurd (unnamed (subst (λ (ns : List (List ℕ)). IsNamed ns other) (sym back.named)
+                (all_named part other stays)))
+            | inr by_calls ↦ elim by_calls [
+              | inl lacks ↦ absurd (writes (lacks.read_only other inside unnamed))
+              | inr lacks ↦
+                  let goes : is_among lacks.keys (key_of_call kind book other) ≡ true =
+                  unnamed_goes kind lacks.keys book other inside
+                  (subst (λ (ns : List (List ℕ)). ¬ IsNamed ns other) lacks.named unnamed) in
+                  absurd (true≢false (sym goes ∙ ap (is_among lacks.keys) keyless))
+            ]
+          ]
+    ]
+
+steps_keep : (kind : Kind) (book : List Page) (steps : List (List (List ℕ)))
+    (names : List (List ℕ)) (part : List Page) → AreSteps kind book steps names part
+    → (call other : Call) (r : Record) → IsAnswered part call
+    → record_of book (original names call) ≡ Some r → Holds r.view other
+    → ¬ IsReadOnly (kind_next kind) book other → key_of_call kind book other ≡ None
+    → IsNamed names other
+steps_keep kind book [] names part (valid, same, named) call other r answered known held writes
+    keyless =
+    let inside : IsCall book other = omega (
+      arith,
+      held,
+      below_calls book r.view (valid.within (original names call) r known) other.caller,
+    ) in
+    subst (λ (ns : List (List ℕ)). IsNamed ns other) (sym named) (all_named book other inside)
+steps_keep kind book (first ∷ later) names part (mid, rest, step, on, named) call other r answered
+    known held writes keyless =
+    let outer : IsPart book first mid = step_part kind book first mid step in
+    let inner : IsPart mid rest part = steps_part kind mid later rest part on in
+    let i : ℕ = other.caller in
+    let here : IsCall part call = omega (arith, answered, inner.answers call.caller) in
+    let there = answer_stands part call answered in
+    let middle = record_was mid rest part inner call there.0 there.1 in
+    let moved : Call = original rest call in
+    let whole = record_was book first mid outer moved middle.0 middle.1 in
+    let same : original names call ≡ original first moved =
+    ap (λ (ns : List (List ℕ)). original ns call) named
+    ∙ original-composed book mid part first rest outer inner call here in
+    let one : whole.0 ≡ r = same_Some whole.0 r (sym whole.1
+    ∙ (sym (ap (record_of book) same) ∙ known)) in
+    let seen : Holds whole.0.view other =
+    subst (λ (x : Record). Holds x.view other) (sym one) held in
+    let stays : IsNamed first other =
+    step_keeps kind book first mid step moved other middle.0 whole.0 middle.1 whole.1 seen writes
+    keyless in
+    let next : Call = record { caller = i; number = stays.0 } in
+    let was : original first next ≡ other =
+    same_call (original first next) other refl stays.2 in
+    let in_mid : IsCall mid next = omega (arith, stays.1, outer.calls i) in
+    let counted : stays.0 < count_below (numbers_of first i) (get_or whole.0.view i 0) =
+    counted_from_below (numbers_of first i) (get_or whole.0.view i 0) stays.0 (outer.rising i)
+    stays.1 (omega (arith, seen, stays.2)) in
+    let held_there : Holds middle.0.view next = omega (arith, counted, whole.2.view i) in
+    let later_named : IsNamed rest next =
+    steps_keep kind mid later rest part on call next middle.0 answered middle.1 held_there
+    (λ leaves. writes (subst (IsReadOnly (kind_next kind) book) was
+    (was_read_only (kind_next kind) book first mid outer next in_mid leaves)))
+    (key_was_none kind book first mid outer next in_mid
+    (subst (λ (c : Call). key_of_call kind book c ≡ None) (sym was) keyless)) in
+    let row : numbers_of names i ≡ picked (numbers_of first i) (numbers_of rest i) =
+    ap (λ (ns : List (List ℕ)). numbers_of ns i) named ∙ numbers_of-composed first rest i in
+    let P : List ℕ → Type 0 = λ xs. (k : ℕ) × (k < length xs) × (get_or xs k 0 ≡ other.number) in
+    let found : P (picked (numbers_of first i) (numbers_of rest i)) = (
+      later_named.0,
+      omega (
+        arith,
+        later_named.1,
+        length-map (numbers_of rest i) (λ (place : ℕ). get_or (numbers_of first i) place 0),
+      ),
+      get_or-picked (numbers_of first i) (numbers_of rest i) later_named.0 later_named.1
+          ∙ (ap (λ (place : ℕ). get_or (numbers_of first i) place 0) later_named.2 ∙ stays.2),
+    ) in
+    subst P (sym row) found
+
+-- Evidence keeps each call that is neither read-only nor about a key and that is held by the view
+-- of an answered call which it keeps.
+pub evidence_keeps_the_rest : EvidenceKeepsTheRest
+evidence_keeps_the_rest kind book names part evidence =
+    steps_keep kind book evidence.steps names part evidence.lead

@@ -11,14 +11,13 @@ use Rattle.seq_objects.specs.declared.kind.Kind.{Kind}
 use Rattle.seq_objects.specs.declared.kind.Kind.TheVariants as kinds
 use Rattle.seq_objects.specs.Words as words
 use Rattle.seq_objects.specs.Words.{OperationEntry, entries, entry_of, is_known_word, is_operation_of, code_of, has_arguments, argument_of, extra_of}
-use Rattle.seq_objects.specs.Replies.{reply_done, reply_none, reply_value, reply_bad, reply_no, reply_yes}
+use Rattle.seq_objects.specs.Replies.{reply_done, reply_none, reply_value, reply_bad, reply_no, reply_yes, value_of, shown_value}
 use Rattle.seq_objects.specs.Items.{first_taken, last_taken, inserted, place_of, place_for}
 use Rattle.seq_objects.specs.QueueSteps.{queue_after}
 use Rattle.seq_objects.specs.StackSteps.{stack_after}
 use Rattle.seq_objects.specs.IntSetSteps.{set_after, added, removed, taken_out}
 use Rattle.seq_objects.specs.MapSteps.{map_operation, map_after, item_of, key_of, place_of_key, put_at, put_in, value_at, without}
 use Rattle.seq_objects.specs.MapLaws.{HasKeysOnce, got}
-use Rattle.seq_objects.specs.Readings.{value_of, shown_value}
 use Rattle.seq_objects.specs.Objects.{kind_next, kind_next-unknown}
 use Rattle.seq_objects.proofs.MapReading.{put_is_got, put_leaves_others, delete_leaves_others, deleted_is_none, keys_stay_once}
 use Rattle.object_laws.proofs.Stepping.{apart, shown_item}

@@ -16,8 +16,8 @@ use Rattle.book_base.specs.Order.{HasLegalOrder}
 use Rattle.book_base.specs.Pruning.{HasOneOpen}
 use Rattle.book_base.proofs.PageLemmas.{page_past}
 use Rattle.book_base.proofs.GrowthLemmas.{below_calls}
-use Rattle.book_laws.proofs.BookAt.{record_from_part, record_of-part, answered_at}
-use Rattle.book_laws.proofs.BookAtLaws.{is_the_only_one, stays_valid, is_the_book_at_the_smaller, record_counts_are_the_cut, has_one_where_the_book_has, smaller_has_one}
+use Rattle.book_laws.proofs.BookAt.{record_from_part, record_of-part, answered_at, book_at_is_valid}
+use Rattle.book_laws.proofs.BookAtLaws.{is_the_only_one, is_the_book_at_the_smaller, record_counts_are_the_cut, has_one_where_the_book_has, smaller_has_one}
 use Rattle.book_laws.proofs.LegalOrder.{same_call}
 use Rattle.smaller_book.specs.Part.{size_of, numbers_of, AreRising, count_below, original, IsRenumbered, IsPart, CarriesOver}
 use Rattle.smaller_book.specs.declared.TheConstants.{FEW_CALLS}
@@ -83,39 +83,44 @@ original-all book call inside =
     ∙ zero-add call.number) in
     same_call (original (all_numbers book) call) call refl at
 
+-- A valid book with as many callers as another one, whose calls and records are those of the other
+-- one, is a part of it in which each call has the number that it has there.
+pub part_with_numbers : (book part : List Page) → IsValid part → length part ≡ length book
+    → ((call : Call) → IsCall part call → operation_of part call ≡ operation_of book call)
+    → ((call : Call) (r : Record) → record_of part call ≡ Some r → record_of book call ≡ Some r)
+    → IsPart book (all_numbers part) part
+part_with_numbers book part valid callers operations records = record {
+  callers = callers;
+  calls = λ i. sym (ap length (numbers_of-all part i) ∙ length-range_with_len 0 (calls_of part i));
+  rising = λ i. subst AreRising (sym (numbers_of-all part i)) (range-rising (calls_of part i));
+  operations = λ call inside. operations call inside
+      ∙ ap (operation_of book) (sym (original-all part call inside));
+  answers = valid.answers;
+  records = λ call small known.
+      let inside : IsCall part call =
+      omega (arith, valid.answers call.caller, slice_get_within _ call.number small known) in
+      let same : record_of book (original (all_numbers part) call) ≡ Some small =
+      ap (record_of book) (original-all part call inside) ∙ records call small known in
+      let kept : IsRenumbered (all_numbers part) small small = record {
+        reply = refl;
+        view = λ i.
+            let few : get_or small.view i 0 ≤ calls_of part i =
+            below_calls part small.view (valid.within call small known) i in
+            sym
+            (ap (λ (l : List ℕ). count_below l (get_or small.view i 0)) (numbers_of-all part i)
+            ∙ count_below-range (calls_of part i) (get_or small.view i 0) few);
+      } in
+      subst (λ o. IsSomeAnd o (λ (whole : Record). IsRenumbered (all_numbers part) whole small))
+      (sym same) kept;
+}
+
 -- The book at a cut is a part of the book in which each call has the number that it has in the
 -- book.
 pub part_from_book_at : (book : List Page) (cut : List ℕ) (part : List Page) → IsValid book
     → IsBookAt book cut part → IsPart book (all_numbers part) part
 part_from_book_at book cut part valid at =
-    let part_is : part ≡ book_at cut book = is_the_only_one book cut part valid at in
-    let still : IsValid part = subst IsValid (sym part_is) (stays_valid book cut valid) in
-    record {
-      callers = at.callers;
-      calls =
-          λ i. sym (ap length (numbers_of-all part i) ∙ length-range_with_len 0 (calls_of part i));
-      rising = λ i. subst AreRising (sym (numbers_of-all part i)) (range-rising (calls_of part i));
-      operations = λ call inside. at.operations call inside
-          ∙ ap (operation_of book) (sym (original-all part call inside));
-      answers = still.answers;
-      records = λ call small known.
-          let inside : IsCall part call =
-          omega (arith, still.answers call.caller, slice_get_within _ call.number small known) in
-          let was = record_from_part book cut part at call small known in
-          let same : record_of book (original (all_numbers part) call) ≡ Some small =
-          ap (record_of book) (original-all part call inside) ∙ was.1 in
-          let kept : IsRenumbered (all_numbers part) small small = record {
-            reply = refl;
-            view = λ i.
-                let few : get_or small.view i 0 ≤ calls_of part i =
-                below_calls part small.view (still.within call small known) i in
-                sym
-                (ap (λ (l : List ℕ). count_below l (get_or small.view i 0)) (numbers_of-all part i)
-                ∙ count_below-range (calls_of part i) (get_or small.view i 0) few);
-          } in
-          subst (λ o. IsSomeAnd o (λ (whole : Record). IsRenumbered (all_numbers part) whole small))
-          (sym same) kept;
-    }
+    part_with_numbers book part (book_at_is_valid book cut part valid at) at.callers at.operations
+    (λ (call : Call) (r : Record) known. (record_from_part book cut part at call r known).1)
 
 -- A valid book without a legal order has none at the cut of all its records.
 pub illegal_at_all : (spec : SeqSpec) (book : List Page) → IsValid book → ¬ HasLegalOrder spec book

@@ -3,7 +3,7 @@ pub mod Following
 pub mod ReadOnly
 pub mod Slices
 pub mod Filtering
-pub mod Evidence
+pub mod CarryingOver
 pub mod KeySteps
 pub mod KeyRows
 pub mod KeyCodes
@@ -13,6 +13,10 @@ pub mod LeastCuts
 pub mod Building
 pub mod Removing
 pub mod PartsOfParts
+pub mod Composed
+pub mod Steps
+pub mod Evidence
 pub mod KeyRemoval
+pub mod LoneCalls
 pub mod Moments
 pub mod Sizes

@@ -10,18 +10,15 @@ use Rattle.book_base.specs.declared.call.Call.{Call}
 use Rattle.book_base.specs.declared.call.Record.{Record}
 use Rattle.book_base.specs.Book.{Page, calls_of, IsCall, operation_of, record_of}
 use Rattle.book_laws.proofs.LegalOrder.{same_call}
-use Rattle.seq_objects.specs.declared.kind.Kind.{Kind}
 use Rattle.smaller_book.specs.Part.{numbers_of, AreRising, count_below, original, IsRenumbered, IsPart}
-use Rattle.smaller_book.specs.Keys.{IsEvidence}
-use Rattle.smaller_book.specs.Minimal.{picked, composed, IsSmaller, IsShrunk}
+use Rattle.smaller_book.specs.Numbers.{picked, composed}
 use Rattle.smaller_book.proofs.Counts.{counted_from_below, below_from_counted, count_below-within}
 use Rattle.smaller_book.proofs.Following.{call_from_answer, record_was}
-use Rattle.smaller_book.proofs.Evidence.{evidence_twice}
 use Rattle.smaller_book.proofs.Removing.{original_is_call}
 
 -- The numbers of a caller in a part of a part are those of its first numbers at the places that its
 -- second numbers say.
-numbers_of-composed : (first second : List (List ℕ)) (i : ℕ)
+pub numbers_of-composed : (first second : List (List ℕ)) (i : ℕ)
     → numbers_of (composed first second) i ≡ picked (numbers_of first i) (numbers_of second i)
 numbers_of-composed first second i =
     let kept_by : ℕ → List ℕ = λ j. picked (numbers_of first j) (numbers_of second j) in
@@ -33,7 +30,7 @@ numbers_of-composed first second i =
           ∙ sym (ap (picked (numbers_of first i)) (get_or_past second i [] past))
     ]
 
-get_or-picked : (numbers places : List ℕ) (k : ℕ) → k < length places
+pub get_or-picked : (numbers places : List ℕ) (k : ℕ) → k < length places
     → get_or (picked numbers places) k 0 ≡ get_or numbers (get_or places k 0) 0
 get_or-picked numbers places k inside =
     get_or-map (λ (place : ℕ). get_or numbers place 0) places k 0 0 inside
@@ -103,7 +100,7 @@ places_inside book mid part first second outer inner i k room =
 
 -- The call of the book that a call of a part of a part was is the original, by the first numbers,
 -- of its original by the second ones.
-original-composed : (book mid part : List Page) (first second : List (List ℕ))
+pub original-composed : (book mid part : List Page) (first second : List (List ℕ))
     → IsPart book first mid → IsPart mid second part → (call : Call) → IsCall part call
     → original (composed first second) call ≡ original first (original second call)
 original-composed book mid part first second outer inner call inside =
@@ -114,7 +111,7 @@ original-composed book mid part first second outer inner call inside =
     ∙ get_or-picked (numbers_of first i) (numbers_of second i) call.number few)
 
 -- The numbers of a part of a part are a list for each caller of the book.
-wide-composed : (book mid : List Page) (first second : List (List ℕ)) → IsPart book first mid
+pub wide-composed : (book mid : List Page) (first second : List (List ℕ)) → IsPart book first mid
     → length second ≡ length mid → length (composed first second) ≡ length book
 wide-composed book mid first second outer wide =
     let kept_by : ℕ → List ℕ = λ i. picked (numbers_of first i) (numbers_of second i) in
@@ -160,28 +157,4 @@ part_of_part book mid part first second outer inner = record {
       } in
       subst (λ o. IsSomeAnd o (λ (w : Record). IsRenumbered (composed first second) w small))
       (sym found) kept;
-}
-
--- Where a part is evidence of a book, a shrunk book of the part is a shrunk book of the book.
-pub shrunk_twice : (kind : Kind) (book mid part : List Page) (first second : List (List ℕ))
-    → IsPart book first mid → IsEvidence kind book mid
-    → IsShrunk kind mid second part → IsShrunk kind book (composed first second) part
-shrunk_twice kind book mid part first second outer evidence inner = record {
-  is_part = part_of_part book mid part first second outer inner.is_part;
-  wide = wide-composed book mid first second outer inner.wide;
-  evidence = evidence_twice kind book mid part evidence inner.evidence;
-  illegal = inner.illegal;
-  earliest = inner.earliest;
-}
-
--- A smaller book of a smaller book of a book is a smaller book of this book.
-pub smaller_twice : (kind : Kind) (book mid part : List Page) (first second : List (List ℕ))
-    → IsSmaller kind book first mid → IsSmaller kind mid second part
-    → IsSmaller kind book (composed first second) part
-smaller_twice kind book mid part first second outer inner = record {
-  is_part = part_of_part book mid part first second outer.is_part inner.is_part;
-  wide = wide-composed book mid first second outer.is_part inner.wide;
-  evidence = evidence_twice kind book mid part outer.evidence inner.evidence;
-  illegal = inner.illegal;
-  fewer = omega (arith, outer.fewer, inner.fewer);
 }

@@ -3,7 +3,7 @@ use Rattle.std.proofs.Common.{◌≡◌, ℕ, ◌∙◌, List, unwrap_or, refl, 
 use Rattle.book_base.specs.declared.call.Call.{Call}
 use Rattle.book_base.specs.declared.call.Record.{Record}
 use Rattle.book_base.specs.Book.{Page, operation_of, record_of}
-use Rattle.book_base.specs.PruningRules.{Leaves}
+use Rattle.book_base.specs.Reaching.{Leaves}
 use Rattle.smaller_book.specs.ReadOnly.{IsReadOnly, LacksReadOnlyAlone, HasOneWithoutReadOnly}
 use Rattle.smaller_book.proofs.Following.{some_that, word_at, AgreesAt, IsFollowed, has_one_in_part}
 

@@ -9,7 +9,7 @@ use Rattle.std.proofs.lemmas.Option.{slice_get_within, slice_get-get_or}
 use Rattle.list_laws.proofs.Totals.{sum-within}
 use Rattle.book_base.specs.declared.call.Call.{Call}
 use Rattle.book_base.specs.declared.call.Record.{Record}
-use Rattle.book_base.specs.PruningRules.{Leaves}
+use Rattle.book_base.specs.Reaching.{Leaves}
 use Rattle.smaller_book.proofs.Following.{some_that}
 use Rattle.book_base.specs.Book.{Page, page_of, calls_of, IsCall, IsAnswered, operation_of, record_of, announced, IsValid}
 use Rattle.book_base.proofs.PageLemmas.{caller_from_call}

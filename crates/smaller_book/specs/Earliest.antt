@@ -17,6 +17,12 @@ use Rattle.smaller_book.specs.Part.{size_of}
 abbrev pub all_numbers : List Page → List (List ℕ)
 all_numbers book = map (λ i. range_with_len 0 (calls_of book i)) (range_with_len 0 (length book))
 
+-- A part is the book at some cut within the book's records.
+pub record IsAtSomeCut (book part : List Page) : Type 0 where
+  pub cut : List ℕ
+  pub within : IsWithin cut (answered book)
+  pub at_cut : part ≡ book_at cut book
+
 -- A book is tried at a cut where it has at most `FEW_CALLS` calls, where some view of it holds
 -- several unanswered calls of one caller, or where each view of the book at the cut holds at most
 -- one unanswered call of each caller.

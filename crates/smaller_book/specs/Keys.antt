@@ -11,10 +11,10 @@ use Rattle.seq_objects.specs.declared.kind.Kind.{Kind}
 use Rattle.seq_objects.specs.declared.kind.Kind.TheVariants as kinds
 use Rattle.seq_objects.specs.Words as words
 use Rattle.seq_objects.specs.Words.{OperationEntry, is_known_word, is_operation_of, argument_of}
-use Rattle.seq_objects.specs.Readings.{value_of, shown_value}
+use Rattle.seq_objects.specs.Replies.{value_of, shown_value}
 use Rattle.seq_objects.specs.MapSteps.{key_of}
 use Rattle.seq_objects.specs.MapLaws.{HasKeysOnce}
-use Rattle.seq_objects.specs.Objects.{kind_next, kind_spec}
+use Rattle.seq_objects.specs.Objects.{kind_next}
 use Rattle.smaller_book.specs.Part.{IsPart}
 
 -- The value that a reply shows, where there is a reply and it shows a value.
@@ -115,17 +115,10 @@ CarriesOverWithout kind keys book part = (list : List ℕ) → IsWellFormed kind
     → HasLegalOrder (spec_from list (kind_next kind)) book
     → HasLegalOrder (spec_from (items_without kind keys list) (kind_next kind)) part
 
--- A part is evidence of the book: there are keys such that, from whichever well-formed list the
--- book has a legal order, the part has one from the list without the items of these keys.
-abbrev pub IsEvidence : Kind → List Page → List Page → Type 0
-IsEvidence kind book part = (keys : ℕ → Bool) × CarriesOverWithout kind keys book part
-
--- Where the book has a legal order from the first list of the kind's object, each part that is
--- evidence of the book has one from there too, since no object begins with an item that has a key.
-abbrev pub EvidenceTells : Type 0
-EvidenceTells = (kind : Kind) (book part : List Page) → IsEvidence kind book part
-    → HasLegalOrder (kind_spec kind) book
-    → HasLegalOrder (kind_spec kind) part
+-- There are keys such that, from whichever well-formed list the book has a legal order, the part
+-- has one from the list without the items of these keys.
+abbrev pub CarriesOverWithoutSome : Kind → List Page → List Page → Type 0
+CarriesOverWithoutSome kind book part = (keys : ℕ → Bool) × CarriesOverWithout kind keys book part
 
 -- Each view holds at most one unanswered call of each caller. If the book then has a legal order
 -- from a well-formed list on, the part without all calls that are about these keys has one from

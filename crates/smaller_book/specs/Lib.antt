@@ -3,5 +3,5 @@ pub mod Numbers
 pub mod ReadOnly
 pub mod Earliest
 pub mod Keys
+pub mod Evidence
 pub mod Minimal
-pub mod Worked

@@ -12,10 +12,11 @@ use Rattle.book_base.specs.Pruning.{HasOneOpen}
 use Rattle.seq_objects.specs.declared.kind.Kind.{Kind}
 use Rattle.seq_objects.specs.Objects.{kind_next, kind_spec}
 use Rattle.smaller_book.specs.declared.TheConstants.{FEW_CALLS}
-use Rattle.smaller_book.specs.Part.{size_of, numbers_of, IsPart, KeepsAnswers}
+use Rattle.smaller_book.specs.Part.{size_of, IsPart, KeepsAnswers}
 use Rattle.smaller_book.specs.ReadOnly.{IsReadOnly}
 use Rattle.smaller_book.specs.Earliest.{IsEarliest}
-use Rattle.smaller_book.specs.Keys.{key_of_call, keys_from_to, all_without, IsEvidence}
+use Rattle.smaller_book.specs.Keys.{key_of_call, keys_from_to, all_without}
+use Rattle.smaller_book.specs.Evidence.{IsEvidence}
 
 -- The numbers below `count` other than `number`, which is one of them.
 abbrev pub numbers_except : ℕ → ℕ → List ℕ
@@ -61,41 +62,39 @@ pub record IsMinimal (kind : Kind) (book : List Page) : Type 0 where
   pub keys : HasOneOpen book → (call : Call) (key : ℕ) → IsCall book call
       → key_of_call kind book call ≡ Some key → IsKeyNeeded kind book key
 
--- A smaller book: a part of a book that is evidence of it, has no legal order, and has fewer calls.
+-- A smaller book: a part that is evidence of a book, has no legal order, and has fewer calls.
 pub record IsSmaller (kind : Kind) (book : List Page) (names : List (List ℕ))
     (part : List Page) : Type 0 where
-  pub is_part : IsPart book names part
-  pub wide : length names ≡ length book
-  pub evidence : IsEvidence kind book part
+  pub evidence : IsEvidence kind book names part
   pub illegal : ¬ HasLegalOrder (kind_spec kind) part
   pub fewer : size_of part < size_of book
 
--- The numbers at these places of a list of numbers, in the order of the places.
-abbrev pub picked : List ℕ → List ℕ → List ℕ
-picked numbers places = map (λ place. slice_index numbers place) places
-
--- For each caller the numbers in the book of its calls in a part of a part: the entries of the
--- caller's list in `first`, at the places that its list in `second` names.
-abbrev pub composed : List (List ℕ) → List (List ℕ) → List (List ℕ)
-composed first second =
-    map (λ i. picked (numbers_of first i) (numbers_of second i)) (range_with_len 0 (length second))
-
--- A shrunk book: a part of a book that is evidence of it and has no legal order. The part has a
--- legal order at each earlier cut at which it is tried, and each of its calls is in some view.
+-- A shrunk book: a part that is evidence of a book and has no legal order. The part has a legal
+-- order at each earlier cut at which it is tried, and each of its calls is in some view.
 pub record IsShrunk (kind : Kind) (book : List Page) (names : List (List ℕ))
     (part : List Page) : Type 0 where
-  pub is_part : IsPart book names part
-  pub wide : length names ≡ length book
-  pub evidence : IsEvidence kind book part
+  pub evidence : IsEvidence kind book names part
   pub illegal : ¬ HasLegalOrder (kind_spec kind) part
   pub earliest : IsEarliest (kind_spec kind) part
 
--- A cut is a moment of a book: with each record that it holds, it holds all records of the book
--- whose views lie within that record's view.
-abbrev pub IsConsistentCut : List Page → List ℕ → Type 0
-IsConsistentCut book cut = (later earlier : Call) (r s : Record) → Holds cut later
+-- A cut is a moment of a book: the view of each record that it holds counts for each caller at most
+-- one call more than the cut counts records.
+abbrev pub IsMoment : List Page → List ℕ → Type 0
+IsMoment book cut = (call : Call) (r : Record) (i : ℕ) → Holds cut call
+    → record_of book call ≡ Some r → slice_index r.view i ≤ slice_index cut i + 1
+
+-- A cut is closed: with each record that it holds, it holds all records of the book with smaller
+-- views. Of records with equal views it may hold some and lack others.
+abbrev pub IsClosedCut : List Page → List ℕ → Type 0
+IsClosedCut book cut = (later earlier : Call) (r s : Record) → Holds cut later
     → record_of book later ≡ Some r → record_of book earlier ≡ Some s → IsWithin s.view r.view
-    → Holds cut earlier
+    → ¬ IsWithin r.view s.view → Holds cut earlier
+
+-- In a valid book, each of whose views holds at most one unanswered call of each caller, each
+-- closed cut is a moment.
+abbrev pub ClosedCutsAreMoments : Type 0
+ClosedCutsAreMoments = (book : List Page) (cut : List ℕ) → IsValid book → HasOneOpen book
+    → IsClosedCut book cut → IsMoment book cut
 
 -- Where a cut lies within the records of a book and lacks one of them, the book has a legal order
 -- at the cut.
@@ -104,12 +103,10 @@ IsLegalAt kind book cut = (i : ℕ) → IsWithin cut (answered book)
     → slice_index cut i < answers_of book i
     → HasLegalOrder (kind_spec kind) (book_at cut book)
 
--- A minimal valid book, each of whose views holds at most one unanswered call of each caller, has a
--- legal order at each cut within its records that lacks one of them, where the cut holds with each
--- record all records whose views lie within that record's view.
+-- A minimal valid book has a legal order at each moment within its records that lacks one of them.
 abbrev pub MinimalAtMoments : Type 0
-MinimalAtMoments = (kind : Kind) (book : List Page) (cut : List ℕ) → IsValid book → HasOneOpen book
-    → IsMinimal kind book → IsConsistentCut book cut → IsLegalAt kind book cut
+MinimalAtMoments = (kind : Kind) (book : List Page) (cut : List ℕ) → IsValid book
+    → IsMinimal kind book → IsMoment book cut → IsLegalAt kind book cut
 
 -- A minimal book of at most `FEW_CALLS` calls has a legal order at each cut within its records that
 -- lacks one of them.

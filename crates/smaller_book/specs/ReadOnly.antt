@@ -2,7 +2,7 @@
 use Rattle.std.specs.Prelude.{◌≡◌, ℕ, ◌<◌, ◌⊎◌, List, length, slice_index, unwrap_or, IsSomeAnd}
 use Rattle.book_base.specs.declared.call.Call.{Call}
 use Rattle.book_base.specs.Book.{Page, IsCall, operation_of, record_of}
-use Rattle.book_base.specs.PruningRules.{Leaves}
+use Rattle.book_base.specs.Reaching.{Leaves}
 use Rattle.smaller_book.specs.Part.{AreRising, IsNamed, IsPart, CarriesOver}
 
 -- A call is read-only: it is answered, and its operation doesn't change any list of the object at

@@ -1,9 +1,9 @@
 //! The numbers of a book's calls, and the numbers in a book of the calls of a part of a part of it.
 ghost use Rattle.std.specs.Prelude.{◌≡◌, ℕ, ◌<◌, length, slice_index, IfOk};
 ghost use Rattle.smaller_book.specs.Part.{numbers_of};
-ghost use Rattle.smaller_book.specs.Numbers.{numbers_in};
+ghost use Rattle.smaller_book.specs.Numbers.{numbers_in, picked, composed};
 ghost use Rattle.smaller_book.specs.Earliest.{all_numbers};
-ghost use Rattle.smaller_book.specs.Minimal.{picked, composed, IsSmaller};
+ghost use Rattle.smaller_book.specs.Minimal.{IsSmaller};
 
 use crate::removal::{Smaller, numbers_below};
 use book_base::{Book, NoMemory};

@@ -3,11 +3,10 @@ ghost use Rattle.std.specs.Prelude.{◌≡◌, ℕ, ◌<◌, ◌≤◌, length, 
 ghost use Rattle.book_base.specs.Cut.{IsWithin};
 ghost use Rattle.book_base.specs.Book.{answers_of, answered};
 ghost use Rattle.book_base.specs.Order.{HasLegalOrder};
-ghost use Rattle.seq_objects.specs.Objects.{kind_next, kind_spec};
-ghost use Rattle.smaller_book.specs.Part.{IsPart, CarriesOver};
+ghost use Rattle.seq_objects.specs.Objects.{kind_spec};
 ghost use Rattle.smaller_book.specs.Numbers.{numbers_in};
 ghost use Rattle.smaller_book.specs.Minimal.{IsSmaller};
-ghost use Rattle.smaller_book.specs.Earliest.{all_numbers, IsEarliest, IsIllegalCut, IsLeastAt, IsLeastCut};
+ghost use Rattle.smaller_book.specs.Earliest.{IsAtSomeCut, IsEarliest, IsIllegalCut, IsLeastAt, IsLeastCut};
 
 use crate::FEW_CALLS;
 use crate::composing::numbers_of_all;
@@ -31,10 +30,8 @@ use std::alloc::Global;
 pub fn earliest(alloc: Global, kind: Kind, book: &Book) -> Result<Book, NoMemory>
     // The book has no legal order.
     requires { ¬ HasLegalOrder (kind_spec kind) book.now }
-    // The answer is a part of the book: of each caller it has the first calls, up to some number.
-    ensures part { IfOk result (λ part. IsPart book.now (all_numbers part) part) }
-    // Where the book has a legal order, the part has one, whichever list the object begins with.
-    ensures evidence { IfOk result (CarriesOver (kind_next kind) book.now) }
+    // The answer is the book at some cut within its records.
+    ensures at_cut { IfOk result (IsAtSomeCut book.now) }
     // The part has no legal order.
     ensures illegal { IfOk result (λ part. ¬ HasLegalOrder (kind_spec kind) part) }
     // The part has a legal order at each cut that lacks a record of the part and at which the part

@@ -13,6 +13,7 @@ use crate::FEW_CALLS;
 use book_base::{Book, Cut, NoMemory};
 use broken_rules::broken_rule;
 use frontier_check::{Verdict, check};
+use kind_search::SearchedKind;
 use next_calls::has_one_open;
 use seq_objects::Kind;
 use std::alloc::Global;
@@ -26,7 +27,7 @@ pub fn is_illegal(alloc: Global, kind: Kind, book: &Book) -> Result<bool, NoMemo
     if !has_one_open(book) && breaks_rule(kind, book, MOST_PAIRED) {
         return Ok(true);
     }
-    match check(alloc, &kind, book)? {
+    match check(alloc, &SearchedKind { kind }, book)? {
         Verdict::Legal(_) => Ok(false),
         Verdict::Illegal => Ok(true),
     }

@@ -6,6 +6,7 @@ ghost use Rattle.book_base.specs.Pruning.{HasOneOpen};
 ghost use Rattle.smaller_book.specs.Part.{IsPart, KeepsAnswers};
 ghost use Rattle.smaller_book.specs.Numbers.{numbers_in};
 ghost use Rattle.smaller_book.specs.Keys.{key_of_call, is_among, keys_from_to, row_without, all_without};
+ghost use Rattle.smaller_book.specs.Evidence.{IsEvidence};
 ghost use Rattle.smaller_book.specs.Minimal.{IsKeyNeeded, IsSmaller};
 
 use crate::composing::smaller_still;
@@ -264,10 +265,13 @@ fn part_without(
         KeepsAnswers book.now (all_without kind (keys_from_to first last) book.now) smaller.book) }
     ensures numbers { IfOk result (λ smaller.
         numbers_in smaller.numbers.items ≡ all_without kind (keys_from_to first last) book.now) }
+    ensures evidence { IfOk result (λ smaller. HasOneOpen book.now
+        → IsEvidence kind book.now (numbers_in smaller.numbers.items) smaller.book) }
 {
     let _callers = book.callers();
     let numbers = numbers_without(alloc, kind, book, first, last)?;
     let smaller = part(alloc, book, &numbers)?;
+    let _of_part = smaller.callers();
     Ok(Smaller {
         book: smaller,
         numbers,

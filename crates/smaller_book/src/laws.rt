@@ -1,8 +1,9 @@
 //! Laws of parts of a book. Each is the contract of a function with nothing in it.
 
 ghost use Rattle.smaller_book.specs.ReadOnly.{HasOneWithoutReadOnly};
-ghost use Rattle.smaller_book.specs.Keys.{HasOneWithoutKeys, EvidenceTells};
-ghost use Rattle.smaller_book.specs.Minimal.{MinimalAtMoments, FewCallsAtCuts, SeveralOpenAtCuts};
+ghost use Rattle.smaller_book.specs.Keys.{HasOneWithoutKeys};
+ghost use Rattle.smaller_book.specs.Evidence.{EvidenceIsAPart, EvidenceCarriesOver, EvidenceTells, EvidenceKeepsTheRest};
+ghost use Rattle.smaller_book.specs.Minimal.{MinimalAtMoments, ClosedCutsAreMoments, FewCallsAtCuts, SeveralOpenAtCuts};
 
 /// Read-only calls may be left out: where a book has a legal order, each part that lacks only
 /// read-only calls has one.
@@ -20,17 +21,36 @@ pub fn calls_of_keys_may_be_left_out()
 /// Where a book has a legal order, each part that is evidence of it has one; where such a part has
 /// none, the book has none.
 pub fn evidence_tells()
-    ensures { EvidenceTells }
+    // For each part that is evidence of a book there are keys such that, from whichever well-formed
+    // list the book has a legal order, the part has one from the list without the items of these
+    // keys.
+    ensures carries_over { EvidenceCarriesOver }
+    // Where a book has a legal order, each part that is evidence of it has one.
+    ensures tells { EvidenceTells }
 {}
 
-/// A minimal valid book, each of whose views holds at most one unanswered call of each caller, has
-/// a legal order at each earlier moment of its run. A minimal book with few calls, or with a view
-/// that holds several unanswered calls of one caller, as no book of a run has, has a legal order at
-/// each cut within its records that lacks one of them.
+/// Each part that is evidence of a book has calls of the book, and lacks none that matters to an
+/// answer which it keeps.
+pub fn evidence_is_a_part()
+    // Each part that is evidence of a book is the part of it that has the calls with these numbers.
+    ensures part { EvidenceIsAPart }
+    // Each call that is held by the view of an answered call of the part, and that is neither
+    // read-only nor about a key, is in the part.
+    ensures rest { EvidenceKeepsTheRest }
+{}
+
+/// A minimal valid book has a legal order at each earlier cut at which each view holds at most one
+/// unanswered call of each caller. A minimal book with few calls, or with a view that holds several
+/// unanswered calls of one caller, has a legal order at each cut within its records that lacks one
+/// of them.
 pub fn minimal_books_have_earlier_orders()
-    // A minimal valid book with one open has a legal order at each moment that lacks a record: a
-    // moment is a cut that holds with each record all records whose views lie within its view.
+    // A minimal valid book has a legal order at each moment that lacks a record: a moment is a cut
+    // whose records have views that count for each caller at most one call more than the cut has
+    // records.
     ensures moments { MinimalAtMoments }
+    // In a valid book with one open, a cut is a moment where it holds with each record all records
+    // with smaller views. Of records with equal views it may hold some and lack others.
+    ensures closed { ClosedCutsAreMoments }
     // A minimal book of at most `FEW_CALLS` calls has a legal order at each cut that lacks a
     // record.
     ensures few { FewCallsAtCuts }

@@ -2,7 +2,6 @@
 //! book shows that the first one has no legal order.
 #![tactic(auto)]
 
-pub mod cases;
 mod composing;
 mod cuts;
 mod judging;

@@ -203,6 +203,7 @@ fn without_slice(
     let _callers = book.callers();
     let numbers = numbers_without_slice(alloc, kind, book, size, slice)?;
     let smaller = part(alloc, book, &numbers)?;
+    let _of_part = smaller.callers();
     if !has_fewer(&smaller, book) {
         return Ok(None);
     }

@@ -89,6 +89,7 @@ pub fn without(
     let _callers = book.callers();
     let numbers = all_numbers_but(alloc, book, call)?;
     let smaller = part(alloc, book, &numbers)?;
+    let _of_part = smaller.callers();
     if is_illegal(alloc, kind, &smaller)? {
         Ok(Some(Smaller {
             book: smaller,

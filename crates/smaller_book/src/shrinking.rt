@@ -5,10 +5,11 @@ ghost use Rattle.book_base.specs.Book.{IsCall};
 ghost use Rattle.book_base.specs.Order.{HasLegalOrder};
 ghost use Rattle.book_base.specs.Pruning.{HasOneOpen};
 ghost use Rattle.seq_objects.specs.Objects.{kind_next, kind_spec};
-ghost use Rattle.smaller_book.specs.Part.{size_of, IsPart};
+ghost use Rattle.smaller_book.specs.Part.{size_of};
 ghost use Rattle.smaller_book.specs.Numbers.{numbers_in};
 ghost use Rattle.smaller_book.specs.ReadOnly.{IsReadOnly};
-ghost use Rattle.smaller_book.specs.Keys.{key_of_call, IsEvidence};
+ghost use Rattle.smaller_book.specs.Keys.{key_of_call};
+ghost use Rattle.smaller_book.specs.Evidence.{IsEvidence};
 ghost use Rattle.smaller_book.specs.Minimal.{IsNeeded, IsKeyNeeded, IsMinimal, IsSmaller, IsShrunk};
 
 use crate::composing::{numbers_of_all, numbers_through, smaller_still};
@@ -30,19 +31,16 @@ use std::alloc::Global;
 /// unanswered call of each caller. A key is a value of a queue, a stack or a priority queue, or the
 /// argument of an operation of a set or a map. Where more than `FEW_CALLS` calls are left, and each
 /// view holds at most one unanswered call of each caller, only such earlier cuts are tried at which
-/// each view of the book still holds at most one, as at each moment of a run. The calls are
-/// numbered anew with new views, and the numbers that they had come with the book.
+/// each view of the book still holds at most one. The calls are numbered anew with new views, and
+/// the numbers that they had come with the book.
 pub fn shrink(alloc: Global, kind: Kind, book: &Book) -> Result<Option<Smaller>, NoMemory>
     // Where no book is answered, the book has a legal order.
     ensures none { IfOk result (λ found. IfNone found (HasLegalOrder (kind_spec kind) book.now)) }
-    // The smaller book is the part of the book that has the calls with the answered numbers.
-    ensures part { IfOk result (λ found. IfSome found (λ smaller.
-        IsPart book.now (numbers_in smaller.numbers.items) smaller.book)) }
-    // The smaller book is evidence of the book: there are keys such that, where the book has a
-    // legal order from some well-formed list, the smaller book has one from this list without the
-    // items of these keys.
+    // The smaller book is evidence of the book, and has its calls with the answered numbers: steps
+    // lead to it from the book, each back to an earlier cut, to a book without some read-only
+    // calls, or to one without all calls of some keys.
     ensures evidence { IfOk result (λ found. IfSome found (λ smaller.
-        IsEvidence kind book.now smaller.book)) }
+        IsEvidence kind book.now (numbers_in smaller.numbers.items) smaller.book)) }
     // The smaller book has no legal order.
     ensures illegal { IfOk result
         (λ found. IfSome found (λ smaller. ¬ HasLegalOrder (kind_spec kind) smaller.book)) }
@@ -89,6 +87,7 @@ fn at_earliest(alloc: Global, kind: Kind, book: &Book) -> Result<Smaller, NoMemo
     ensures { IfOk result (λ smaller. IsShrunk kind
         book.now (numbers_in smaller.numbers.items) smaller.book) }
 {
+    let _callers = book.callers();
     let part = earliest(alloc, kind, book)?;
     let numbers = numbers_of_all(alloc, &part)?;
     Ok(Smaller {

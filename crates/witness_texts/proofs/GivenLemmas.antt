@@ -48,7 +48,7 @@ witness_is_illegal bytes text h =
       kind = h.kind;
       book = h.book;
       told = h.told;
-      illegal = λ legal. h.illegal (evidence_tells h.kind h.book h.part h.evidence legal);
+      illegal = λ legal. h.illegal (evidence_tells h.kind h.book h.names h.part h.evidence legal);
     }
 
 -- where they have no answer, bytes with a first fault are refused for it, or memory was wanted

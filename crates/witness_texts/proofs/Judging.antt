@@ -8,12 +8,12 @@ use Rattle.frontier_check.specs.declared.verdict.Verdict.TheVariants.{Legal, Ill
 use Rattle.given_book.specs.FirstError.{IsFirstErrorGiven}
 use Rattle.seq_objects.specs.declared.kind.Kind.{Kind}
 use Rattle.seq_objects.specs.Objects.{kind_spec}
-use Rattle.book_picture.specs.Titles.{is_legal}
+use Rattle.book_picture.specs.Bars.{order_in}
 use Rattle.witness_texts.specs.Texts.{IsJudged, IsErrorTold}
 
 pub judged_by : (kind : Kind) (book : List Page) (verdict : Verdict)
-    → IsRight (kind_spec kind) book verdict → IsJudged kind book (is_legal verdict)
-judged_by kind book (Legal order) right = (order.items, right)
+    → IsRight (kind_spec kind) book verdict → IsJudged kind book (order_in verdict)
+judged_by kind book (Legal order) right = right
 judged_by kind book Illegal right = right
 
 pub told_by : (bytes : List ℕ) (error : Option Call) → IfSome error (IsFirstErrorGiven bytes)

@@ -7,17 +7,16 @@ use Rattle.seq_objects.specs.Objects.{kind_spec}
 use Rattle.book_picture.specs.declared.marked_calls.MarkedCalls.{MarkedCalls}
 use Rattle.book_picture.specs.declared.marked_calls.MarkedCalls.TheVariants.{Unasked, Smaller, TooLarge, NoMemory}
 use Rattle.book_picture.specs.MarkedCalls.{numbers_in}
-use Rattle.smaller_book.specs.Part.{size_of, IsPart}
-use Rattle.smaller_book.specs.Keys.{IsEvidence}
+use Rattle.smaller_book.specs.Part.{size_of}
+use Rattle.smaller_book.specs.Evidence.{IsEvidence}
 use Rattle.smaller_book.specs.Minimal.{IsMinimal}
 use Rattle.witness_texts.specs.declared.marking.TheConstants.{MOST_CALLS}
 
 -- `names` has for each caller the numbers, in the book, of its calls that make up a smaller book: a
--- minimal part of the book that has no legal order, which shows that the book has none either.
+-- minimal part that is evidence of the book and has no legal order.
 pub record AreOfASmallerBook (kind : Kind) (book : List Page) (names : List (List ℕ)) : Type 0 where
   pub part : List Page
-  pub is_part : IsPart book names part
-  pub evidence : IsEvidence kind book part
+  pub evidence : IsEvidence kind book names part
   pub illegal : ¬ HasLegalOrder (kind_spec kind) part
   pub minimal : IsMinimal kind part
 

@@ -2,6 +2,7 @@
 //! order, and the book's picture.
 #![tactic(auto)]
 
+pub mod laws;
 mod marking;
 mod picture;
 mod smaller;

@@ -1,12 +1,12 @@
 //! Which calls of a book are marked in its picture: those of a smaller book that no order explains
 //! either.
 
-ghost use Rattle.std.specs.Prelude.{IfOk};
+ghost use Rattle.std.specs.Prelude.{is_some, IfOk};
 ghost use Rattle.book_base.specs.Order.{HasLegalOrder};
 ghost use Rattle.frontier_check.specs.Verdict.{IsRight};
 ghost use Rattle.seq_objects.specs.Objects.{kind_spec};
+ghost use Rattle.book_picture.specs.Bars.{order_in};
 ghost use Rattle.book_picture.specs.MarkedCalls.{numbers_in};
-ghost use Rattle.book_picture.specs.Titles.{is_legal};
 ghost use Rattle.witness_texts.specs.Marking.{AreOfASmallerBook, AreMarksOf, AreMarksFor};
 
 use book_base::{Book, NoMemory};
@@ -24,7 +24,7 @@ const MOST_CALLS: u64 = 1024;
 /// legal order.
 pub(crate) fn marks_for(alloc: Global, kind: Kind, book: &Book, verdict: &Verdict) -> MarkedCalls
     requires { IsRight (kind_spec kind) book.now verdict.now }
-    ensures { AreMarksFor kind book.now (is_legal verdict.now) result }
+    ensures { AreMarksFor kind book.now (is_some (order_in verdict.now)) result }
 {
     match verdict {
         Verdict::Legal(_) => MarkedCalls::Unasked,

@@ -10,6 +10,7 @@ use book_base::ReadFault;
 use book_picture::draw_book;
 use frontier_check::check;
 use given_book::{first_error, read_given};
+use kind_search::SearchedKind;
 use std::alloc::Global;
 
 /// The picture, as SVG, of the book that the bytes give.
@@ -39,7 +40,7 @@ fn drawn(alloc: Global, bytes: &[u8]) -> Result<String, ReadFault>
 {
     let (kind, book) = read_given(alloc, bytes)?;
     let error = first_error(alloc, bytes)?;
-    let verdict = check(alloc, &kind, &book)?;
+    let verdict = check(alloc, &SearchedKind { kind }, &book)?;
     let marks = marks_for(alloc, kind, &book, &verdict);
     Ok(draw_book(alloc, kind, &book, &verdict, &marks, error)?)
 }

@@ -1,12 +1,12 @@
-use Rattle.std.proofs.Common.{refl, ap, ◌∙◌, arith}
-use Rattle.book_picture.specs.Groups.{is_plain}
-use Rattle.book_picture.proofs.PlainTexts.{plain-append, plain_number, plain_kind}
+use Rattle.std.proofs.Common.{ℕ, List, ◌++◌, string_bytes, ap, ◌∙◌}
+use Rattle.book_picture.specs.Titles.{notes_with}
+use Rattle.book_picture.proofs.PlainTexts.{plain_notes}
 use Rattle.book_picture.proofs.sheet.put_notes.Goals as goal
 
 pub returns : goal.returns
-returns c = (
-  _,
-  plain_number 12 _ (omega arith) (plain-append c.name-kind.result.now _ (ap is_plain
-      c.name-kind.ensures ∙ plain_kind c.args.kind) (plain_number 12 _ (omega arith) refl)),
-  c.in_ok-write.ensures.bytes,
-)
+unfolding notes_with
+returns c = record {
+  plain = plain_notes c.args.kind;
+  grown = c.in_ok-write.ensures.bytes
+      ∙ ap (λ (t : List ℕ). string_bytes c.args.out.now ++ notes_with t) c.name-kind.ensures;
+}

@@ -1,30 +1,26 @@
-use Rattle.std.proofs.Common.{◌≡◌, ℕ, List, ◌++◌, codes, decimal, string_bytes, append_assoc, refl, arith}
-use Rattle.book_picture.proofs.PlainTexts.{plain-append, plain_number}
+use Rattle.std.proofs.Common.{◌≡◌, ℕ, List, ◌++◌, string_bytes, append_assoc, ap, ◌∙◌, arith}
+use Rattle.book_picture.specs.Bars.{outline_at, outline_text, outline_class, outline_close}
+use Rattle.book_picture.specs.Groups.{is_plain}
+use Rattle.book_picture.proofs.PlainTexts.{plain_outline}
 use Rattle.book_picture.proofs.sheet.put_outline.Goals as goal
 
 pub returns : goal.returns
 returns c =
-    let class : List ℕ = c.class-class.result.now in
-    let close : List ℕ = c.close-close.result.now in
+    let bar = c.args.bar in
     let start : ℕ = c.start-start.result in
     let turn : ℕ = c.turn-turn.result in
-    let top : ℕ = c.args.bar.top in
     let bottom : ℕ = c.saturating_add-bottom.result in
-    let rest : List ℕ
-    = class
-    ++ (codes "\" d=\"M "
-    ++ (decimal start ++ (codes " " ++ (decimal top ++ (codes " H " ++ (decimal turn ++ (codes " V "
-    ++ (decimal bottom ++ (codes " H " ++ (decimal start ++ (close ++ codes "\"/>\n"))))))))))) in
-    let grown : string_bytes c.write.new.self ≡ string_bytes c.args.out.now
-    ++ (codes "<path class=\"bar" ++ rest) = simp (c.in_ok-write.ensures.bytes, append_assoc) in (
-      codes "<path class=\"bar" ++ rest,
-      (
-        plain-append class _ c.class-class.ensures
-            (plain_number start _ (omega arith)
-            (plain_number top _ (omega arith)
-            (plain_number turn _ (omega arith) (plain_number bottom _ (omega arith) (plain_number
-            start _ (omega arith) (plain-append close _ c.close-close.ensures refl)))))),
-        (rest, refl),
-      ),
-      grown,
-    )
+    let there : outline_text bar
+    ≡ outline_at (outline_class bar) start bar.top turn bottom (outline_close bar) =
+    cc (c.start-start.ensures, c.turn-turn.ensures, c.saturating_add-bottom.ensures) in
+    let written : outline_at c.class-class.result.now start bar.top turn bottom
+    c.close-close.result.now ≡ outline_text bar =
+    cc (there, c.class-class.ensures, c.close-close.ensures) in
+    let bytes : string_bytes c.write.new.self ≡ string_bytes c.args.out.now
+    ++ outline_at c.class-class.result.now start bar.top turn bottom c.close-close.result.now =
+    unfold outline_at in simp (c.in_ok-write.ensures.bytes, append_assoc) in
+    record {
+      plain = ap is_plain there ∙ plain_outline bar start bar.top turn bottom (omega arith)
+          (omega arith) (omega arith) (omega arith);
+      grown = bytes ∙ ap (λ (t : List ℕ). string_bytes c.args.out.now ++ t) written;
+    }

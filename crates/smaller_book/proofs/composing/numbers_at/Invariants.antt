@@ -1,5 +1,5 @@
 use Rattle.std.proofs.Common.{◌≡◌, take}
-use Rattle.smaller_book.specs.Minimal.{picked}
+use Rattle.smaller_book.specs.Numbers.{picked}
 use Rattle.smaller_book.proofs.composing.numbers_at.Given as goal
 
 abbrev pub invariant-loop-place : goal.invariant-loop-place

@@ -1,7 +1,7 @@
 use Rattle.std.proofs.Common.{◌≡◌, ℕ, ◌<◌, List, length, get_or, ◌∙◌, sym, ap, subst, arith}
 use Rattle.smaller_book.specs.Part.{numbers_of}
 use Rattle.smaller_book.specs.Numbers.{numbers_in}
-use Rattle.smaller_book.specs.Minimal.{picked}
+use Rattle.smaller_book.specs.Numbers.{picked}
 use Rattle.smaller_book.proofs.Building.{numbers_in-at, numbers_in-more}
 use Rattle.smaller_book.proofs.composing.numbers_through.Goals as goal
 

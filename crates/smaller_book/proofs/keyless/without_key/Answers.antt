@@ -1,9 +1,7 @@
-use Rattle.std.proofs.Common.{◌≡◌, ◌∙◌, true, sym, ap, subst, length}
+use Rattle.std.proofs.Common.{◌≡◌, ◌∙◌, true, ap}
 use Rattle.smaller_book.specs.Part.{IsPart}
 use Rattle.smaller_book.specs.Keys.{key_of_call, is_among, keys_from_to, all_without}
-use Rattle.smaller_book.proofs.KeyRows.{all_without_are_numbers}
 use Rattle.smaller_book.proofs.KeyRemoval.{own_key, size-less_without}
-use Rattle.smaller_book.proofs.KeyLaw.{has_one_without_keys}
 use Rattle.smaller_book.proofs.keyless.without_key.Goals as goal
 
 pub returns-then-branch-clause-smaller : goal.returns-then-branch-clause-smaller
@@ -17,14 +15,7 @@ returns-then-branch-clause-smaller c =
     let goes : is_among (keys_from_to key key) (key_of_call kind book c.args.call) ≡ true =
     ap (is_among (keys_from_to key key)) c.requires.key ∙ own_key key in
     record {
-      is_part =
-          subst (λ names. IsPart book names smaller.book) (sym c.in_ok-smaller.ensures.numbers) is;
-      wide = ap length c.in_ok-smaller.ensures.numbers
-          ∙ (all_without_are_numbers kind (keys_from_to key key) book).wide;
-      evidence = (
-        keys_from_to key key,
-        has_one_without_keys kind (keys_from_to key key) book smaller.book c.requires.open is,
-      );
+      evidence = c.in_ok-smaller.ensures.evidence c.requires.open;
       illegal = c.in_ok-is_illegal.ensures.illegal c.if-branch.true;
       fewer = size-less_without kind
           (keys_from_to key key) book c.args.call smaller.book c.requires.call goes is;

@@ -1,8 +1,5 @@
-use Rattle.std.proofs.Common.{◌∙◌, sym, ap, subst, length}
 use Rattle.smaller_book.specs.Part.{IsPart}
 use Rattle.smaller_book.specs.Keys.{keys_from_to, all_without}
-use Rattle.smaller_book.proofs.KeyLaw.{has_one_without_keys}
-use Rattle.smaller_book.proofs.KeyRows.{all_without_are_numbers}
 use Rattle.smaller_book.proofs.Removing.{size-less_at}
 use Rattle.smaller_book.proofs.keyless.without_some.Goals as goal
 
@@ -15,15 +12,8 @@ returns-then-branch c =
     let is : IsPart book (all_without kind keys book) smaller.book = c.in_ok-smaller.ensures.part in
     let fewer = c.has_fewer.ensures c.if-not-has_fewer.false in
     record {
-      is_part =
-          subst (λ names. IsPart book names smaller.book) (sym c.in_ok-smaller.ensures.numbers) is;
-      wide =
-          ap length c.in_ok-smaller.ensures.numbers ∙ (all_without_are_numbers kind keys book).wide;
-      evidence = (
-        keys,
-        has_one_without_keys kind keys book smaller.book
-            (c.has_one_open.ensures.one c.if-not-has_one_open.false) is,
-      );
+      evidence = c.in_ok-smaller.ensures.evidence
+          (c.has_one_open.ensures.one c.if-not-has_one_open.false);
       illegal = c.in_ok-is_illegal.ensures.illegal c.if-branch.true;
       fewer = size-less_at book (all_without kind keys book) smaller.book fewer.0 is fewer.1;
     }

@@ -1,10 +1,8 @@
 use Rattle.std.proofs.Common.{sym, subst}
-use Rattle.seq_objects.specs.Objects.{kind_next}
-use Rattle.smaller_book.specs.Part.{IsPart}
+use Rattle.smaller_book.specs.Part.{IsPart, KeepsAnswers}
 use Rattle.smaller_book.specs.Numbers.{numbers_in, AreNumbersOf}
-use Rattle.smaller_book.proofs.Evidence.{evidence_from_all}
-use Rattle.smaller_book.proofs.ReadOnly.{has_one_without_read_only}
 use Rattle.smaller_book.proofs.Removing.{size-less_at}
+use Rattle.smaller_book.proofs.Steps.{read_only_evidence}
 use Rattle.smaller_book.proofs.read_only_calls.without_slice.Goals as goal
 
 pub part-requires : goal.part-requires
@@ -23,11 +21,15 @@ returns-then-branch c =
     c.in_ok-smaller.ensures.part in
     let fewer = c.has_fewer.ensures c.if-not-has_fewer.false in
     record {
-      is_part = is;
-      wide = c.in_ok-numbers.ensures.numbers.wide;
-      evidence = evidence_from_all kind book small
-          (has_one_without_read_only (kind_next kind) book
-          (numbers_in c.in_ok-numbers.numbers.items) small is c.in_ok-numbers.ensures.lacks);
+      evidence = read_only_evidence kind book (numbers_in c.in_ok-numbers.numbers.items) small
+          c.callers-callers.ensures.valid c.callers-of_part.ensures.valid
+          (record {
+            wide = c.in_ok-numbers.ensures.numbers.wide;
+            is_part = is;
+            answers = subst (λ rows. KeepsAnswers book (numbers_in rows) small)
+                c.deref.ensures.value c.in_ok-smaller.ensures.answers;
+            read_only = c.in_ok-numbers.ensures.lacks;
+          });
       illegal = c.in_ok-is_illegal.ensures.illegal c.if-branch.true;
       fewer = size-less_at book (numbers_in c.in_ok-numbers.numbers.items) small fewer.0 is fewer.1;
     }

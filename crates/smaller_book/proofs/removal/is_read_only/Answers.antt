@@ -2,7 +2,7 @@ use Rattle.std.proofs.Common.{ℕ, Option, Some, unwrap_or, sym, subst}
 use Rattle.std.specs.Prelude.{◌↔◌, IsTrue, IsSomeAnd}
 use Rattle.book_base.specs.declared.call.Record.{Record}
 use Rattle.book_base.specs.Book.{operation_of}
-use Rattle.book_base.specs.PruningRules.{Leaves}
+use Rattle.book_base.specs.Reaching.{Leaves}
 use Rattle.seq_objects.specs.Objects.{kind_spec}
 use Rattle.smaller_book.proofs.removal.is_read_only.Goals as goal
 

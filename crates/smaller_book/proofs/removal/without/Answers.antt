@@ -1,12 +1,12 @@
-use Rattle.std.proofs.Common.{List, sym, ap, subst, length, ◌∙◌}
+use Rattle.std.proofs.Common.{List, sym, subst}
 use Rattle.book_base.specs.Book.{Page, IsCall}
 use Rattle.seq_objects.specs.Objects.{kind_next}
-use Rattle.smaller_book.specs.Part.{IsPart}
+use Rattle.smaller_book.specs.Part.{IsPart, KeepsAnswers}
 use Rattle.smaller_book.specs.Numbers.{numbers_in, AreNumbersOf}
+use Rattle.smaller_book.specs.Evidence.{IsEvidence}
 use Rattle.smaller_book.specs.Minimal.{all_but}
-use Rattle.smaller_book.proofs.Evidence.{evidence_from_all}
-use Rattle.smaller_book.proofs.ReadOnly.{has_one_without_read_only}
 use Rattle.smaller_book.proofs.Removing.{all_but_are_numbers, lacks_one_alone, read_only_is_call, size-less}
+use Rattle.smaller_book.proofs.Steps.{read_only_evidence}
 use Rattle.smaller_book.proofs.removal.without.Goals as goal
 
 pub all_numbers_but-requires : goal.all_numbers_but-requires
@@ -34,12 +34,21 @@ returns-then-branch-clause-smaller c =
     c.in_ok-smaller.ensures.part in
     let but : IsPart book (all_but book call) small =
     subst (λ names. IsPart book names small) c.in_ok-numbers.ensures is in
+    let answers : KeepsAnswers book (all_but book call) small =
+    subst (λ names. KeepsAnswers book names small) c.in_ok-numbers.ensures
+    (subst (λ rows. KeepsAnswers book (numbers_in rows) small) c.deref.ensures.value
+    c.in_ok-smaller.ensures.answers) in
     record {
-      is_part = is;
-      wide = ap length c.in_ok-numbers.ensures ∙ (all_but_are_numbers book call inside).wide;
-      evidence = evidence_from_all c.args.kind book small
-          (has_one_without_read_only (kind_next c.args.kind) book (all_but book call) small but
-          (lacks_one_alone (kind_next c.args.kind) book call inside c.requires));
+      evidence = subst (λ names. IsEvidence c.args.kind book names small)
+          (sym c.in_ok-numbers.ensures)
+          (read_only_evidence c.args.kind book (all_but book call) small
+          c.callers-callers.ensures.valid c.callers-of_part.ensures.valid
+          (record {
+            wide = (all_but_are_numbers book call inside).wide;
+            is_part = but;
+            answers = answers;
+            read_only = lacks_one_alone (kind_next c.args.kind) book call inside c.requires;
+          }));
       illegal = c.in_ok-is_illegal.ensures.illegal c.if-branch.true;
       fewer = size-less book call small inside but;
     }

@@ -1,10 +1,19 @@
 use Rattle.std.proofs.Common.{◌≡◌, ℕ, ◌<◌, List, length, get_or, sym, ap, subst, ◌∙◌, arith}
 use Rattle.smaller_book.specs.Part.{numbers_of}
-use Rattle.smaller_book.specs.Numbers.{numbers_in}
-use Rattle.smaller_book.specs.Minimal.{composed, IsShrunk}
+use Rattle.smaller_book.specs.Numbers.{numbers_in, composed}
+use Rattle.smaller_book.specs.Minimal.{IsShrunk}
 use Rattle.smaller_book.proofs.Removing.{size-within}
-use Rattle.smaller_book.proofs.PartsOfParts.{places_inside, shrunk_twice}
+use Rattle.smaller_book.proofs.PartsOfParts.{places_inside}
+use Rattle.smaller_book.proofs.Steps.{evidence_part, evidence_wide, shrunk_twice}
 use Rattle.smaller_book.proofs.shrinking.at_earliest_after.Goals as goal
+
+pub numbers_through-requires-clause-callers : goal.numbers_through-requires-clause-callers
+numbers_through-requires-clause-callers c =
+    ap length c.deref.ensures.value
+    ∙ (evidence_wide c.args.kind c.args.book.now c.args.without.book c.in_ok-part.part.book
+    c.args.without.numbers.items c.in_ok-part.part.numbers.items c.requires.evidence
+    c.in_ok-part.ensures.evidence
+    ∙ sym (ap length c.deref-2.ensures.value))
 
 pub numbers_through-requires-clause-inside : goal.numbers_through-requires-clause-inside
 numbers_through-requires-clause-inside c =
@@ -12,7 +21,11 @@ numbers_through-requires-clause-inside c =
     let part = c.in_ok-part.part in
     let all =
     places_inside c.args.book.now without.book part.book (numbers_in without.numbers.items)
-    (numbers_in part.numbers.items) c.requires.is_part c.in_ok-part.ensures.is_part in
+    (numbers_in part.numbers.items)
+    (evidence_part c.args.kind c.args.book.now (numbers_in without.numbers.items) without.book
+    c.requires.evidence)
+    (evidence_part c.args.kind without.book (numbers_in part.numbers.items) part.book
+    c.in_ok-part.ensures.evidence) in
     let P : List (List ℕ) → List (List ℕ) → Type 0 =
     λ first second. (i k : ℕ) → k < length (numbers_of second i)
     → get_or (numbers_of second i) k 0 < length (numbers_of first i) in
@@ -30,8 +43,8 @@ returns-clause-shrunk c =
     let first : List (List ℕ) = numbers_in without.numbers.items in
     let second : List (List ℕ) = numbers_in part.numbers.items in
     let whole : IsShrunk kind book (composed first second) part.book
-    = shrunk_twice kind book without.book part.book first second c.requires.is_part
-    c.requires.evidence c.in_ok-part.ensures in
+    = shrunk_twice kind book without.book part.book first second c.requires.evidence
+    c.in_ok-part.ensures in
     let same : numbers_in c.in_ok-numbers.numbers.items ≡ composed first second
     = c.in_ok-numbers.ensures
     ∙ (ap (λ rows. composed (numbers_in rows) (numbers_in c.deref-2.result.now))
@@ -46,6 +59,8 @@ returns-clause-fewer c =
     omega (
       arith,
       size-within without.book
-          (numbers_in part.numbers.items) part.book c.in_ok-part.ensures.is_part,
+          (numbers_in part.numbers.items) part.book
+          (evidence_part c.args.kind without.book (numbers_in part.numbers.items) part.book
+          c.in_ok-part.ensures.evidence),
       c.requires.fewer,
     )

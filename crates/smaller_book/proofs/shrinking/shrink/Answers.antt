@@ -1,9 +1,21 @@
 use Rattle.std.proofs.Common.{rules, ◌≡◌, ℕ, ◌<◌, List, length, get_or, sym, ap, subst, ◌∙◌}
 use Rattle.smaller_book.specs.Part.{numbers_of}
-use Rattle.smaller_book.specs.Numbers.{numbers_in}
-use Rattle.smaller_book.specs.Minimal.{composed, IsShrunk}
-use Rattle.smaller_book.proofs.PartsOfParts.{places_inside, shrunk_twice}
+use Rattle.smaller_book.specs.Numbers.{numbers_in, composed}
+use Rattle.smaller_book.specs.Minimal.{IsShrunk}
+use Rattle.smaller_book.proofs.PartsOfParts.{places_inside}
+use Rattle.smaller_book.proofs.Steps.{evidence_part, evidence_wide, shrunk_twice}
 use Rattle.smaller_book.proofs.shrinking.shrink.Goals as goal
+
+pub numbers_through-requires-clause-callers : goal.numbers_through-requires-clause-callers
+numbers_through-requires-clause-callers c =
+    let smaller = c.shrinking.smaller in
+    let found = c.in-Some.next in
+    let shrunk : IsShrunk c.args.kind smaller.book (numbers_in found.numbers.items) found.book =
+    search rules in
+    ap length c.deref.ensures.value
+    ∙ (evidence_wide c.args.kind c.args.book.now smaller.book found.book smaller.numbers.items
+    found.numbers.items c.shrinking.invariant.evidence shrunk.evidence
+    ∙ sym (ap length c.deref-in-Some.ensures.value))
 
 pub numbers_through-requires-clause-inside : goal.numbers_through-requires-clause-inside
 numbers_through-requires-clause-inside c =
@@ -13,7 +25,11 @@ numbers_through-requires-clause-inside c =
     search rules in
     let all =
     places_inside c.args.book.now smaller.book found.book (numbers_in smaller.numbers.items)
-    (numbers_in found.numbers.items) c.shrinking.invariant.is_part shrunk.is_part in
+    (numbers_in found.numbers.items)
+    (evidence_part c.args.kind c.args.book.now (numbers_in smaller.numbers.items) smaller.book
+    c.shrinking.invariant.evidence)
+    (evidence_part c.args.kind smaller.book (numbers_in found.numbers.items) found.book
+    shrunk.evidence) in
     let P : List (List ℕ) → List (List ℕ) → Type 0 =
     λ first second. (i k : ℕ) → k < length (numbers_of second i)
     → get_or (numbers_of second i) k 0 < length (numbers_of first i) in
@@ -32,8 +48,8 @@ shrinking-preserved c =
     let second : List (List ℕ) = numbers_in found.numbers.items in
     let shrunk : IsShrunk kind smaller.book second found.book = search rules in
     let whole : IsShrunk kind book (composed first second) found.book
-    = shrunk_twice kind book smaller.book found.book first second c.shrinking.invariant.is_part
-    c.shrinking.invariant.evidence shrunk in
+    = shrunk_twice kind book smaller.book found.book first second c.shrinking.invariant.evidence
+    shrunk in
     let same : numbers_in c.in_ok-numbers-in-Some.numbers.items ≡ composed first second
     = c.in_ok-numbers-in-Some.ensures
     ∙ (ap (λ rows. composed (numbers_in rows) (numbers_in c.deref-in-Some.result.now))

@@ -1,8 +1,8 @@
-use Rattle.std.proofs.Common.{sym, ap, subst}
+use Rattle.std.proofs.Common.{is_some, sym, subst}
 use Rattle.frontier_check.specs.Verdict.{IsRight}
 use Rattle.frontier_check.specs.declared.verdict.Verdict.{Verdict}
 use Rattle.seq_objects.specs.Objects.{kind_spec}
-use Rattle.book_picture.specs.Titles.{is_legal}
+use Rattle.book_picture.specs.Bars.{order_in}
 use Rattle.witness_texts.specs.Marking.{AreMarksFor}
 use Rattle.witness_texts.proofs.marking.marks_for.Goals as goal
 
@@ -14,5 +14,6 @@ marks_of-requires c =
 
 pub returns-in-Illegal : goal.returns-in-Illegal
 returns-in-Illegal c =
-    subst (λ (v : Verdict). AreMarksFor c.args.kind c.args.book.now (is_legal v) c.marks_of.result)
+    subst (λ (v : Verdict).
+    AreMarksFor c.args.kind c.args.book.now (is_some (order_in v)) c.marks_of.result)
     (sym c.in-Illegal.is) c.marks_of.ensures

@@ -1,4 +1,4 @@
-use Rattle.book_picture.specs.Titles.{is_legal}
+use Rattle.book_picture.specs.Bars.{order_in}
 use Rattle.witness_texts.proofs.Judging.{judged_by, told_by}
 use Rattle.witness_texts.proofs.picture.drawn.Goals as goal
 
@@ -14,13 +14,12 @@ returns-clause-shown c =
       kind = kind;
       book = book;
       told = c.in_ok-kind.ensures.found;
-      legal = is_legal verdict;
+      order = order_in verdict;
       judged = judged_by kind book verdict c.in_ok-verdict.ensures.verdict;
       marks = c.marks_for-marks.result;
       marked = c.marks_for-marks.ensures;
       error = c.in_ok-error.error;
       first = told_by c.args.bytes.now c.in_ok-error.error c.in_ok-error.ensures.found
           c.in_ok-error.ensures.none;
-      shown = c.in_ok-draw_book.ensures.calls;
-      says = c.in_ok-draw_book.ensures.says;
+      drawn = c.in_ok-draw_book.ensures;
     }

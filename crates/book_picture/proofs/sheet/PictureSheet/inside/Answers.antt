@@ -1,18 +1,19 @@
-use Rattle.std.proofs.Common.{◌≡◌, ℕ, List, ◌++◌, string_bytes, sym, ap, subst, ◌∙◌}
-use Rattle.book_picture.specs.Groups.{is_plain}
-use Rattle.book_picture.specs.Elements.{ArePartsIn}
+use Rattle.std.proofs.Common.{ℕ, List, ◌++◌, ap, ◌∙◌}
+use Rattle.book_picture.specs.Bars.{Shown, shown_by}
+use Rattle.book_picture.specs.Elements.{parts_text}
 use Rattle.book_picture.proofs.sheet.PictureSheet.inside.Goals as goal
 
-pub returns-clause-plain : goal.returns-clause-plain
-returns-clause-plain c =
-    let put = c.in_ok-put_parts.ensures in
-    let is : string_bytes c.put_parts.new.out ≡ put.0 =
-    put.3 ∙ ap (λ (t : List ℕ). t ++ put.0) c.new-out.ensures.bytes in
-    ap is_plain is ∙ put.1
-
-pub returns-clause-parts : goal.returns-clause-parts
-returns-clause-parts c =
-    let put = c.in_ok-put_parts.ensures in
-    let is : string_bytes c.put_parts.new.out ≡ put.0 =
-    put.3 ∙ ap (λ (t : List ℕ). t ++ put.0) c.new-out.ensures.bytes in
-    subst (ArePartsIn c.args.self.now.rows.now c.args.interval.now) (sym is) put.2
+pub returns : goal.returns
+returns c =
+    let shown : Shown = shown_by c.in_ok-label.label c.number-number.result in
+    let parts : List ℕ = parts_text c.args.self.now.rows.now c.args.interval.now shown in
+    let put = c.in_ok-put_parts.ensures in (
+      shown,
+      record {
+        operation = c.in_ok-label.ensures.operation;
+        reply = c.in_ok-label.ensures.reply;
+        number = c.number-number.ensures;
+      },
+      put.plain,
+      put.grown ∙ ap (λ (t : List ℕ). t ++ parts) c.new-out.ensures.bytes,
+    )
