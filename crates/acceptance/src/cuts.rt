@@ -8,6 +8,7 @@ use anyhow::{Result, anyhow};
 use book_base::{Book, Cut, Place};
 use book_text::read_book;
 use frontier_check::{Verdict, check};
+use kind_search::SearchedKind;
 use order_check::check_order;
 use seq_objects::Kind;
 use std::alloc::Global;
@@ -41,7 +42,9 @@ fn is_legal_at(alloc: Global, kind: Kind, book: &Book, cut: &Cut) -> Result<bool
     let part = book
         .at(alloc, cut)
         .map_err(|_| anyhow!("no memory for a book at a cut"))?;
-    match check(alloc, &kind, &part).map_err(|_| anyhow!("no memory for a check"))? {
+    match check(alloc, &SearchedKind { kind }, &part).map_err(|_| anyhow!(
+        "no memory for a check"
+    ))? {
         Verdict::Legal(order) => is_accepted(alloc, kind, &part, &order),
         Verdict::Illegal => Ok(false),
     }

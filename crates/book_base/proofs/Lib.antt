@@ -3,6 +3,4 @@ pub mod PageLemmas
 pub mod GrowthLemmas
 pub mod ViewLemmas
 pub mod RefusalLemmas
-pub mod PruningRuleLemmas
 pub mod ReachingLemmas
-pub mod PruningLemmas

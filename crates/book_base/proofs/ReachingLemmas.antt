@@ -13,8 +13,8 @@ use Rattle.book_base.specs.Cut.{Holds}
 use Rattle.book_base.specs.Book.{Page, record_of}
 use Rattle.book_base.specs.Sequential.{IsRunFrom}
 use Rattle.book_base.specs.Order.{call_at, StandsAt, step_at}
-use Rattle.book_base.specs.PruningRules.{list_after_run, Reaches}
-use Rattle.book_base.specs.PruningRuleLaws.{NoPlacesReachTheStart, OneMorePlaceReachesOn, OneCutIsReached, PrecedingComesFirst, ReadOnlyMayBeLeftOut, WhatStandsIsNotInfeasible}
+use Rattle.book_base.specs.Reaching.{list_after_run, Reaches}
+use Rattle.book_base.specs.ReachingLaws.{NoPlacesReachTheStart, OneMorePlaceReachesOn, OneCutIsReached, PrecedingComesFirst, ReadOnlyMayBeLeftOut, WhatStandsIsNotInfeasible}
 use Rattle.book_base.proofs.ViewLemmas.{same_call}
 
 -- the object's list after one more place is the one that its operation makes of the list before it

@@ -11,7 +11,6 @@ pub mod Sequential
 pub mod Order
 pub mod Next
 pub mod Refusal
-pub mod PruningRules
-pub mod PruningRuleLaws
+pub mod Reaching
+pub mod ReachingLaws
 pub mod Pruning
-pub mod Decision

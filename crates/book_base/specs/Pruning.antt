@@ -1,15 +1,14 @@
--- What a search knows at a cut and a list of the object, and which calls it needn't try there.
-use Rattle.std.specs.Prelude.{◌≡◌, ℕ, ◌+◌, ◌<◌, ◌≤◌, ◌↔◌, false, IsTrue, List, ◌∷◌, ◌++◌, length, slice_index, slice_index_or, Some}
+-- Views with at most one unanswered call of a caller, forced callers and dead ends.
+use Rattle.std.specs.Prelude.{◌≡◌, ℕ, ◌+◌, ◌<◌, ◌≤◌, List, ◌∷◌, ◌++◌, length, slice_index, Some}
 use Rattle.book_base.specs.declared.call.Call.{Call}
 use Rattle.book_base.specs.declared.call.Place.{Place}
 use Rattle.book_base.specs.declared.call.Record.{Record}
-use Rattle.book_base.specs.declared.marked_callers.MarkedCallers.{MarkedCallers}
 use Rattle.book_base.specs.SeqSpec.{SeqSpec}
 use Rattle.book_base.specs.Cut.{IsWithin}
 use Rattle.book_base.specs.Book.{Page, answers_of, IsAnswered, record_of}
 use Rattle.book_base.specs.Order.{IsLegalOrder}
-use Rattle.book_base.specs.Next.{next_call, MayComeNext, MayStandNext, Continues}
-use Rattle.book_base.specs.PruningRules.{Reaches}
+use Rattle.book_base.specs.Next.{next_call, MayStandNext, Continues}
+use Rattle.book_base.specs.Reaching.{Reaches}
 
 -- A book has one open: each of its views holds at most one unanswered call of each caller.
 abbrev pub HasOneOpen : List Page → Type 0
@@ -52,23 +51,3 @@ pub record IsReached (spec : SeqSpec) (book : List Page) (cut list : List ℕ) :
   pub reaches : Reaches spec book before cut list
   pub legal : (rest : List Place) → Continues book spec.next cut list rest
       → IsLegalOrder spec book (before ++ rest)
-
--- a caller is marked
-abbrev pub IsMarked : MarkedCallers → ℕ → Type 0
-IsMarked marks i = IsTrue (slice_index_or marks.callers i false)
-
--- Exactly those callers are marked whose next calls after a cut may come next.
-abbrev pub MarksAllNext : List Page → List ℕ → MarkedCallers → Type 0
-MarksAllNext book cut marks = (i : ℕ) → IsMarked marks i ↔ MayComeNext book cut (next_call cut i)
-
--- Marks on callers suffice at a cut and a list: where some places continue an order from there, as
--- many places or fewer that begin with the next call of a marked caller do too.
-abbrev pub MarksSuffice : List Page → (List ℕ → ℕ → List ℕ × ℕ) → List ℕ → List ℕ
-    → MarkedCallers → Type 0
-MarksSuffice book next cut list marks = (rest : List Place) → Continues book next cut list rest
-    → (place : Place) × (other : List Place) × IsMarked marks place.caller
-    × Continues book next cut list (place ∷ other) × (length other < length rest)
-
--- each caller that is marked in `few` is marked in `many`
-abbrev pub IsMarkedWithin : MarkedCallers → MarkedCallers → Type 0
-IsMarkedWithin few many = (i : ℕ) → IsMarked few i → IsMarked many i

@@ -6,7 +6,7 @@ ghost use Rattle.book_base.specs.Book.{Page, IsValid, AnswersAreRecorded, with_a
 ghost use Rattle.book_base.specs.OperationWord.{joined, WordsAreJoinedAndParted};
 ghost use Rattle.book_base.specs.Refusal.{MayAnswer};
 ghost use Rattle.book_base.specs.Rising.{ViewsRise, PrecedesByItsView};
-ghost use Rattle.book_base.specs.PruningRuleLaws.{NoPlacesReachTheStart, OneMorePlaceReachesOn, OneCutIsReached, WhatStandsIsNotInfeasible, PrecedingComesFirst, ReadOnlyMayBeLeftOut};
+ghost use Rattle.book_base.specs.ReachingLaws.{NoPlacesReachTheStart, OneMorePlaceReachesOn, OneCutIsReached, WhatStandsIsNotInfeasible, PrecedingComesFirst, ReadOnlyMayBeLeftOut};
 
 /// A book takes exactly those answers that leave it valid.
 pub fn valid_answers_are_taken()

@@ -4,26 +4,18 @@
 mod book;
 mod call;
 mod cut;
-mod decision;
 mod fault;
 pub mod laws;
-mod marked_callers;
 mod op_word;
-mod pruning_rules;
 mod seq_object;
-mod sight;
 mod state;
 
 pub use book::Book;
 pub use call::{Call, Place, Record};
 pub use cut::Cut;
-pub use decision::Decision;
 pub use fault::{BookFault, NoMemory, ReadFault, TextFault, What};
-pub use marked_callers::MarkedCallers;
 pub use op_word::{OpWord, high, join, low};
-pub use pruning_rules::PruningRules;
 pub use seq_object::SeqObject;
-pub use sight::{Labelled, Sight, Span};
 pub use state::State;
 
 /// The greatest number of callers of a book or of a table.

@@ -5,4 +5,3 @@ pub mod GreatestCuts
 pub mod Final
 pub mod LegalOrder
 pub mod Precedence
-pub mod Worked

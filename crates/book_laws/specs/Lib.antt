@@ -1,4 +1,3 @@
 pub mod BooksAtCuts
 pub mod Finality
 pub mod Greatest
-pub mod Cases

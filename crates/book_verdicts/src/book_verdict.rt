@@ -8,6 +8,7 @@ ghost use Rattle.book_verdicts.specs.Books.{IsBookVerdict};
 use book_base::ReadFault;
 use book_text::read_book;
 use frontier_check::{Verdict, check};
+use kind_search::SearchedKind;
 use std::alloc::Global;
 
 /// Whether a book has a legal order.
@@ -44,7 +45,7 @@ fn judged(alloc: Global, bytes: &[u8]) -> Result<BookVerdict, ReadFault>
     ensures refused { IfErr result (IsFaultOf (IsFirstBookFault Second bytes.now)) }
 {
     let (kind, book) = read_book(alloc, bytes)?;
-    match check(alloc, &kind, &book)? {
+    match check(alloc, &SearchedKind { kind }, &book)? {
         Verdict::Legal(_) => Ok(BookVerdict::Legal),
         Verdict::Illegal => Ok(BookVerdict::Illegal),
     }

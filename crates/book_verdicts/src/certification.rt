@@ -9,6 +9,7 @@ use book_base::ReadFault;
 use book_text::read_book;
 use certificate_text::write_certificate;
 use frontier_check::{Verdict, check};
+use kind_search::SearchedKind;
 use std::alloc::Global;
 
 /// Reads the book whose text the bytes are, and answers the text of a certificate: the book with a
@@ -46,7 +47,7 @@ fn written(alloc: Global, bytes: &[u8]) -> Result<Option<Vec<u8>>, ReadFault>
     ensures refused { IfErr result (IsFaultOf (IsFirstBookFault Second bytes.now)) }
 {
     let (kind, book) = read_book(alloc, bytes)?;
-    match check(alloc, &kind, &book)? {
+    match check(alloc, &SearchedKind { kind }, &book)? {
         Verdict::Legal(order) => Ok(Some(write_certificate(alloc, kind, &book, &order)?)),
         Verdict::Illegal => Ok(None),
     }

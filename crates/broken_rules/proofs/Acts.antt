@@ -10,7 +10,7 @@ use Rattle.container_pruning.specs.declared.deal.Deal.TheVariants as deals
 use Rattle.container_pruning.specs.Deals.{shown_deal, recorded_deal, take_of}
 use Rattle.seq_objects.specs.declared.kind.Kind.{Kind}
 use Rattle.seq_objects.specs.declared.kind.Kind.TheVariants as kinds
-use Rattle.seq_objects.specs.Readings.{queue_reading}
+use Rattle.kind_search.specs.Readings.{queue_reading}
 use Rattle.broken_rules.specs.Deeds.{reading_of, value_by, is_put, is_take, is_nothing, is_open}
 
 -- The negation of a test decides the negation of what the test decides.

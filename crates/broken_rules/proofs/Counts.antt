@@ -22,10 +22,9 @@ use Rattle.container_pruning.proofs.Dealing.{takes_by_deal}
 use Rattle.seq_objects.specs.declared.kind.Kind.TheVariants as kinds
 use Rattle.seq_objects.specs.Words as words
 use Rattle.seq_objects.specs.Words.{entries, entry_of, is_operation_of, is_known_word}
-use Rattle.seq_objects.specs.Replies.{reply_value}
-use Rattle.seq_objects.specs.Readings.{value_of, shown_value}
+use Rattle.seq_objects.specs.Replies.{reply_value, value_of, shown_value}
 use Rattle.seq_objects.specs.Objects.{kind_next, kind_spec}
-use Rattle.seq_objects.proofs.Reading.{shown_item}
+use Rattle.kind_search.proofs.Reading.{shown_item}
 use Rattle.seq_objects.proofs.Lengths.{order_is_short}
 use Rattle.object_laws.specs.Runs.{does}
 use Rattle.object_laws.proofs.Counting.{increments_are_counted}

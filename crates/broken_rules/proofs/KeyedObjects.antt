@@ -11,10 +11,10 @@ use Rattle.seq_objects.specs.Words.{OperationEntry, entries, entry_of, is_operat
 use Rattle.seq_objects.specs.Replies.{reply_no, reply_yes, reply_bad, is_value}
 use Rattle.seq_objects.specs.IntSetSteps.{set_operation, set_after}
 use Rattle.seq_objects.specs.MapSteps.{place_of_key, put_in, value_at, without, map_operation, map_after}
-use Rattle.seq_objects.specs.Keys.{key_in_set, set_key, set_part, key_in_map, map_key, map_part}
+use Rattle.kind_search.specs.Keys.{key_in_set, set_key, set_part, key_in_map, map_key, map_part}
 use Rattle.seq_objects.specs.Objects.{kind_next}
-use Rattle.seq_objects.proofs.SetKeys.{set_is_keyed}
-use Rattle.seq_objects.proofs.MapKeys.{map_is_keyed}
+use Rattle.kind_search.proofs.SetKeys.{set_is_keyed}
+use Rattle.kind_search.proofs.MapKeys.{map_is_keyed}
 use Rattle.object_laws.proofs.Standing.{after_add, after_remove, after_has}
 use Rattle.broken_rules.specs.Deeds.{key_of_word, puts_key, finds_key}
 use Rattle.broken_rules.proofs.Codes.{has_code}

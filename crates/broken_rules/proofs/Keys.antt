@@ -9,7 +9,7 @@ use Rattle.book_base.specs.declared.call.Record.{Record}
 use Rattle.book_base.specs.SeqSpec.{spec_from}
 use Rattle.book_base.specs.Book.{Page, IsCall, operation_of, record_of, Precedes}
 use Rattle.book_base.specs.Order.{call_at, StandsAt, step_at, IsLegalOrder, HasLegalOrder}
-use Rattle.book_base.specs.PruningRules.{list_after_run}
+use Rattle.book_base.specs.Reaching.{list_after_run}
 use Rattle.history_rules.proofs.Runs.{step_of_run}
 use Rattle.history_rules.proofs.Orders.{steps_of, step_stands, place_of_step}
 use Rattle.container_pruning.specs.declared.deal.Deal.TheVariants as deals

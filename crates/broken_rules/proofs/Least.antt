@@ -19,10 +19,10 @@ use Rattle.seq_objects.specs.Words as words
 use Rattle.seq_objects.specs.Words.{is_operation_of, argument_of}
 use Rattle.seq_objects.specs.Items.{first_taken, place_for}
 use Rattle.seq_objects.specs.PqueueSteps.{pqueue_operation, pqueue_after}
-use Rattle.seq_objects.specs.Readings.{value_of, shown_value}
-use Rattle.seq_objects.specs.PqueueReading.{pqueue_deed, pqueue_reading}
+use Rattle.seq_objects.specs.Replies.{value_of, shown_value}
+use Rattle.kind_search.specs.PqueueReading.{pqueue_deed, pqueue_reading}
 use Rattle.seq_objects.specs.Objects.{kind_next, kind_spec}
-use Rattle.seq_objects.proofs.Reading.{shown_item}
+use Rattle.kind_search.proofs.Reading.{shown_item}
 use Rattle.object_laws.specs.Removals as removals
 use Rattle.object_laws.proofs.Rising.{after_insert, after_min, after_other, mins_give_the_least}
 use Rattle.broken_rules.proofs.Standing.{taker_of_step}

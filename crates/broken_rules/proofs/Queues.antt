@@ -8,7 +8,7 @@ use Rattle.book_base.specs.SeqSpec.{SeqSpec}
 use Rattle.book_base.specs.Book.{Page, IsCall, Precedes}
 use Rattle.book_base.specs.Sequential.{IsRunFrom}
 use Rattle.book_base.specs.Order.{HasLegalOrder}
-use Rattle.book_base.specs.PruningRules.{list_after_run}
+use Rattle.book_base.specs.Reaching.{list_after_run}
 use Rattle.book_base.proofs.ReachingLemmas.{preceding_comes_first}
 use Rattle.history_rules.specs.Container.{Reading, put_by, taken_by, IsQueue}
 use Rattle.history_rules.proofs.Ranks.{rank, shown_at_rank, found_at_rank, rank-grows, rank-more}

@@ -12,13 +12,13 @@ use Rattle.container_pruning.specs.declared.deal.Deal.TheVariants as deals
 use Rattle.container_pruning.specs.Deals.{deal_of}
 use Rattle.seq_objects.specs.declared.kind.Kind.{Kind}
 use Rattle.seq_objects.specs.declared.kind.Kind.TheVariants as kinds
-use Rattle.seq_objects.specs.Readings.{queue_reading, stack_reading}
-use Rattle.seq_objects.specs.PqueueReading.{pqueue_reading}
-use Rattle.seq_objects.specs.RegisterReading.{held_in, register_reading}
-use Rattle.seq_objects.specs.Keys.{set_key, set_part, map_key, map_part}
+use Rattle.kind_search.specs.Readings.{queue_reading, stack_reading}
+use Rattle.kind_search.specs.PqueueReading.{pqueue_reading}
+use Rattle.kind_search.specs.RegisterReading.{held_in, register_reading}
+use Rattle.kind_search.specs.Keys.{set_key, set_part, map_key, map_part}
 use Rattle.seq_objects.specs.Objects.{kind_init, kind_next, kind_spec}
-use Rattle.seq_objects.proofs.Reading.{queue_is_read, stack_is_read}
-use Rattle.seq_objects.proofs.HoldsLast.{register_holds_last}
+use Rattle.kind_search.proofs.Reading.{queue_is_read, stack_is_read}
+use Rattle.kind_search.proofs.HoldsLast.{register_holds_last}
 use Rattle.broken_rules.specs.declared.rule.BrokenRule.{BrokenRule}
 use Rattle.broken_rules.specs.declared.rule.Rule.{Rule}
 use Rattle.broken_rules.specs.declared.rule.Rule.TheVariants as named

@@ -7,7 +7,7 @@ use Rattle.book_base.specs.SeqSpec.{SeqSpec}
 use Rattle.book_base.specs.Book.{Page, IsCall, Precedes}
 use Rattle.book_base.specs.Sequential.{IsRunFrom}
 use Rattle.book_base.specs.Order.{HasLegalOrder}
-use Rattle.book_base.specs.PruningRules.{list_after_run}
+use Rattle.book_base.specs.Reaching.{list_after_run}
 use Rattle.book_base.proofs.ReachingLemmas.{preceding_comes_first}
 use Rattle.history_rules.specs.Container.{Effect, Puts, Takes, Neither, Reading, value_put, value_taken, put_by, taken_by, one_if, times, GivesFirst, IsStack}
 use Rattle.history_rules.proofs.Counting.{times-apart}

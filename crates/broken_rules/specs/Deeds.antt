@@ -11,10 +11,10 @@ use Rattle.container_pruning.specs.Deals.{deal_of}
 use Rattle.seq_objects.specs.declared.kind.Kind.{Kind}
 use Rattle.seq_objects.specs.declared.kind.Kind.TheVariants as kinds
 use Rattle.seq_objects.specs.Words.{code_of, argument_of, is_known_word}
-use Rattle.seq_objects.specs.Replies.{reply_no, reply_yes, is_value}
-use Rattle.seq_objects.specs.Readings.{shown_value, queue_reading, stack_reading}
-use Rattle.seq_objects.specs.PqueueReading.{pqueue_reading}
-use Rattle.seq_objects.specs.RegisterReading.{register_reading}
+use Rattle.seq_objects.specs.Replies.{reply_no, reply_yes, is_value, shown_value}
+use Rattle.kind_search.specs.Readings.{queue_reading, stack_reading}
+use Rattle.kind_search.specs.PqueueReading.{pqueue_reading}
+use Rattle.kind_search.specs.RegisterReading.{register_reading}
 use Rattle.broken_rules.specs.declared.act.Act.{Act}
 use Rattle.broken_rules.specs.declared.act.Act.TheVariants as acts
 

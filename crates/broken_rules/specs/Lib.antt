@@ -2,4 +2,3 @@ pub mod Deeds
 pub mod Demands
 pub mod Rules
 pub mod Texts
-pub mod Worked

@@ -3,13 +3,14 @@
 ghost use Rattle.std.specs.Prelude.{◌≡◌, ◌==◌, ◌&&◌, ◌||◌};
 ghost use Rattle.book_base.specs.Book.{IsCall, record_of};
 ghost use Rattle.container_pruning.specs.Deals.{deed_of, deal_of, take_of};
-ghost use Rattle.seq_objects.specs.Readings.{queue_reading};
+ghost use Rattle.kind_search.specs.Readings.{queue_reading};
 ghost use Rattle.broken_rules.specs.Deeds as deeds;
 ghost use Rattle.broken_rules.specs.Deeds.{reading_of, counter_reading, did, deal_by_key, deal_on_key, deal_of_act, value_by, is_put, is_take, is_nothing, is_open};
 
 use book_base::{Book, Call, OpWord, SeqObject, low};
 use container_pruning::{Reader, Role};
-use seq_objects::{Kind, NO, Pqueue, Queue, Register, Stack, YES};
+use kind_search::{PqueueReader, QueueReader, RegisterReader, StackReader};
+use seq_objects::{Kind, NO, YES, shown_value};
 
 /// How many keys there are: a key is below this number.
 const KEYS: u64 = 1 << 32;
@@ -227,7 +228,7 @@ fn take_of(book: &Book, call: Call) -> Act
     if call.number >= book.answers(call.caller) {
         return Act::OpenTake;
     }
-    match Queue.shown(book.record(call).reply) {
+    match shown_value(book.record(call).reply) {
         Some(value) => Act::Took(value),
         None => Act::FoundNothing,
     }
@@ -239,10 +240,10 @@ fn role_of(kind: Kind, op: OpWord) -> Role
     ensures { deed_of result ≡ (reading_of kind).deed op }
 {
     match kind {
-        Kind::Queue => Queue.role(op),
-        Kind::Stack => Stack.role(op),
-        Kind::Pqueue => Pqueue.role(op),
-        Kind::Register => Register.role(op),
+        Kind::Queue => QueueReader.role(op),
+        Kind::Stack => StackReader.role(op),
+        Kind::Pqueue => PqueueReader.role(op),
+        Kind::Register => RegisterReader.role(op),
         Kind::Counter => counter_role(op),
         Kind::IntSet | Kind::CasRegister | Kind::Map => Role::Other,
     }

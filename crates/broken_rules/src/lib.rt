@@ -3,7 +3,6 @@
 
 mod act;
 mod breaking;
-pub mod cases;
 mod demand;
 pub mod laws;
 mod line;

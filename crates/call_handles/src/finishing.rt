@@ -7,13 +7,14 @@ ghost use Rattle.drv_wrapper.specs.States.{caller_announced, announced_local};
 ghost use Rattle.enforcer.specs.After.{IsOutcome};
 ghost use Rattle.enforcer.specs.Enforced.{record_unjudged};
 ghost use Rattle.enforcer.specs.Lines.{OrderStandsIn};
+ghost use Rattle.seq_objects.specs.Objects.{kind_spec};
 ghost use Rattle.call_handles.specs.Ends.{IsPublishedBy, IsJudgedAs};
 
 use crate::publishing::publish_reply;
-use book_base::SeqObject;
 use drv_wrapper::Announced;
 use enforcer::{Gathered, Judged, Unjudged, judge_after};
 use frontier_check::KeptOrder;
+use kind_search::SearchedKind;
 use row_table::{Caller, Rows, Steps};
 use seq_objects::Kind;
 use std::alloc::Global;
@@ -37,13 +38,13 @@ pub(crate) fn finish<L: Ledger>(
     requires rows { IsCallerOf ⟦<Outside as Program>⟧.meaning rows.now
         (caller_announced announced) }
     requires gathered { IsGatheredBy (announced_local announced) gathered.old }
-    requires stands { OrderStandsIn (⟦<Kind as SeqObject>⟧.spec kind) gathered.old standing.old }
+    requires stands { OrderStandsIn (kind_spec kind) gathered.old standing.old }
     ensures judged { IfOk result
         (λ r. IsOutcome r.1 standing.new (IsJudgedAs ⟦<Outside as Program>⟧.meaning rows.now
-        (⟦<Kind as SeqObject>⟧.spec kind) announced reply r.0)) }
+        (kind_spec kind) announced reply r.0)) }
     ensures idle { IfOk result (λ r. IsIdle (local_with r.0)) }
     ensures kept { IfOk result (λ r. IsGatheredBy (local_with r.0) gathered.new) }
-    ensures stands { OrderStandsIn (⟦<Kind as SeqObject>⟧.spec kind) gathered.new standing.new }
+    ensures stands { OrderStandsIn (kind_spec kind) gathered.new standing.new }
     ensures unjudged { IfErr result (λ u.
         IsPublishedBy ⟦<Outside as Program>⟧.meaning rows.now announced reply
         u.caller (record_unjudged u) u.seen) }
@@ -51,5 +52,13 @@ pub(crate) fn finish<L: Ledger>(
         stance_of u.caller ≡ record ready { live = false }) }
 {
     let seen = publish_reply(rows, announced, reply, steps);
-    judge_after(alloc, &kind, rows, seen, gathered, standing, steps)
+    judge_after(
+        alloc,
+        &SearchedKind { kind },
+        rows,
+        seen,
+        gathered,
+        standing,
+        steps,
+    )
 }

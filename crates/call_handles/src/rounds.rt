@@ -3,6 +3,7 @@ ghost use Rattle.call_handles.specs.Monitors.{IsSoundMonitor, IsOfSameWatch, May
 
 use crate::monitor_handle::{Judgement, MonitorHandle};
 use book_base::NoMemory;
+use kind_search::SearchedKind;
 use monitor::Round;
 use row_table::Steps;
 use std::alloc::Global;
@@ -21,7 +22,7 @@ fn round_counted<L: Ledger>(alloc: Global, handle: &mut MonitorHandle, blank: Bl
     let mut steps = Steps::<L>::new(blank);
     match handle.monitor.round_after(
         alloc,
-        &handle.kind,
+        &SearchedKind { kind: handle.kind },
         &handle.rows,
         &handle.board,
         &mut handle.standing,

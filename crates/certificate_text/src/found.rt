@@ -3,14 +3,15 @@
 ghost use Rattle.std.specs.Prelude.{◌↔◌, IsTrue, IfOk};
 ghost use Rattle.book_base.specs.Order.{HasLegalOrder};
 
-use book_base::{Book, NoMemory, SeqObject};
+use book_base::{Book, NoMemory};
 use frontier_check::{Verdict, check};
 use order_check::check_order;
+use search_hints::SearchHints;
 use std::alloc::Global;
 
 /// Whether the search `check` finds an order of a book that `check_order`, a test without a search,
 /// accepts. It does exactly where the book has a legal order.
-pub fn has_accepted_order<S: SeqObject>(
+pub fn has_accepted_order<S: SearchHints>(
     alloc: Global,
     object: &S,
     book: &Book,

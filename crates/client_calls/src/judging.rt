@@ -4,11 +4,11 @@ ghost use Rattle.client_calls.specs.Staying.{judged_stays};
 
 use crate::ended::Ended;
 use crate::ending::Ending;
-use book_base::SeqObject;
 use enforcer::{Gathered, Seen, judge_line};
 use frontier_check::KeptOrder;
 use report_lines::LineEnd;
 use row_table::{Caller, Rows, Steps};
+use search_hints::SearchHints;
 use std::alloc::Global;
 use std::sync::ledger::Ledger;
 use world_core::Program;
@@ -33,7 +33,7 @@ fn ended_by<P: Program>(caller: Caller<P>, end: LineEnd) -> Ended<P>
     }
 }
 
-impl<S: SeqObject> Ending for Judging<'_, S> {
+impl<S: SearchHints> Ending for Judging<'_, S> {
     ghost object = { λ judging. S.spec judging.sequential.now };
 
     ghost says = { SaysJudged };

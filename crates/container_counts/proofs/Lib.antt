@@ -2,4 +2,3 @@ pub mod Entries
 pub mod Counting
 pub mod Holding
 pub mod Refuting
-pub mod Worked

@@ -2,7 +2,6 @@
 //! gives out.
 #![tactic(auto)]
 
-pub mod cases;
 mod counts;
 pub mod laws;
 mod refute;

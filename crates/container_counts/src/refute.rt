@@ -2,8 +2,8 @@ ghost use Rattle.std.specs.Prelude.{IfOk, IsTrue};
 ghost use Rattle.container_counts.specs.Counts.{IsRefuted};
 
 use crate::counts::{puts_are_ahead, takes_are_ahead};
-use book_base::{NoMemory, Span};
-use queue_pairs::{NEVER, QueueDeal, Table, TimedCall};
+use book_base::NoMemory;
+use queue_pairs::{NEVER, QueueDeal, Span, Table, TimedCall};
 use std::alloc::Global;
 
 // How many different values are looked at, at most, where a take finds nothing.

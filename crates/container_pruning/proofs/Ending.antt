@@ -13,7 +13,8 @@ use Rattle.book_base.specs.SeqSpec.{SeqSpec}
 use Rattle.book_base.specs.Cut.{Holds}
 use Rattle.book_base.specs.Book.{Page, IsCall, IsAnswered, record_of}
 use Rattle.book_base.specs.Order.{call_at, StandsAt, step_at, IsLegalOrder, HasLegalOrder}
-use Rattle.book_base.specs.PruningRules.{Known, ArePruningRules, Reaches}
+use Rattle.book_base.specs.Reaching.{Reaches}
+use Rattle.search_hints.specs.PruningRules.{Known, ArePruningRules}
 use Rattle.book_base.proofs.PageLemmas.{caller_from_call}
 use Rattle.book_base.proofs.ViewLemmas.{same_call, answer_stands}
 use Rattle.book_base.proofs.ReachingLemmas.{no_places_reach_the_start, one_more_place_reaches_on}

@@ -9,14 +9,15 @@ use Rattle.list_laws.proofs.Places.{get_or-replicate_default}
 use Rattle.list_laws.proofs.Counting.{sum-rises_apart}
 use Rattle.book_base.specs.declared.call.Call.{Call}
 use Rattle.book_base.specs.declared.call.Record.{Record}
-use Rattle.book_base.specs.declared.pruning_rules.CallBound.{CallBound}
+use Rattle.search_hints.specs.declared.pruning_rules.CallBound.{CallBound}
 use Rattle.book_base.specs.declared.TheConstants.{MAX_CALLERS}
 use Rattle.book_base.specs.SeqSpec.{SeqSpec}
 use Rattle.book_base.specs.Cut.{IsWithin}
 use Rattle.book_base.specs.Book.{Page, IsValid, calls_of, record_of, Precedes}
 use Rattle.book_base.specs.Order.{HasLegalOrder}
-use Rattle.book_base.specs.PruningRules.{Known, no_call_bound, call_bound_of, rank_of, IsBelow, HasEarly, ArePruningRules, MustComeFirst, blank_call_bounds}
-use Rattle.book_base.proofs.PruningRuleLemmas.{none_early}
+use Rattle.book_base.specs.Reaching.{MustComeFirst}
+use Rattle.search_hints.specs.PruningRules.{Known, no_call_bound, call_bound_of, rank_of, IsBelow, HasEarly, ArePruningRules, blank_call_bounds}
+use Rattle.search_hints.proofs.PruningRuleLemmas.{none_early}
 use Rattle.book_base.proofs.PageLemmas.{empty}
 use Rattle.book_base.proofs.ViewLemmas.{precedes_by_view}
 use Rattle.history_rules.specs.Container.{Reading, IsContainer, IsQueue, IsStack}

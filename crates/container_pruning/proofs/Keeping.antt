@@ -11,7 +11,7 @@ use Rattle.book_base.specs.declared.call.Place.{Place}
 use Rattle.book_base.specs.SeqSpec.{SeqSpec}
 use Rattle.book_base.specs.Book.{Page, operation_of, record_of, Precedes}
 use Rattle.book_base.specs.Order.{call_at, StandsAt, IsLegalOrder}
-use Rattle.book_base.specs.PruningRules.{MustComeFirst}
+use Rattle.book_base.specs.Reaching.{MustComeFirst}
 use Rattle.book_laws.proofs.Final.{IsRunFrom-take}
 use Rattle.history_rules.specs.Container.{Effect, Puts, Takes, Neither, Reading, value_taken, put_by, taken_by, times, IsContainer, IsQueue}
 use Rattle.history_rules.specs.Calls.{PutsIn, PutsInAlone, TakesOut, FindsNothing, IsNeverTaken}

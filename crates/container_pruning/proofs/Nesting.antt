@@ -11,7 +11,7 @@ use Rattle.book_base.specs.declared.call.Place.{Place}
 use Rattle.book_base.specs.SeqSpec.{SeqSpec}
 use Rattle.book_base.specs.Book.{Page, Precedes}
 use Rattle.book_base.specs.Order.{call_at, StandsAt, step_at, IsLegalOrder}
-use Rattle.book_base.specs.PruningRules.{list_after_run, IsInfeasible, MustComeFirst}
+use Rattle.book_base.specs.Reaching.{list_after_run, IsInfeasible, MustComeFirst}
 use Rattle.book_base.proofs.ReachingLemmas.{preceding_comes_first}
 use Rattle.history_rules.specs.Container.{Puts, Reading, put_by, taken_by, times, IsStack}
 use Rattle.history_rules.specs.Calls.{PutsIn, PutsInAlone, TakesOut}

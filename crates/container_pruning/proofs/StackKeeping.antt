@@ -5,7 +5,7 @@ use Rattle.std.specs.List.{Contains}
 use Rattle.book_base.specs.declared.call.Call.{Call}
 use Rattle.book_base.specs.SeqSpec.{SeqSpec}
 use Rattle.book_base.specs.Book.{Page}
-use Rattle.book_base.specs.PruningRules.{IsInfeasible}
+use Rattle.book_base.specs.Reaching.{IsInfeasible}
 use Rattle.history_rules.specs.Container.{Reading, IsStack}
 use Rattle.history_rules.specs.Calls.{PutsIn, PutsInAlone, TakesOut, IsNeverTaken}
 use Rattle.history_rules.proofs.StackRules.{infeasible_where_covered}

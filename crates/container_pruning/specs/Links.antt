@@ -6,7 +6,8 @@ use Rattle.book_base.specs.declared.call.Record.{Record}
 use Rattle.book_base.specs.SeqSpec.{SeqSpec}
 use Rattle.book_base.specs.Book.{Page, IsCall, record_of, Precedes}
 use Rattle.book_base.specs.Order.{HasLegalOrder}
-use Rattle.book_base.specs.PruningRules.{HasEarly, IsInfeasible, MustComeFirst}
+use Rattle.book_base.specs.Reaching.{IsInfeasible, MustComeFirst}
+use Rattle.search_hints.specs.PruningRules.{HasEarly}
 use Rattle.history_rules.specs.Container.{Reading, IsContainer}
 use Rattle.history_rules.specs.Calls.{PutsIn, PutsInAlone, TakesOut, FindsNothing, IsNeverTaken}
 use Rattle.container_pruning.specs.declared.deal.Deal.{Deal}

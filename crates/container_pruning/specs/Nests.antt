@@ -3,7 +3,7 @@ use Rattle.std.specs.Prelude.{◌≡◌, ℕ, ◌⊎◌, true, List, Some}
 use Rattle.book_base.specs.declared.call.Call.{Call}
 use Rattle.book_base.specs.SeqSpec.{SeqSpec}
 use Rattle.book_base.specs.Book.{Page, Precedes}
-use Rattle.book_base.specs.PruningRules.{MustComeFirst}
+use Rattle.book_base.specs.Reaching.{MustComeFirst}
 use Rattle.container_pruning.specs.declared.links.Links.{Links}
 use Rattle.container_pruning.specs.Uses.{IsEarly}
 use Rattle.container_pruning.specs.Links.{link_at}

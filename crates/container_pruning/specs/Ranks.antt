@@ -2,7 +2,7 @@
 use Rattle.std.specs.Prelude.{◌≡◌, ℕ, ◌-◌, List, Some}
 use Rattle.book_base.specs.declared.call.Call.{Call}
 use Rattle.book_base.specs.Book.{Page}
-use Rattle.book_base.specs.PruningRules.{rank_of}
+use Rattle.search_hints.specs.PruningRules.{rank_of}
 use Rattle.history_rules.specs.Container.{Reading}
 use Rattle.history_rules.specs.Calls.{PutsInAlone, TakesOut}
 use Rattle.container_pruning.specs.Links.{reach_of}

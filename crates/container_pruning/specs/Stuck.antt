@@ -3,7 +3,7 @@ use Rattle.std.specs.Prelude.{ℕ, ◌⊎◌, List}
 use Rattle.book_base.specs.declared.call.Call.{Call}
 use Rattle.book_base.specs.Cut.{Holds}
 use Rattle.book_base.specs.Book.{Page, Precedes}
-use Rattle.book_base.specs.PruningRules.{Known, call_bound_of, IsBelow}
+use Rattle.search_hints.specs.PruningRules.{Known, call_bound_of, IsBelow}
 
 -- A call is blocked after a cut: the cut lacks a call of the call's predecessor bound, or another
 -- call that precedes it.

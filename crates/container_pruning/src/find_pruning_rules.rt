@@ -1,6 +1,6 @@
 ghost use Rattle.std.specs.Prelude.{◌≡◌, [], IfOk};
 ghost use Rattle.book_base.specs.SeqSpec.{SeqSpec};
-ghost use Rattle.book_base.specs.PruningRules.{ArePruningRules};
+ghost use Rattle.search_hints.specs.PruningRules.{ArePruningRules};
 ghost use Rattle.history_rules.specs.Container.{IsQueue, IsStack};
 ghost use Rattle.container_pruning.specs.FoundRules.{HoldsItsWords};
 
@@ -10,7 +10,8 @@ use crate::nest::nest;
 use crate::ranks::rank_takes;
 use crate::reader::Reader;
 use crate::uses::Uses;
-use book_base::{Book, NoMemory, PruningRules};
+use book_base::{Book, NoMemory};
+use search_hints::PruningRules;
 use std::alloc::Global;
 
 /// The pruning rules of a queue's book (after Henzinger, Sezgin and Vafeiadis 2013).

@@ -4,7 +4,8 @@ ghost use Rattle.book_base.specs.declared.TheConstants.{MAX_CALLS};
 ghost use Rattle.book_base.specs.SeqSpec.{SeqSpec};
 ghost use Rattle.book_base.specs.Book.{Page, IsCall, IsSmall, IsValid};
 ghost use Rattle.book_base.specs.Order.{HasLegalOrder};
-ghost use Rattle.book_base.specs.PruningRules.{HasCallBound, HasEarly, ArePruningRules, IsInfeasible, MustComeFirst};
+ghost use Rattle.book_base.specs.Reaching.{IsInfeasible, MustComeFirst};
+ghost use Rattle.search_hints.specs.PruningRules.{HasCallBound, HasEarly, ArePruningRules};
 ghost use Rattle.container_pruning.specs.Links.{AreLinksOf, AreFollowed, AreKept};
 ghost use Rattle.container_pruning.specs.Uses.{IsEarly};
 ghost use Rattle.container_pruning.specs.Pasts.{last_held, IsPast};
@@ -13,7 +14,8 @@ use crate::links::Links;
 use crate::past::Past;
 use crate::stuck::is_stuck;
 use crate::uses::Uses;
-use book_base::{Book, Call, PruningRules};
+use book_base::{Book, Call};
+use search_hints::PruningRules;
 
 /// Holds back each put as the links of a book say: until after the calls that come before it, and
 /// at each list with a word of a rank below a limit. Where the links refuse the book, or the book

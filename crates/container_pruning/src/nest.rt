@@ -2,13 +2,14 @@ ghost use Rattle.std.specs.Prelude.{◌≡◌, ◌<◌, ◌↔◌, length, OnOk,
 ghost use Rattle.book_base.specs.declared.call.Call.{Call};
 ghost use Rattle.book_base.specs.SeqSpec.{SeqSpec};
 ghost use Rattle.book_base.specs.Book.{IsCall, IsAnswered, IsSmall, IsValid, Precedes};
-ghost use Rattle.book_base.specs.PruningRules.{HasCallBound, ArePruningRules};
+ghost use Rattle.search_hints.specs.PruningRules.{HasCallBound, ArePruningRules};
 ghost use Rattle.container_pruning.specs.Links.{link_at, AreLinksOf};
 ghost use Rattle.container_pruning.specs.Nests.{Outlasts, AreNested};
 
 use crate::links::Links;
 use crate::uses::Uses;
-use book_base::{Book, Call, MAX_CALLS, NoMemory, PruningRules};
+use book_base::{Book, Call, MAX_CALLS, NoMemory};
+use search_hints::PruningRules;
 use std::alloc::Global;
 
 /// For each put of a stack the call that takes its value, as far as it is known. No clause says

@@ -8,7 +8,8 @@ use crate::deal::{Deal, deal_of};
 use crate::links::reach_of;
 use crate::reader::Reader;
 use crate::uses::Uses;
-use book_base::{Book, Call, NoMemory, PruningRules};
+use book_base::{Book, Call, NoMemory};
+use search_hints::PruningRules;
 
 /// Gives each value that one call puts in and an answered call takes a rank: the number of calls
 /// that the take's view counts. Since views are comparable, a take of a lesser rank precedes all

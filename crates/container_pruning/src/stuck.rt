@@ -4,11 +4,12 @@ ghost use Rattle.book_base.specs.SeqSpec.{SeqSpec};
 ghost use Rattle.book_base.specs.Cut.{Holds};
 ghost use Rattle.book_base.specs.Book.{IsCall, IsAnswered, IsValid};
 ghost use Rattle.book_base.specs.Order.{HasLegalOrder};
-ghost use Rattle.book_base.specs.PruningRules.{ArePruningRules};
+ghost use Rattle.search_hints.specs.PruningRules.{ArePruningRules};
 ghost use Rattle.book_base.specs.Next.{next_call};
 ghost use Rattle.container_pruning.specs.Stuck.{IsBlocked};
 
-use book_base::{Book, Call, Cut, MAX_CALLERS, MAX_CALLS, PruningRules};
+use book_base::{Book, Call, Cut, MAX_CALLERS, MAX_CALLS};
+use search_hints::PruningRules;
 
 /// Whether a book is stuck: adding calls one after another, as predecessor bounds and precedence
 /// allow, doesn't reach all answered calls. Where the pruning rules are right, such a book has no

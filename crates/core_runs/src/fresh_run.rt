@@ -18,6 +18,7 @@ use client_scripts::Script;
 use core_objects::CoreObject;
 use reports::Report;
 use row_table::Rows;
+use search_hints::SearchHints;
 use std::alloc::Global;
 use std::thread::Threads;
 
@@ -36,7 +37,7 @@ pub fn run_core_fresh<R: Threads + Sync, O: CoreObject + Sync>(
     script: &Script,
 ) -> Result<Report, NoMemory>
 where
-    O::S: Sync,
+    O::S: SearchHints + Sync,
     O::P: Send + Sync,
     O::Pass: Send,
     // Each caller may make at least one call.

@@ -16,6 +16,7 @@ use core_objects::{CoreObject, runs_of};
 use reports::Report;
 use row_table::{Bench, Rows};
 use run_report::run_asked;
+use search_hints::SearchHints;
 use std::alloc::Global;
 use std::thread::Threads;
 
@@ -40,7 +41,7 @@ pub fn run_core<R: Threads + Sync, O: CoreObject + Sync>(
     script: &Script,
 ) -> Result<Report, NoMemory>
 where
-    O::S: Sync,
+    O::S: SearchHints + Sync,
     O::P: Send + Sync,
     O::Pass: Send,
     // The rows were opened with the program of this object.

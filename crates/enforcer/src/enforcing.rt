@@ -14,11 +14,12 @@ ghost use Rattle.enforcer.specs.Enforced.{after_call, record_unjudged, reply_of,
 use crate::calling::call_and_see;
 use crate::judging::judge;
 use crate::outcome::{Outcome, Unjudged};
-use book_base::{OpWord, SeqObject};
+use book_base::OpWord;
 use drv_wrapper::BlackBox;
 use frontier_check::Guide;
 use row_gather::Gathered;
 use row_table::{Caller, Rows, Steps};
+use search_hints::SearchHints;
 use std::alloc::Global;
 use std::sync::ledger::Ledger;
 use world_core::{Outside, Program};
@@ -118,8 +119,9 @@ use world_core::{Outside, Program};
 /// - `rows` and `caller`: the table that all callers share, and one of its callers, live and idle,
 ///   with a call left. The caller is spent, and comes back with each answer.
 /// - `op`: the operation, as a word that the sequential object reads.
-/// - `sequential`: the object that says which replies are right (`SeqObject` in `book_base`). A
-///   verdict is about this one, so all callers hand in the same.
+/// - `sequential`: the object that says which replies are right (`SeqObject` in `book_base`, with
+///   what a search is told by `SearchHints` in `search_hints`). A verdict is about this one, so all
+///   callers hand in the same.
 /// - `object` and `pass`: the object under test, and this caller's own pass of it, with a call
 ///   left. One call is made with it, neither more nor fewer, whatever becomes of the judgement.
 /// - `gathered`: the book that this caller gathered last, and `None` before its first call. The
@@ -160,7 +162,7 @@ use world_core::{Outside, Program};
 /// An error is final: every judgement at a cut that contains an illegal one is an error too
 /// ([`errors_are_final`](crate::laws::errors_are_final)). After an error each caller whose next
 /// call begins later is halted at that call (Castañeda and Rodríguez 2023).
-pub fn enforce<S: SeqObject, B: BlackBox, L: Ledger>(
+pub fn enforce<S: SearchHints, B: BlackBox, L: Ledger>(
     alloc: Global,
     rows: &Rows,
     caller: Caller,

@@ -16,11 +16,12 @@ use crate::calling::call_and_see;
 use crate::judged::Judged;
 use crate::judging_after::judge_after;
 use crate::outcome::Unjudged;
-use book_base::{OpWord, SeqObject};
+use book_base::OpWord;
 use drv_wrapper::BlackBox;
 use frontier_check::KeptOrder;
 use row_gather::Gathered;
 use row_table::{Caller, Rows, Steps};
+use search_hints::SearchHints;
 use std::alloc::Global;
 use std::sync::ledger::Ledger;
 use world_core::{Outside, Program};
@@ -38,7 +39,7 @@ use world_core::{Outside, Program};
 ///   object, meets the condition `stands`; and so does whoever hands in `None` for either of them.
 /// - [`Judged`] has no order: after `Delivered` the order is the one in `standing`, and it is not
 ///   copied.
-pub fn enforce_after<S: SeqObject, B: BlackBox, L: Ledger>(
+pub fn enforce_after<S: SearchHints, B: BlackBox, L: Ledger>(
     alloc: Global,
     rows: &Rows,
     caller: Caller,

@@ -15,10 +15,11 @@ ghost use Rattle.enforcer.specs.Kept.{IsKeptAfterOutcome, TicksForNewAfter};
 
 use crate::outcome::{Outcome, Unjudged};
 use crate::seen_call::Seen;
-use book_base::{NoMemory, SeqObject};
+use book_base::NoMemory;
 use frontier_check::{Guide, Verdict, check_from};
 use row_gather::{Gathered, grow_at};
 use row_table::{Caller, Rows, Steps};
+use search_hints::SearchHints;
 use std::alloc::Global;
 use std::sync::ledger::Ledger;
 use world_core::Program;
@@ -76,7 +77,7 @@ pub fn gather<P: Program, L: Ledger>(
 
 // Gathers the book at the seen cut, and returns it with a legal order of it, or with `Illegal`
 // where it has no legal order.
-fn decide<P: Program, S: SeqObject, L: Ledger>(
+fn decide<P: Program, S: SearchHints, L: Ledger>(
     alloc: Global,
     object: &S,
     rows: &Rows<P>,
@@ -130,7 +131,7 @@ pub(crate) fn halted<P: Program>(rows: &Rows<P>, caller: Caller<P>) -> Caller<P>
 /// grows from it, and only the words that it lacks are peeked. After `Delivered` `gathered` is the
 /// book that was judged, for the caller's next call; after `Illegal`, which carries its book, and
 /// after `Unjudged` it is `None`.
-pub fn judge<P: Program, S: SeqObject, L: Ledger>(
+pub fn judge<P: Program, S: SearchHints, L: Ledger>(
     alloc: Global,
     object: &S,
     rows: &Rows<P>,

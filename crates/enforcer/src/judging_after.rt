@@ -15,10 +15,11 @@ use crate::judging::halted;
 use crate::lines::decide_after;
 use crate::outcome::Unjudged;
 use crate::seen_call::Seen;
-use book_base::{NoMemory, SeqObject};
+use book_base::NoMemory;
 use frontier_check::KeptOrder;
 use row_gather::Gathered;
 use row_table::{Caller, Rows, Steps};
+use search_hints::SearchHints;
 use std::alloc::Global;
 use std::sync::ledger::Ledger;
 use world_core::Program;
@@ -37,7 +38,7 @@ use world_core::Program;
 /// A kept order is good for one object alone, and its value doesn't say for which one: therefore
 /// the condition `stands` is needed. [`judge`](crate::judge) has no such condition, since it asks
 /// the object for each place again.
-pub fn judge_after<P: Program, S: SeqObject, L: Ledger>(
+pub fn judge_after<P: Program, S: SearchHints, L: Ledger>(
     alloc: Global,
     object: &S,
     rows: &Rows<P>,

@@ -16,11 +16,12 @@ ghost use Rattle.enforcer.specs.Lines.{OrderStandsIn, IsGatheredWithin, IsVerdic
 use crate::judging::{gather, halted};
 use crate::outcome::Unjudged;
 use crate::seen_call::Seen;
-use book_base::{Cut, NoMemory, Record, SeqObject};
+use book_base::{Cut, NoMemory, Record};
 use frontier_check::{KeptOrder, check_after};
 use report_lines::LineEnd;
 use row_gather::Gathered;
 use row_table::{Caller, Rows, Steps};
+use search_hints::SearchHints;
 use std::alloc::Global;
 use std::sync::ledger::Ledger;
 use world_core::Program;
@@ -55,7 +56,7 @@ pub fn standing_in(
 
 /// Gathers the book at the seen cut, and returns it with a legal order of it and the marks of that
 /// order, or with `None` where the book has no legal order.
-pub(crate) fn decide_after<P: Program, S: SeqObject, L: Ledger>(
+pub(crate) fn decide_after<P: Program, S: SearchHints, L: Ledger>(
     alloc: Global,
     object: &S,
     rows: &Rows<P>,
@@ -106,7 +107,7 @@ pub(crate) fn decide_after<P: Program, S: SeqObject, L: Ledger>(
 /// grown book. A call mostly costs no more than what is new; no clause says how long a search
 /// takes. After `Delivered` both are set for the caller's next call. After `Error` and `Unjudged`
 /// `gathered` is `None`, and without a book a kept order is not used, so it needn't be removed.
-pub fn judge_line<P: Program, S: SeqObject, L: Ledger>(
+pub fn judge_line<P: Program, S: SearchHints, L: Ledger>(
     alloc: Global,
     object: &S,
     rows: &Rows<P>,

@@ -4,4 +4,3 @@ pub mod Naming
 pub mod Forming
 pub mod Raising
 pub mod Together
-pub mod Worked

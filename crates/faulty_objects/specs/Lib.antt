@@ -8,4 +8,3 @@ pub mod Names
 pub mod Forms
 pub mod Passes
 pub mod Together
-pub mod Cases

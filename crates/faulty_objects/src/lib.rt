@@ -4,7 +4,6 @@
 
 mod behaviour;
 mod calls;
-pub mod cases;
 mod invent;
 mod late;
 pub mod laws;

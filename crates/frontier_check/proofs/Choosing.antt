@@ -1,31 +1,28 @@
 -- Which places are to be tried after a cut and at a list, such that where any places continue an
 -- order from there, some that begin with one of these do.
-use Rattle.std.proofs.Common.{◌≡◌, ◌⊎◌, ℕ, zero, suc, ◌+◌, ◌<◌, ◌≤◌, ◌∙◌, ◌↔◌, Bool, IsTrue, List, [], ◌∷◌, ◌++◌, length, get_or, set, Option, None, Some, unwrap_or, refl, sym, ap, subst, inl, inr, arith}
+use Rattle.std.proofs.Common.{◌≡◌, ℕ, zero, suc, ◌+◌, ◌<◌, ◌≤◌, ◌∙◌, List, [], ◌∷◌, ◌++◌, length, get_or, Option, Some, unwrap_or, refl, sym, ap, subst, inl, inr, arith}
 use Rattle.std.specs.List.{AllByRecursion, insert}
-use Rattle.std.specs.Option.{IsSomeAnd, IfSome, IfNone}
+use Rattle.std.specs.Option.{IsSomeAnd}
 use Rattle.std.proofs.lemmas.Bool.{cases_lt}
-use Rattle.std.proofs.lemmas.List.{get_or-set_same, get_or-set_other}
 use Rattle.std.proofs.lemmas.List.Elements.{Contains-get_or}
-use Rattle.std.proofs.lemmas.Option.{same_Some, slice_get_within}
-use Rattle.list_laws.proofs.Options.{some_from_is_some_and}
+use Rattle.std.proofs.lemmas.Option.{same_Some}
 use Rattle.book_base.specs.declared.call.Call.{Call}
 use Rattle.book_base.specs.declared.call.Place.{Place}
 use Rattle.book_base.specs.declared.call.Record.{Record}
 use Rattle.book_base.specs.SeqSpec.{SeqSpec}
-use Rattle.book_base.specs.Cut.{Holds, IsWithin}
-use Rattle.book_base.specs.Book.{Page, IsValid, IsCall, IsAnswered, operation_of, record_of, Precedes}
+use Rattle.book_base.specs.Book.{Page, operation_of, record_of}
 use Rattle.book_base.specs.Order.{call_at, step_at, IsLegalOrder}
-use Rattle.book_base.specs.PruningRules.{Leaves, IsInfeasible, HasEarly, rank_of}
-use Rattle.book_base.proofs.PageLemmas.{caller_from_call, caller_from_answer}
-use Rattle.book_base.proofs.GrowthLemmas.{below_calls}
+use Rattle.book_base.specs.Reaching.{Leaves, IsInfeasible}
+use Rattle.search_hints.specs.PruningRules.{HasEarly, rank_of}
+use Rattle.book_base.proofs.PageLemmas.{caller_from_call}
 use Rattle.book_base.specs.Next.{next_call, raised, list_after, HoldsAnswered, MayComeNext, MayStandNext, Continues}
-use Rattle.book_laws.proofs.LegalOrder.{same_call, same_place, answer_stands}
-use Rattle.book_laws.proofs.Precedence.{may_come_next-from_first}
+use Rattle.book_laws.proofs.LegalOrder.{same_call, same_place}
 use Rattle.history_rules.specs.Standing.{MayStandAtOnce, answered_place, word_of}
 use Rattle.history_rules.proofs.Exchange.{goes_on_with_it}
 use Rattle.frontier_check.specs.declared.choice.Choice.{Choice}
-use Rattle.book_base.specs.declared.marked_callers.MarkedCallers.{MarkedCallers}
-use Rattle.book_base.specs.Pruning.{ViewsAreWithin, IsLeast, IsDeadEnd, StandsAtOnce, IsReached, IsMarked, MarksAllNext, MarksSuffice}
+use Rattle.search_hints.specs.declared.marked_callers.MarkedCallers.{MarkedCallers}
+use Rattle.book_base.specs.Pruning.{IsLeast, IsDeadEnd, StandsAtOnce, IsReached}
+use Rattle.search_hints.specs.Marks.{IsMarked, MarksSuffice}
 use Rattle.frontier_check.specs.Search.{IsAmong, places_of, AreServedBy, IsOneMore, AreChosen, IsOpen, IsServed, GoesOnBy, IsRankIn}
 
 -- a place among the places of some choices, with one more choice inserted

@@ -11,7 +11,7 @@ use Rattle.book_base.specs.declared.TheConstants.{MAX_CALLERS, MAX_CALLS}
 use Rattle.book_base.specs.SeqSpec.{SeqSpec}
 use Rattle.book_base.specs.Book.{Page, IsValid, IsSmall, IsAnswered, record_of, Precedes}
 use Rattle.book_base.specs.Order.{call_at, step_at, IsLegalOrder}
-use Rattle.book_base.specs.PruningRules.{Reaches}
+use Rattle.book_base.specs.Reaching.{Reaches}
 use Rattle.book_base.proofs.PageLemmas.{caller_from_call}
 use Rattle.book_base.proofs.ViewLemmas.{same_call}
 use Rattle.book_base.proofs.ReachingLemmas.{no_places_reach_the_start, one_more_place_reaches_on}

@@ -12,7 +12,7 @@ use Rattle.book_base.specs.declared.TheConstants.{MAX_CALLERS, MAX_CALLS}
 use Rattle.book_base.specs.SeqSpec.{SeqSpec}
 use Rattle.book_base.specs.Book.{Page, calls_of, IsCall, IsSmall}
 use Rattle.book_base.specs.Order.{call_at, step_at, IsLegalOrder, HasLegalOrder}
-use Rattle.book_base.specs.PruningRules.{Reaches}
+use Rattle.book_base.specs.Reaching.{Reaches}
 use Rattle.book_base.proofs.ReachingLemmas.{one_more_place_reaches_on}
 use Rattle.book_base.proofs.PageLemmas.{caller_from_call}
 use Rattle.book_base.specs.Next.{raised, list_after, HoldsAnswered, MayComeNext, Continues}

@@ -12,7 +12,7 @@ use Rattle.book_base.specs.declared.call.Record.{Record}
 use Rattle.book_base.specs.SeqSpec.{SeqSpec}
 use Rattle.book_base.specs.Book.{Page, page_of, calls_of, answered, record_of, operation_of, IsCall, IsValid, IsSmall}
 use Rattle.book_base.specs.Order.{call_at, step_at}
-use Rattle.book_base.specs.PruningRules.{list_after_run, Reaches}
+use Rattle.book_base.specs.Reaching.{list_after_run, Reaches}
 use Rattle.book_base.specs.Next.{raised, list_after}
 use Rattle.book_base.proofs.PageLemmas.{caller_from_call, caller_from_answer}
 use Rattle.book_base.proofs.ViewLemmas.{answer_stands, answered_at}

@@ -1,10 +1,9 @@
 -- Twins, and unanswered calls that leave the list as it is: which places needn't be tried after a
 -- cut.
-use Rattle.std.proofs.Common.{◌≡◌, ℕ, zero, suc, ◌+◌, ◌<◌, ◌≤◌, ◌∙◌, ◌⊎◌, ◌↔◌, Bool, IsTrue, IsFalse, List, [], ◌∷◌, length, get_or, Option, Some, unwrap_or, refl, sym, ap, subst, inl, inr, arith}
+use Rattle.std.proofs.Common.{◌≡◌, ℕ, zero, suc, ◌<◌, ◌∙◌, ◌⊎◌, ◌↔◌, Bool, IsTrue, IsFalse, List, [], ◌∷◌, length, get_or, Option, Some, unwrap_or, refl, sym, ap, subst, inl, inr, arith}
 use Rattle.std.specs.List.{AllByRecursion, insert, remove}
 use Rattle.std.proofs.lemmas.Bool.{cases_lt, cases_eq}
 use Rattle.std.proofs.lemmas.List.{get_or_read}
-use Rattle.std.proofs.lemmas.Option.{slice_get_within}
 use Rattle.book_base.specs.declared.call.Call.{Call}
 use Rattle.book_base.specs.declared.call.Place.{Place}
 use Rattle.book_base.specs.declared.call.Record.{Record}
@@ -13,8 +12,6 @@ use Rattle.book_base.specs.Book.{Page, IsValid, IsCall, IsAnswered, answers_of, 
 use Rattle.book_base.specs.Order.{call_at, step_at}
 use Rattle.book_base.specs.Next.{list_after, MayStandNext, Continues}
 use Rattle.book_base.specs.Pruning.{HasOneOpen, ViewsAreWithin}
-use Rattle.book_base.proofs.PageLemmas.{caller_from_answer}
-use Rattle.book_base.proofs.ViewLemmas.{views_grow}
 use Rattle.book_laws.proofs.LegalOrder.{same_call, answer_stands}
 use Rattle.pruning_laws.specs.Twins.{IsTwin, DoesTheSame}
 use Rattle.pruning_laws.proofs.Exchanging.{twin_serves}

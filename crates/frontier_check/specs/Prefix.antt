@@ -6,7 +6,7 @@ use Rattle.book_base.specs.SeqSpec.{SeqSpec}
 use Rattle.book_base.specs.Cut.{IsWithin}
 use Rattle.book_base.specs.Book.{Page, IsCall, IsValid, IsSmall, calls_of, record_of}
 use Rattle.book_base.specs.Order.{call_at, step_at, IsLegalOrder}
-use Rattle.book_base.specs.PruningRules.{Reaches}
+use Rattle.book_base.specs.Reaching.{Reaches}
 use Rattle.book_base.specs.Next.{next_call, raised, list_after, Continues}
 use Rattle.frontier_check.specs.declared.prefix.Prefix.{Prefix}
 

@@ -6,9 +6,10 @@ use Rattle.book_base.specs.declared.TheConstants.{MAX_CALLERS}
 use Rattle.book_base.specs.SeqSpec.{SeqSpec}
 use Rattle.book_base.specs.Order.{IsLegalOrder}
 use Rattle.book_base.specs.Book.{Page}
-use Rattle.book_base.specs.PruningRules.{HasEarly}
-use Rattle.book_base.specs.declared.marked_callers.MarkedCallers.{MarkedCallers}
-use Rattle.book_base.specs.Pruning.{IsDeadEnd, IsMarked, MarksSuffice}
+use Rattle.search_hints.specs.PruningRules.{HasEarly}
+use Rattle.search_hints.specs.declared.marked_callers.MarkedCallers.{MarkedCallers}
+use Rattle.book_base.specs.Pruning.{IsDeadEnd}
+use Rattle.search_hints.specs.Marks.{IsMarked, MarksSuffice}
 use Rattle.book_base.specs.Next.{next_call, raised, list_after, HoldsAnswered, MayComeNext, MayStandNext, Continues}
 use Rattle.frontier_check.specs.declared.choice.Choice.{Choice}
 use Rattle.frontier_check.specs.declared.prefix.Prefix.{Prefix}

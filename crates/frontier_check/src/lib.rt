@@ -6,6 +6,7 @@ mod choice;
 mod fresh;
 mod guess;
 mod guide;
+mod impossible;
 mod kept_order;
 mod memo;
 mod prefix;

@@ -5,7 +5,8 @@ ghost use Rattle.std.specs.Prelude.{◌≡◌, length};
 use crate::prefix::Prefix;
 use crate::takes::checked_step;
 use crate::walk::CAPACITY;
-use book_base::{Book, BookFault, Call, Cut, Decision, NoMemory, OpWord, Place, SeqObject, State};
+use book_base::{Book, BookFault, Call, Cut, NoMemory, OpWord, Place, SeqObject, State};
+use search_hints::{Decision, SearchHints};
 use std::alloc::Global;
 
 /// The places of the order that the object finds for the calls after a prefix, if it decides that
@@ -14,7 +15,7 @@ use std::alloc::Global;
 /// The object is asked about a book of those calls alone, in which caller 0 first makes calls that
 /// lead to the prefix's list. No clause says that the places follow those of the prefix, so the
 /// caller of this function has to put them one by one.
-pub fn decided_after<S: SeqObject>(
+pub fn decided_after<S: SearchHints>(
     alloc: Global,
     object: &S,
     book: &Book,

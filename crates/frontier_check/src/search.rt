@@ -4,11 +4,13 @@ ghost use Rattle.book_base.specs.declared.call.Place.{Place};
 ghost use Rattle.book_base.specs.declared.call.Record.{Record};
 ghost use Rattle.book_base.specs.Book.{IsCall, IsAnswered, IsValid, record_of};
 ghost use Rattle.book_base.specs.Order.{IsLegalOrder};
-ghost use Rattle.book_base.specs.PruningRules.{ArePruningRules, IsInfeasible};
+ghost use Rattle.book_base.specs.Reaching.{IsInfeasible};
+ghost use Rattle.search_hints.specs.PruningRules.{ArePruningRules};
 ghost use Rattle.book_base.specs.declared.TheConstants.{MAX_CALLERS, MAX_CALLS};
 ghost use Rattle.book_base.specs.Next.{next_call, raised, list_after, HoldsAnswered, MayComeNext, MayStandNext};
 ghost use Rattle.frontier_check.specs.Prefix.{IsPrefix};
-ghost use Rattle.book_base.specs.Pruning.{HasOneOpen, IsLeast, IsDeadEnd, MarksAllNext, ViewsAreWithin, IsReached, StandsAtOnce};
+ghost use Rattle.book_base.specs.Pruning.{HasOneOpen, IsLeast, IsDeadEnd, ViewsAreWithin, IsReached, StandsAtOnce};
+ghost use Rattle.search_hints.specs.Marks.{MarksAllNext};
 ghost use Rattle.frontier_check.specs.Search.{places_of, AreToTry, IsOneMore, IsOpen, IsWalk, IsRightOutcome, IsRankIn, MayGrow, weigh, weight};
 
 use crate::call_turns::CallTurns;
@@ -17,10 +19,9 @@ use crate::memo::Memo;
 use crate::prefix::Prefix;
 use crate::twins::choose;
 use crate::walk::{CAPACITY, StepOutcome, Walk, WalkFrame, load, places, set_count};
-use book_base::{
-    Book, Call, Cut, MarkedCallers, NoMemory, Place, PruningRules, SeqObject, Sight, State,
-};
+use book_base::{Book, Call, Cut, NoMemory, Place, State};
 use next_calls::{all_next, cut_of, first_view, least_open};
+use search_hints::{MarkedCallers, PruningRules, SearchHints, Sight};
 use std::alloc::Global;
 use std::mem;
 
@@ -54,7 +55,7 @@ impl<S> Drop for Search<'_, S> {
     }
 }
 
-impl<S: SeqObject> Search<'_, S> {
+impl<S: SearchHints> Search<'_, S> {
     /// Finds places that make a legal order after those of the prefix, if there are any.
     pub fn run(&self) -> Result<Option<Vec<Place>>, NoMemory>
         requires pruning_rules { ArePruningRules (S.spec self.now.object.now) self.now.book.now

@@ -1,5 +1,5 @@
 ghost use Rattle.std.specs.Prelude.{◌≡◌, ◌++◌, IfOk, IfSome, IfNone, IsTrue};
-ghost use Rattle.book_base.specs.PruningRules.{ArePruningRules};
+ghost use Rattle.search_hints.specs.PruningRules.{ArePruningRules};
 ghost use Rattle.book_base.specs.Order.{IsLegalOrder, HasLegalOrder};
 ghost use Rattle.book_base.specs.Pruning.{HasOneOpen};
 ghost use Rattle.frontier_check.specs.Prefix.{IsPut, IsPrefix};
@@ -10,13 +10,15 @@ ghost use Rattle.frontier_check.specs.declared.walk.TheConstants.{CAPACITY};
 use crate::call_turns::CallTurns;
 use crate::fresh::{calls_after, holds_answered, put_fresh};
 use crate::guide::Guide;
+use crate::impossible::has_impossible_reply;
 use crate::kept_order::{KeptOrder, OrderMark};
 use crate::prefix::{Prefix, answers_in, leaves_open, limit_of};
 use crate::remaining::decided_after;
 use crate::resume::resume;
 use crate::search::Search;
-use book_base::{Book, Call, Decision, NoMemory, Place, PruningRules, SeqObject, Sight};
+use book_base::{Book, Call, Cut, NoMemory, Place};
 use next_calls::has_one_open;
+use search_hints::{Decision, PruningRules, SearchHints, Sight};
 use std::alloc::Global;
 
 /// Whether a book has a legal order.
@@ -33,7 +35,7 @@ pub enum Verdict {
 ///
 /// Where the object doesn't decide the book, a search goes depth first through the pairs of a cut
 /// and a list, and remembers those that are dead ends (after Wing and Gong 1993, and Lowe 2017).
-pub fn check<S: SeqObject>(alloc: Global, object: &S, book: &Book) -> Result<Verdict, NoMemory>
+pub fn check<S: SearchHints>(alloc: Global, object: &S, book: &Book) -> Result<Verdict, NoMemory>
     // A verdict `Legal` carries a legal order of the book, and with `Illegal` the book has none.
     ensures verdict { IfOk result (λ verdict. IsRight (S.spec object.now) book.now verdict) }
 {
@@ -49,7 +51,7 @@ pub fn check<S: SeqObject>(alloc: Global, object: &S, book: &Book) -> Result<Ver
 /// the last one mostly has an order that begins like the last one's. Those places are put one by
 /// one, and a search looks only among the calls after them. Where it finds no order soon, a search
 /// begins after fewer of those places, and at last one looks everywhere.
-pub fn check_from<S: SeqObject>(
+pub fn check_from<S: SearchHints>(
     alloc: Global,
     object: &S,
     book: &Book,
@@ -82,7 +84,7 @@ pub fn check_from<S: SeqObject>(
 /// is answered where the book has no legal order. The places before a mark are kept where the new
 /// records let them, and those after it are put one by one. A call mostly costs what is new and a
 /// copy of the object's list; no clause says how much.
-pub fn check_after<S: SeqObject>(
+pub fn check_after<S: SearchHints>(
     alloc: Global,
     object: &S,
     book: &Book,
@@ -115,7 +117,7 @@ pub fn check_after<S: SeqObject>(
 }
 
 // Looks for a legal order, first after those places of a kept order that still follow one another.
-fn check_on<S: SeqObject>(
+fn check_on<S: SearchHints>(
     alloc: Global,
     object: &S,
     book: &Book,
@@ -142,6 +144,9 @@ fn check_on<S: SeqObject>(
     }
     match rest_after(alloc, object, book, later, &prefix, FIRST_STEPS)? {
         None => {
+            if has_impossible_reply(object, book, &prefix.cut) {
+                return Ok(None);
+            }
             let Prefix {
                 places,
                 cut: _,
@@ -168,7 +173,7 @@ const TURNS_PUT: u32 = 3;
 
 // Looks for a legal order: first after the last marks of an order, where calls are put as they are
 // guessed; then after ever earlier marks, as `check_at_marks` does; and then anywhere.
-fn check_before<S: SeqObject>(
+fn check_before<S: SearchHints>(
     alloc: Global,
     object: &S,
     book: &Book,
@@ -205,7 +210,7 @@ fn check_before<S: SeqObject>(
 // A new order, which begins with the places of `order` before its last mark that still stands, and
 // continues with calls as they are guessed; and whether the new order is legal, which it is where
 // the places that remain are found soon. The marks become those of the new order.
-fn order_put<S: SeqObject>(
+fn order_put<S: SearchHints>(
     alloc: Global,
     object: &S,
     book: &Book,
@@ -237,7 +242,7 @@ const TURNS_BACK: u32 = 6;
 
 // Looks for a legal order, first after the last mark of an order and then after ever earlier ones,
 // and then anywhere.
-fn check_at_marks<S: SeqObject>(
+fn check_at_marks<S: SearchHints>(
     alloc: Global,
     object: &S,
     book: &Book,
@@ -275,7 +280,7 @@ fn check_at_marks<S: SeqObject>(
 // whether the new order is legal, which it is where the places that remain are found soon: by the
 // object, where it decides on an order of them, and else by a search. The marks become those of the
 // new order.
-fn order_after_mark<S: SeqObject>(
+fn order_after_mark<S: SearchHints>(
     alloc: Global,
     object: &S,
     book: &Book,
@@ -298,7 +303,7 @@ fn order_after_mark<S: SeqObject>(
 // An order that begins with the places of a prefix and then with those of `places`, as far as they
 // follow; and whether it is a legal order, which it is where the places that remain are found soon.
 // Where it isn't a legal order, no mark is left.
-fn order_by<S: SeqObject>(
+fn order_by<S: SearchHints>(
     alloc: Global,
     object: &S,
     book: &Book,
@@ -337,7 +342,7 @@ fn order_by<S: SeqObject>(
 // where the places that remain are found in `more` steps more than calls remain, with the places
 // `later` tried first; else the order continues with the places `later`. The marks of the prefix
 // are marks of this order.
-fn order_on<S: SeqObject>(
+fn order_on<S: SearchHints>(
     alloc: Global,
     object: &S,
     book: &Book,
@@ -373,7 +378,7 @@ fn order_on<S: SeqObject>(
 
 // Looks for a legal order anywhere, with the guide's places tried first. An order that is found has
 // no marks.
-fn check_anew<S: SeqObject>(
+fn check_anew<S: SearchHints>(
     alloc: Global,
     object: &S,
     book: &Book,
@@ -397,7 +402,7 @@ fn check_anew<S: SeqObject>(
 
 // Places that make a legal order after those of a prefix, if some are found in `more` steps more
 // than calls remain, with the places `later` tried first. `None` says nothing of the book.
-fn rest_after<S: SeqObject>(
+fn rest_after<S: SearchHints>(
     alloc: Global,
     object: &S,
     book: &Book,
@@ -432,7 +437,7 @@ const FIRST_STEPS: u64 = 100;
 
 // A legal order that begins with places of a guide, if one is found soon: first after all of them
 // that still follow one another, and then after ever fewer.
-fn order_near<S: SeqObject>(
+fn order_near<S: SearchHints>(
     alloc: Global,
     object: &S,
     book: &Book,
@@ -460,7 +465,7 @@ fn order_near<S: SeqObject>(
 }
 
 // A legal order that begins with the places of a prefix, if one is found soon.
-fn order_after<S: SeqObject>(
+fn order_after<S: SearchHints>(
     alloc: Global,
     object: &S,
     book: &Book,
@@ -497,7 +502,7 @@ fn later_of(guide: &[Place], taken: usize) -> &[Place] {
 // Places that make a legal order after those of a prefix, if some are found in `more` steps more
 // than calls remain, with the places `later` tried first and the pruning rules `known`. `None` says
 // nothing of the book.
-fn places_after<S: SeqObject>(
+fn places_after<S: SearchHints>(
     alloc: Global,
     object: &S,
     book: &Book,
@@ -527,9 +532,9 @@ fn places_after<S: SeqObject>(
     search.run_few(calls_after(book, &prefix.cut).saturating_add(more))
 }
 
-// A legal order of a book, if it has one: where the object doesn't decide the book, a search looks
-// everywhere.
-fn order_anywhere<S: SeqObject>(
+// A legal order of a book, if it has one: where the object may give each reply of the book and
+// doesn't decide the book, a search looks everywhere.
+fn order_anywhere<S: SearchHints>(
     alloc: Global,
     object: &S,
     book: &Book,
@@ -540,6 +545,9 @@ fn order_anywhere<S: SeqObject>(
     ensures none { IfOk result
         (λ found. IfNone found (HasLegalOrder (S.spec object.now) book.now → ⊥)) }
 {
+    if has_impossible_reply(object, book, &Cut::zero(book.callers())) {
+        return Ok(None);
+    }
     match object.decide(alloc, book)? {
         Decision::Order(order) => Ok(Some(order)),
         Decision::NoOrder => Ok(None),
@@ -549,7 +557,7 @@ fn order_anywhere<S: SeqObject>(
 
 // A legal order of a book, if it has one: a search looks everywhere, with the guide's places tried
 // first.
-fn order_searched<S: SeqObject>(
+fn order_searched<S: SearchHints>(
     alloc: Global,
     object: &S,
     book: &Book,
@@ -581,7 +589,7 @@ fn order_searched<S: SeqObject>(
 
 // The sight by which the object narrows which callers are tried, in a book with one open; `None` in
 // any other book, and where the object prepares no sight.
-fn sight_of<S: SeqObject>(
+fn sight_of<S: SearchHints>(
     alloc: Global,
     object: &S,
     book: &Book,

@@ -9,7 +9,7 @@ use Rattle.book_base.specs.Book.{Page}
 use Rattle.book_base.specs.Sequential.{IsRunFrom}
 use Rattle.book_base.specs.Order.{call_at, StandsAt, IsLegalOrder}
 use Rattle.book_laws.proofs.Final.{IsRunFrom-take}
-use Rattle.book_base.specs.PruningRules.{list_after_run}
+use Rattle.book_base.specs.Reaching.{list_after_run}
 use Rattle.history_rules.specs.Container.{Effect, Puts, Takes, Reading, value_put, value_taken, put_by, taken_by, times, GivesOne, IsContainer}
 use Rattle.history_rules.specs.Calls.{PutsInAlone}
 use Rattle.history_rules.specs.Rules.{EmptyBeforePut, TakenOnce}

@@ -10,7 +10,7 @@ use Rattle.book_base.specs.Book.{Page, record_of, Precedes}
 use Rattle.book_base.specs.Order.{call_at}
 use Rattle.book_base.specs.Next.{raised, MayComeNext, MayStandNext, list_after, Continues}
 use Rattle.book_laws.proofs.LegalOrder.{raised_twice, comes_later, same_call, within_cut}
-use Rattle.book_base.specs.PruningRules.{Leaves}
+use Rattle.book_base.specs.Reaching.{Leaves}
 use Rattle.history_rules.specs.Standing.{answered_place, word_of, GoesOnWithIt}
 
 -- A call may come next, is answered, and its operation is read-only with the recorded reply.

@@ -8,4 +8,3 @@ pub mod MoreTaken
 pub mod QueueRules
 pub mod StackRules
 pub mod Exchange
-pub mod SmallObjects

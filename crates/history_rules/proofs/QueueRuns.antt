@@ -5,7 +5,7 @@ use Rattle.std.proofs.lemmas.Bool.{cases_lt}
 use Rattle.std.proofs.lemmas.Option.{slice_get_within}
 use Rattle.list_laws.proofs.Prefixes.{slice_get-append_within}
 use Rattle.book_base.specs.Sequential.{IsRunFrom}
-use Rattle.book_base.specs.PruningRules.{list_after_run}
+use Rattle.book_base.specs.Reaching.{list_after_run}
 use Rattle.history_rules.specs.Container.{Effect, Puts, Takes, Neither, Reading, value_put, value_taken, put_by, taken_by, times, GivesOne, GivesFirst, IsContainer, IsQueue, IsStack}
 use Rattle.history_rules.proofs.Counting.{times-append}
 use Rattle.history_rules.proofs.Ranks.{rank, shown_at_rank, found_at_rank, rank-grows, rank-more}

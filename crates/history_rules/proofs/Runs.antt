@@ -3,7 +3,7 @@
 use Rattle.std.proofs.Common.{◌≡◌, ℕ, zero, suc, ◌+◌, List, [], ◌∷◌, take, Option, Some, None, refl, ap, subst, slice_get, arith}
 use Rattle.std.proofs.lemmas.Option.{same_Some, none-some}
 use Rattle.book_base.specs.Sequential.{IsRunFrom}
-use Rattle.book_base.specs.PruningRules.{list_after_run}
+use Rattle.book_base.specs.Reaching.{list_after_run}
 use Rattle.history_rules.specs.Container.{Effect, Puts, Takes, Neither, Reading, value_put, value_taken, put_by, taken_by, times, GivesOne, IsContainer}
 use Rattle.history_rules.proofs.Counting.{is_once, how_often}
 

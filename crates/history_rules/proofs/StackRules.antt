@@ -12,7 +12,7 @@ use Rattle.book_base.specs.Sequential.{IsRunFrom}
 use Rattle.book_base.specs.Order.{step_at, StandsAt, IsLegalOrder}
 use Rattle.history_rules.specs.Container.{Effect, Puts, Takes, Neither, Reading, value_taken, taken_by, times, GivesFirst, IsStack}
 use Rattle.history_rules.specs.Calls.{PutsIn, PutsInAlone, TakesOut}
-use Rattle.book_base.specs.PruningRules.{list_after_run, IsInfeasible}
+use Rattle.book_base.specs.Reaching.{list_after_run, IsInfeasible}
 use Rattle.history_rules.specs.Rules.{PutIsCovered}
 use Rattle.history_rules.proofs.Counting.{how_often-more, times-append, times-stands, times-first}
 use Rattle.history_rules.proofs.Runs.{step_of_run}

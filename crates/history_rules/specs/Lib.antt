@@ -2,4 +2,3 @@ pub mod Container
 pub mod Calls
 pub mod Rules
 pub mod Standing
-pub mod SmallObjects

@@ -11,7 +11,7 @@ use Rattle.book_base.specs.Sequential.{IsLegalRun}
 use Rattle.book_base.specs.Order.{HasLegalOrder}
 use Rattle.history_rules.specs.Container.{Reading, put_by, taken_by, times, IsContainer, IsQueue, IsStack}
 use Rattle.history_rules.specs.Calls.{PutsIn, PutsInAlone, TakesOut, FindsNothing}
-use Rattle.book_base.specs.PruningRules.{list_after_run, IsInfeasible, MustComeFirst}
+use Rattle.book_base.specs.Reaching.{list_after_run, IsInfeasible, MustComeFirst}
 
 -- A queue gives out values in the order in which they were put in: after a legal run from empty,
 -- all values put in are those given out, followed by those that the queue still holds.

@@ -5,7 +5,7 @@ use Rattle.book_base.specs.declared.call.Place.{Place}
 use Rattle.book_base.specs.declared.call.Record.{Record}
 use Rattle.book_base.specs.Book.{Page, operation_of, record_of}
 use Rattle.book_base.specs.Next.{MayComeNext, Continues}
-use Rattle.book_base.specs.PruningRules.{Leaves}
+use Rattle.book_base.specs.Reaching.{Leaves}
 
 -- the place of an answered call, with its recorded reply
 abbrev pub answered_place : Call → Record → Place

@@ -1,5 +1,5 @@
 -- What is written of a hunt, and of what it caught.
-use Rattle.std.specs.Prelude.{◌≡◌, ℕ, ◌≤◌, ◌++◌, List, Option, None, codes, false}
+use Rattle.std.specs.Prelude.{◌≡◌, ℕ, ◌≤◌, ◌++◌, List, Option, None, codes}
 use Rattle.book_base.specs.Book.{Page}
 use Rattle.book_base.specs.Order.{HasLegalOrder}
 use Rattle.seq_objects.specs.declared.kind.Kind.{Kind}
@@ -7,11 +7,9 @@ use Rattle.seq_objects.specs.Objects.{kind_spec}
 use Rattle.text_fields.specs.declared.version.Version.TheVariants.{Second}
 use Rattle.book_text.specs.Grammar as books
 use Rattle.reports.specs.Grammar as reports
-use Rattle.smaller_book.specs.Part.{IsPart}
-use Rattle.smaller_book.specs.Keys.{IsEvidence}
+use Rattle.smaller_book.specs.Evidence.{IsEvidence}
 use Rattle.smaller_book.specs.Minimal.{IsMinimal}
-use Rattle.book_picture.specs.Elements.{ShowsEachCall}
-use Rattle.book_picture.specs.Titles.{first_lines, SaysFirst}
+use Rattle.book_picture.specs.Elements.{IsPicture}
 use Rattle.book_picture.specs.declared.marked_calls.MarkedCalls.TheVariants.{Unasked}
 use Rattle.byte_streams.specs.declared.status.Status.{Status}
 use Rattle.byte_streams.specs.declared.status.Status.TheVariants.{Fine, Found, NoMemory}
@@ -23,12 +21,11 @@ use Rattle.hunts.specs.Watching.{Hears}
 use Rattle.hunt_program.specs.declared.shown.Shown.{Shown}
 use Rattle.hunt_program.specs.declared.shown.Shown.TheVariants.{Smaller, Report, Picture}
 
--- A smaller witness of a book: a part of it without a legal order, which shows that the book has
--- none either, and which no rule makes smaller.
+-- A smaller witness of a book: a part that is evidence of it, that has no legal order, and that no
+-- rule makes smaller.
 pub record IsSmallerWitness (kind : Kind) (book part : List Page) : Type 0 where
   pub names : List (List ℕ)
-  pub is_part : IsPart book names part
-  pub evidence : IsEvidence kind book part
+  pub evidence : IsEvidence kind book names part
   pub illegal : ¬ HasLegalOrder (kind_spec kind) part
   pub minimal : IsMinimal kind part
 
@@ -37,12 +34,11 @@ abbrev pub IsSmallerText : Kind → List Page → List ℕ → Type 0
 IsSmallerText kind book text = (part : List Page) × IsSmallerWitness kind book part
     × books.IsWrittenText Second text kind part
 
--- The text is a picture of a smaller witness of a book, and its first lines say that this witness
--- has no legal order.
+-- The text is the picture of a smaller witness of a book, without numbers and marks.
 abbrev pub IsSmallerPicture : Kind → List Page → List ℕ → Type 0
 IsSmallerPicture kind book text =
-    (part : List Page) × IsSmallerWitness kind book part × ShowsEachCall kind part Unasked text
-    × SaysFirst (first_lines false Unasked None) text
+    (part : List Page) × IsSmallerWitness kind book part
+    × IsPicture kind part None Unasked None text
 
 -- The text is that of a catch's report, and after it that of its witness.
 abbrev pub IsReportShown : Kind → Catch → List ℕ → Type 0

@@ -10,6 +10,7 @@ use book_base::{MAX_CALLS, NoMemory};
 use client_calls::{OutsideObject, Shared};
 use client_scripts::Script;
 use drv_wrapper::{BlackBox, ObjectPass};
+use kind_search::SearchedKind;
 use reports::Report;
 use row_table::Rows;
 use run_report::{passes_are_fresh, run_asked};
@@ -36,7 +37,9 @@ where
 {
     let (rows, mut bench) = Rows::open(alloc, Outside, script.callers(), MAX_CALLS)?;
     passes_are_fresh(&rows, object, passes, script);
-    let kind = script.kind();
+    let kind = SearchedKind {
+        kind: script.kind(),
+    };
     let outside = OutsideObject { object };
     let asks = Noisy {
         asks: &outside,

@@ -5,4 +5,3 @@ pub mod Equipping
 pub mod Forming
 pub mod Counting
 pub mod Together
-pub mod Worked

@@ -6,4 +6,3 @@ pub mod Equipment
 pub mod Forms
 pub mod WordObjects
 pub mod Together
-pub mod Cases

@@ -2,7 +2,6 @@
 //! many threads.
 #![tactic(auto)]
 
-pub mod cases;
 pub mod laws;
 mod log_box;
 mod log_pass;

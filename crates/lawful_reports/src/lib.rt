@@ -1,6 +1,4 @@
-//! What a lawful report says of its delivered lines and of its error lines, and which reports
-//! aren't lawful.
+//! What a lawful report says of its delivered lines and of its error lines.
 #![tactic(auto)]
 
-pub mod cases;
 pub mod laws;

@@ -2,4 +2,3 @@ pub mod LogWords
 pub mod LogProgram
 pub mod LogEffects
 pub mod LogRules
-pub mod Cases

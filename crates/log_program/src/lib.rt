@@ -2,5 +2,4 @@
 //! are linearizable.
 #![tactic(auto)]
 
-pub mod cases;
 pub mod laws;

@@ -1,4 +1,3 @@
 pub mod Logged
 pub mod Runs
-pub mod Cases
 pub mod LogLaws

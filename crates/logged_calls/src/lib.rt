@@ -2,5 +2,4 @@
 //! form that its operation has.
 #![tactic(auto)]
 
-pub mod cases;
 pub mod laws;

@@ -9,8 +9,8 @@ use crate::board::Board;
 use crate::monitor::Monitor;
 use crate::watch::{Watch, Watched};
 use crate::witness::Witness;
-use book_base::SeqObject;
 use row_table::{Bench, Rows};
+use search_hints::SearchHints;
 use std::alloc::Global;
 use std::thread::Threads;
 use work_halves::{Work, work_with_two};
@@ -77,7 +77,7 @@ fn work_beside<
     C: Sync,
     W: Work<C>,
     P: Program + Send + Sync,
-    S: SeqObject + Sync,
+    S: SearchHints + Sync,
 >(
     rt: &R,
     shared: &C,
@@ -108,7 +108,7 @@ pub fn watch_beside<
     C: Sync,
     W: Work<C>,
     P: Program + Send + Sync,
-    S: SeqObject + Sync,
+    S: SearchHints + Sync,
 >(
     rt: &R,
     alloc: Global,

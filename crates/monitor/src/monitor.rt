@@ -4,12 +4,13 @@ use crate::board::Board;
 use crate::claim::Claim;
 use crate::round::Round;
 use crate::witness::Witness;
-use book_base::{NoMemory, SeqObject};
+use book_base::NoMemory;
 use collect_scan::scan;
 use enforcer::standing_in;
 use frontier_check::{KeptOrder, check_after};
 use row_gather::{Gathered, grow_at};
 use row_table::{Caller, Rows, Steps};
+use search_hints::SearchHints;
 use std::alloc::Global;
 use std::sync::ledger::Ledger;
 use world_core::{Outside, Program, Region};
@@ -98,7 +99,7 @@ impl<P: Program> Monitor<P> {
     ///
     /// A book without a legal order becomes the monitor's own witness, and the monitor tries once
     /// to put a copy of it on the board. Where memory is lacking, the board isn't tried.
-    pub fn round<S: SeqObject, L: Ledger>(
+    pub fn round<S: SearchHints, L: Ledger>(
         &mut self,
         alloc: Global,
         object: &S,
@@ -151,7 +152,7 @@ impl<P: Program> Monitor<P> {
     /// Makes a round as [`Monitor::round`] does, but its search begins after those places of the
     /// kept order in `standing` that still stand. Afterwards `standing` has the legal order of the
     /// round's book, or nothing where the round was illegal or memory was lacking.
-    pub fn round_after<S: SeqObject, L: Ledger>(
+    pub fn round_after<S: SearchHints, L: Ledger>(
         &mut self,
         alloc: Global,
         object: &S,

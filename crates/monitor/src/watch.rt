@@ -4,8 +4,9 @@ ghost use Rattle.monitor.specs.Watching.{IsFresh, IsReady, HasGoneRound, HasWatc
 use crate::board::Board;
 use crate::monitor::Monitor;
 use crate::round::Round;
-use book_base::{NoMemory, SeqObject};
+use book_base::NoMemory;
 use row_table::{Rows, Steps};
+use search_hints::SearchHints;
 use std::alloc::Global;
 use std::marker::Brand;
 use std::sync::ledger::{Blank, Ledger};
@@ -32,7 +33,7 @@ pub struct Watch<P = Outside> {
 
 // Lets a monitor make rounds up to the first illegal one, at most `rounds` of them. The flag in
 // the answer says whether a round ended for want of memory.
-fn make_rounds<P: Program, S: SeqObject, L: Ledger>(
+fn make_rounds<P: Program, S: SearchHints, L: Ledger>(
     monitor: Monitor<P>,
     shared: &Watched<S, P>,
     rounds: u64,
@@ -62,7 +63,7 @@ fn make_rounds<P: Program, S: SeqObject, L: Ledger>(
 }
 
 // Makes the rounds of a monitor, with a counter of steps that is made from `blank`.
-fn make_counted<P: Program, S: SeqObject, L: Ledger>(
+fn make_counted<P: Program, S: SearchHints, L: Ledger>(
     monitor: Monitor<P>,
     shared: &Watched<S, P>,
     rounds: u64,
@@ -78,7 +79,7 @@ fn make_counted<P: Program, S: SeqObject, L: Ledger>(
 }
 
 // Makes the rounds of a monitor, with a counter of steps that this function makes.
-fn make_alone<P: Program, S: SeqObject>(
+fn make_alone<P: Program, S: SearchHints>(
     monitor: Monitor<P>,
     shared: &Watched<S, P>,
     rounds: u64,
@@ -90,7 +91,7 @@ fn make_alone<P: Program, S: SeqObject>(
     make_counted::<P, S, Brand>(monitor, shared, rounds, Blank::new(1))
 }
 
-impl<'s, P: Program + Send + Sync, S: SeqObject + Sync> Work<Watched<'s, S, P>> for Watch<P> {
+impl<'s, P: Program + Send + Sync, S: SearchHints + Sync> Work<Watched<'s, S, P>> for Watch<P> {
     ghost ready = { λ w shared. IsReady P.meaning shared.rows.now shared.board.now w };
 
     ghost done = { λ w shared d. HasWatched (S.spec shared.sequential.now)

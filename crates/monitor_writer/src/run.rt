@@ -19,6 +19,7 @@ use book_base::NoMemory;
 use byte_streams::{Sink, Status};
 use client_scripts::Script;
 use drv_wrapper::{BlackBox, ObjectPass};
+use kind_search::SearchedKind;
 use monitored_runs::monitor_over;
 use row_table::{Bench, Rows};
 use std::alloc::Global;
@@ -114,9 +115,11 @@ where
     // status the count stayed as it was. With `NoMemory` the whole sink stayed as it was.
     ensures faults { LeavesSink K.faults result sink.old sink.new }
 {
-    let kind = script.kind();
+    let kind = SearchedKind {
+        kind: script.kind(),
+    };
     match monitor_over(rt, alloc, rows, bench, &kind, object, passes, script) {
-        Ok(answer) => write_answer(alloc, kind, &answer, sink),
+        Ok(answer) => write_answer(alloc, kind.kind, &answer, sink),
         Err(NoMemory) => Status::NoMemory,
     }
 }

@@ -3,14 +3,15 @@ ghost use Rattle.book_base.specs.Cut.{IsWithin};
 ghost use Rattle.book_base.specs.Book.{answered};
 ghost use Rattle.monitored_runs.specs.Published.{IsJudgedAt};
 
-use book_base::{Book, Cut, NoMemory, SeqObject};
+use book_base::{Book, Cut, NoMemory};
 use frontier_check::{Verdict, check};
 use monitor::Witness;
+use search_hints::SearchHints;
 use std::alloc::Global;
 
 /// Judges the book at a cut of `book`. The answer is a witness where the book at the cut has no
 /// legal order, and `None` where it has one.
-pub fn judge_at<S: SeqObject>(
+pub fn judge_at<S: SearchHints>(
     alloc: Global,
     object: &S,
     book: &Book,

@@ -18,7 +18,7 @@ ghost use Rattle.monitored_runs.specs.Monitoring.{published_for, with_monitors, 
 use crate::counts::{most_rounds, published_counts};
 use crate::published::judge_at;
 use crate::watching::watch_all;
-use book_base::{NoMemory, SeqObject};
+use book_base::NoMemory;
 use client_calls::{Asks, OutsideObject, Shared};
 use client_scripts::Script;
 use drv_wrapper::BlackBox;
@@ -26,6 +26,7 @@ use monitor::{Left, Witness};
 use reports::{Own, book_of};
 use row_table::{Bench, Rows};
 use run_report::passes_are_fresh;
+use search_hints::SearchHints;
 use std::alloc::Global;
 use std::thread::Threads;
 use world_core::{Outside, Program};
@@ -58,7 +59,7 @@ fn add_monitors(alloc: Global, lines: &mut Vec<Own>) -> Result<(), NoMemory>
 }
 
 // Judges the book of the lines of all callers, at the cut of the records that they have published.
-fn judge_lines<S: SeqObject>(
+fn judge_lines<S: SearchHints>(
     alloc: Global,
     sequential: &S,
     script: &Script,
@@ -91,7 +92,7 @@ pub fn monitor_asked<
     R: Threads + Sync,
     P: Program + Send + Sync,
     T: Send,
-    S: SeqObject + Sync,
+    S: SearchHints + Sync,
     A: Asks<Program = P, Pass = T> + Sync,
 >(
     rt: &R,
@@ -169,7 +170,7 @@ pub fn monitor_asked<
 /// The answer is a witness exactly where the book of all published records has no legal order.
 /// Whatever the answer, the bench holds all callers again, and the passes are in their order.
 /// `NoMemory` is answered before the first call, or where a judgement lacked memory.
-pub fn monitor_over<R: Threads + Sync, S: SeqObject + Sync, B: BlackBox + Sync>(
+pub fn monitor_over<R: Threads + Sync, S: SearchHints + Sync, B: BlackBox + Sync>(
     rt: &R,
     alloc: Global,
     rows: &Rows,

@@ -12,13 +12,14 @@ ghost use Rattle.script_workers.specs.Starts.{run_allotments, course_of, IsUnuse
 ghost use Rattle.script_workers.specs.Returns.{IsBackOn, AreBack};
 ghost use Rattle.monitored_runs.specs.Monitoring.{IsMonitor, HasWatched};
 
-use book_base::{NoMemory, SeqObject};
+use book_base::NoMemory;
 use client_calls::{Asks, Deferring, Shared};
 use client_scripts::Script;
 use monitor::{Left, watch_beside};
 use reports::Own;
 use row_table::Bench;
 use script_workers::{Pace, Worker, end_all, start_all};
+use search_hints::SearchHints;
 use std::alloc::Global;
 use std::thread::Threads;
 use world_core::Program;
@@ -30,7 +31,7 @@ fn watch_in<
     R: Threads + Sync,
     P: Program + Send + Sync,
     T: Send,
-    S: SeqObject + Sync,
+    S: SearchHints + Sync,
     A: Asks<Program = P, Pass = T> + Sync,
 >(
     rt: &R,
@@ -83,7 +84,7 @@ pub(crate) fn watch_all<
     R: Threads + Sync,
     P: Program + Send + Sync,
     T: Send,
-    S: SeqObject + Sync,
+    S: SearchHints + Sync,
     A: Asks<Program = P, Pass = T> + Sync,
 >(
     rt: &R,

@@ -18,6 +18,7 @@ use book_base::NoMemory;
 use byte_streams::{Sink, Status};
 use client_scripts::Script;
 use faulty_objects::{Behaviour, Invent, Late, Lossy, OnePass, SplitTally, Twice};
+use kind_search::SearchedKind;
 use lawful_objects::{LogBox, Plain, Tally, WordCell};
 use run_writer::{Form, write_report};
 use seq_objects::Kind;
@@ -93,7 +94,7 @@ pub fn run_behaviour<R: Threads + Sync, K: Sink>(
 {
     let kind = script.kind();
     match run_inside(rt, alloc, behaviour, kind, script) {
-        Ok(Some(report)) => write_report(alloc, form, &kind, &report, sink),
+        Ok(Some(report)) => write_report(alloc, form, &SearchedKind { kind }, &report, sink),
         Ok(None) => run_outside(rt, alloc, behaviour, script, form, sink),
         Err(NoMemory) => Status::NoMemory,
     }

@@ -9,6 +9,7 @@ use client_scripts::Script;
 use core_objects::{CoreCell, CoreLog, CoreTally};
 use core_runs::run_core_fresh;
 use faulty_objects::Behaviour;
+use kind_search::SearchedKind;
 use reports::Report;
 use seq_objects::Kind;
 use std::alloc::Global;
@@ -33,7 +34,12 @@ pub(crate) fn run_inside<R: Threads + Sync>(
     let callers = script.callers();
     match behaviour {
         Behaviour::Lawful => {
-            let (log, mut passes) = CoreLog::open(alloc, kind, callers, MAX_CALLS)?;
+            let (log, mut passes) = CoreLog::open(
+                alloc,
+                SearchedKind { kind },
+                callers,
+                MAX_CALLS,
+            )?;
             let report = run_core_fresh(rt, alloc, &log, &mut passes, MAX_CALLS, script)?;
             Ok(Some(report))
         }

@@ -7,11 +7,12 @@ use Rattle.std.proofs.lemmas.Option.{same_Some, slice_get_within}
 use Rattle.list_laws.proofs.Options.{some_from_is_some_and}
 use Rattle.book_base.specs.declared.call.Call.{Call}
 use Rattle.book_base.specs.declared.call.Record.{Record}
-use Rattle.book_base.specs.declared.marked_callers.MarkedCallers.{MarkedCallers}
+use Rattle.search_hints.specs.declared.marked_callers.MarkedCallers.{MarkedCallers}
 use Rattle.book_base.specs.Cut.{Holds, IsWithin}
 use Rattle.book_base.specs.Book.{Page, IsValid, IsCall, IsAnswered, record_of, Precedes}
 use Rattle.book_base.specs.Next.{next_call, HoldsAnswered, MayComeNext}
-use Rattle.book_base.specs.Pruning.{ViewsAreWithin, IsLeast, IsMarked, MarksAllNext}
+use Rattle.book_base.specs.Pruning.{ViewsAreWithin, IsLeast}
+use Rattle.search_hints.specs.Marks.{IsMarked, MarksAllNext}
 use Rattle.book_base.proofs.PageLemmas.{caller_from_call, caller_from_answer}
 use Rattle.book_base.proofs.GrowthLemmas.{below_calls}
 use Rattle.book_laws.proofs.LegalOrder.{answer_stands}

@@ -3,9 +3,11 @@ ghost use Rattle.book_base.specs.declared.TheConstants.{MAX_CALLERS};
 ghost use Rattle.book_base.specs.declared.call.Record.{Record};
 ghost use Rattle.book_base.specs.Book.{IsAnswered, record_of};
 ghost use Rattle.book_base.specs.Next.{next_call, HoldsAnswered};
-ghost use Rattle.book_base.specs.Pruning.{IsLeast, MarksAllNext, ViewsAreWithin};
+ghost use Rattle.book_base.specs.Pruning.{IsLeast, ViewsAreWithin};
+ghost use Rattle.search_hints.specs.Marks.{MarksAllNext};
 
-use book_base::{Book, Call, Cut, MarkedCallers};
+use book_base::{Book, Call, Cut};
+use search_hints::MarkedCallers;
 
 /// The caller whose first call outside a cut has the least view of all answered calls outside it;
 /// there is none where the cut holds all answered calls.

@@ -3,17 +3,17 @@ use Rattle.std.proofs.Common.{◌≡◌, ℕ, ◌+◌, ◌≤◌, ◌⊎◌, tru
 use Rattle.std.specs.List.{cons_option}
 use Rattle.std.proofs.lemmas.Bool.{cond-true, cond-false}
 use Rattle.book_base.specs.Sequential.{IsRunFrom}
-use Rattle.book_base.specs.PruningRules.{list_after_run}
+use Rattle.book_base.specs.Reaching.{list_after_run}
 use Rattle.history_rules.specs.Container.{Effect, Puts, Takes, Neither, value_put, value_taken, put_by, taken_by, GivesFirst}
 use Rattle.seq_objects.specs.declared.kind.Kind.TheVariants.{Stack}
 use Rattle.seq_objects.specs.Words as words
 use Rattle.seq_objects.specs.Words.{is_operation_of, argument_of}
-use Rattle.seq_objects.specs.Replies.{reply_done, reply_value}
+use Rattle.seq_objects.specs.Replies.{reply_done, reply_value, value_of, shown_value}
 use Rattle.seq_objects.specs.Items.{last_taken}
 use Rattle.seq_objects.specs.StackSteps.{stack_operation, stack_after}
-use Rattle.seq_objects.specs.Readings.{value_of, shown_value, stack_deed, stack_reading}
+use Rattle.kind_search.specs.Readings.{stack_deed, stack_reading}
 use Rattle.seq_objects.specs.Objects.{kind_next}
-use Rattle.seq_objects.proofs.Reading.{stack_is_read}
+use Rattle.kind_search.proofs.Reading.{stack_is_read}
 use Rattle.object_laws.specs.Runs.{AreDone}
 use Rattle.object_laws.specs.Removals.{put_in, given_out, AreEven, IsNewest, GivesTheNewest, PopsGiveTheNewest}
 use Rattle.object_laws.proofs.Stepping.{replied, runs_before, apart, shown_item}

@@ -2,17 +2,17 @@
 use Rattle.std.proofs.Common.{◌≡◌, ℕ, true, List, [], ◌∷◌, ◌++◌, length, map, slice_get, Some, refl, sym, ap, ◌∙◌, append-nil, arith}
 use Rattle.std.proofs.lemmas.Bool.{cond-true, cond-false}
 use Rattle.std.proofs.lemmas.Option.{slice_get_past}
-use Rattle.book_base.specs.PruningRules.{list_after_run}
+use Rattle.book_base.specs.Reaching.{list_after_run}
 use Rattle.history_rules.proofs.QueueRuns.{queue_gives_in_order}
 use Rattle.seq_objects.specs.declared.kind.Kind.TheVariants.{Queue}
 use Rattle.seq_objects.specs.Words as words
 use Rattle.seq_objects.specs.Words.{is_operation_of, argument_of}
-use Rattle.seq_objects.specs.Replies.{reply_done, reply_value}
+use Rattle.seq_objects.specs.Replies.{reply_done, reply_value, value_of}
 use Rattle.seq_objects.specs.Items.{first_taken}
 use Rattle.seq_objects.specs.QueueSteps.{queue_operation, queue_after}
-use Rattle.seq_objects.specs.Readings.{value_of, queue_reading}
+use Rattle.kind_search.specs.Readings.{queue_reading}
 use Rattle.seq_objects.specs.Objects.{kind_next}
-use Rattle.seq_objects.proofs.Reading.{queue_is_read}
+use Rattle.kind_search.proofs.Reading.{queue_is_read}
 use Rattle.object_laws.specs.Runs.{AreDone}
 use Rattle.object_laws.specs.Removals.{put_in, given_out, reply_with, DequeuesGiveTheOldest}
 use Rattle.object_laws.proofs.Stepping.{replied, runs_before, apart}

@@ -4,16 +4,15 @@ use Rattle.std.specs.List.{AllByRecursion, position_or_len}
 use Rattle.std.proofs.lemmas.Bool.{cases_Bool, cases_eq, cond-true, cond-false, eq-eqb, ltb-true, ltb-false}
 use Rattle.std.proofs.lemmas.Option.{same_Some}
 use Rattle.book_base.specs.Sequential.{IsRunFrom}
-use Rattle.book_base.specs.PruningRules.{list_after_run}
+use Rattle.book_base.specs.Reaching.{list_after_run}
 use Rattle.history_rules.specs.Container.{Puts, Takes, Neither, value_put, one_if, times, GivesOne, IsContainer}
 use Rattle.history_rules.proofs.Counting.{times-apart}
 use Rattle.seq_objects.specs.declared.kind.Kind.TheVariants.{Pqueue}
 use Rattle.seq_objects.specs.Words as words
 use Rattle.seq_objects.specs.Words.{is_operation_of, argument_of}
-use Rattle.seq_objects.specs.Replies.{reply_done, reply_bad}
+use Rattle.seq_objects.specs.Replies.{reply_done, reply_bad, value_of, shown_value}
 use Rattle.seq_objects.specs.Items.{first_taken, place_for, inserted}
 use Rattle.seq_objects.specs.PqueueSteps.{pqueue_operation, pqueue_after}
-use Rattle.seq_objects.specs.Readings.{value_of, shown_value}
 use Rattle.seq_objects.specs.Objects.{kind_next}
 use Rattle.object_laws.specs.Runs.{AreDone}
 use Rattle.object_laws.specs.Removals.{put_in, given_out, pqueue_deed, pqueue_reading, GivesTheLeast, MinsGiveTheLeast, ComesOutAtMostAsOften, TakesTakeWhatWasPut}

@@ -6,7 +6,7 @@ use Rattle.std.proofs.lemmas.Option.{slice_get-get_or}
 use Rattle.std.proofs.lemmas.List.Quantifiers.{position-Some}
 use Rattle.std.proofs.lemmas.List.Sums.{fails_before_first}
 use Rattle.list_laws.proofs.Options.{cases_Option}
-use Rattle.book_base.specs.PruningRules.{list_after_run}
+use Rattle.book_base.specs.Reaching.{list_after_run}
 use Rattle.history_rules.specs.Container.{one_if, times}
 use Rattle.history_rules.proofs.Counting.{times-stands}
 use Rattle.seq_objects.specs.Words as words

@@ -2,10 +2,9 @@
 use Rattle.std.proofs.Common.{◌≡◌, ◌≢◌, ℕ, ◌/◌, ◌^◌, true, false, ◌==◌, ◌&&◌, List, [], ◌∷◌, ◌++◌, Some, None, refl, sym, ap, ◌∙◌, arith}
 use Rattle.std.proofs.lemmas.Bool.{cond-true, and_parts, eqb-true, eq-eqb, ne_eqb}
 use Rattle.book_base.specs.Sequential.{IsRunFrom}
-use Rattle.book_base.specs.PruningRules.{list_after_run}
+use Rattle.book_base.specs.Reaching.{list_after_run}
 use Rattle.seq_objects.specs.Words.{OperationEntry, is_operation_of, has_arguments, code_of}
-use Rattle.seq_objects.specs.Replies.{reply_value, is_value}
-use Rattle.seq_objects.specs.Readings.{value_of, shown_value}
+use Rattle.seq_objects.specs.Replies.{reply_value, is_value, value_of, shown_value}
 
 -- the reply of a step is what the object gives after the steps before it
 pub replied : (next : List ℕ → ℕ → List ℕ × ℕ) (list : List ℕ) (before rest : List (ℕ × ℕ))

@@ -1,7 +1,7 @@
 -- A take of a container gives out a value that was put in more often than it was given out.
 use Rattle.std.proofs.Common.{◌≡◌, ℕ, ◌+◌, ◌<◌, ◌≤◌, List, [], ◌∷◌, ◌++◌, Option, Some, refl, ap, ◌∙◌, subst, arith, eq-eqb}
 use Rattle.book_base.specs.Sequential.{IsRunFrom}
-use Rattle.book_base.specs.PruningRules.{list_after_run}
+use Rattle.book_base.specs.Reaching.{list_after_run}
 use Rattle.history_rules.specs.Container.{Effect, Puts, Takes, Neither, Reading, value_taken, put_by, taken_by, one_if, times, GivesOne, IsContainer}
 use Rattle.history_rules.proofs.Counting.{times-shown}
 use Rattle.history_rules.proofs.Runs.{holds_what_was_put}
@@ -9,9 +9,9 @@ use Rattle.history_rules.proofs.QueueRuns.{queue_is_container, stack_is_containe
 use Rattle.seq_objects.specs.declared.kind.Kind.TheVariants.{Queue, Stack}
 use Rattle.seq_objects.specs.QueueSteps.{queue_operation, queue_after}
 use Rattle.seq_objects.specs.StackSteps.{stack_operation, stack_after}
-use Rattle.seq_objects.specs.Readings.{queue_reading, stack_reading}
+use Rattle.kind_search.specs.Readings.{queue_reading, stack_reading}
 use Rattle.seq_objects.specs.Objects.{kind_next}
-use Rattle.seq_objects.proofs.Reading.{queue_is_read, stack_is_read}
+use Rattle.kind_search.proofs.Reading.{queue_is_read, stack_is_read}
 use Rattle.object_laws.specs.Removals.{put_in, given_out, TakesTakeWhatWasPut}
 use Rattle.object_laws.proofs.Stepping.{replied, runs_before}
 

@@ -3,4 +3,3 @@ pub mod CounterRuns
 pub mod RegisterRuns
 pub mod SetRuns
 pub mod Removals
-pub mod Worked

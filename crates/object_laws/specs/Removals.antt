@@ -5,8 +5,8 @@ use Rattle.history_rules.specs.Container.{Effect, Puts, Takes, Neither, Reading,
 use Rattle.seq_objects.specs.declared.kind.Kind.{Kind}
 use Rattle.seq_objects.specs.declared.kind.Kind.TheVariants.{Queue, Stack, Pqueue}
 use Rattle.seq_objects.specs.Words.{insert, deq, pop, min, is_operation_of, argument_of}
-use Rattle.seq_objects.specs.Replies.{reply_none, reply_value}
-use Rattle.seq_objects.specs.Readings.{value_of, shown_value, queue_reading, stack_reading}
+use Rattle.seq_objects.specs.Replies.{reply_none, reply_value, value_of, shown_value}
+use Rattle.kind_search.specs.Readings.{queue_reading, stack_reading}
 use Rattle.object_laws.specs.Runs.{IsRunOfKind, does}
 
 -- The values that some steps put in, in the order of the steps. A step is an operation word with

@@ -3,7 +3,7 @@
 
 ghost use Rattle.seq_objects.specs.declared.kind.Kind.TheVariants as kinds;
 ghost use Rattle.seq_objects.specs.Words as words;
-ghost use Rattle.seq_objects.specs.Readings.{queue_reading, stack_reading};
+ghost use Rattle.kind_search.specs.Readings.{queue_reading, stack_reading};
 ghost use Rattle.object_laws.specs.Runs.{AreDone};
 ghost use Rattle.object_laws.specs.CounterRuns.{IncrementsAreCounted};
 ghost use Rattle.object_laws.specs.RegisterRuns.{ReadsGiveTheLastWrite, ReadsGiveZeroAtFirst};

@@ -1,4 +1,3 @@
 pub mod Effects
 pub mod OneWord
 pub mod TallyAndCell
-pub mod Cases

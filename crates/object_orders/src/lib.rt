@@ -2,5 +2,4 @@
 //! objects of one word.
 #![tactic(auto)]
 
-pub mod cases;
 pub mod laws;

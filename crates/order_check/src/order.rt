@@ -14,9 +14,8 @@ use std::alloc::Global;
 // The capacity of a list with one word more than a book may have calls.
 const CAPACITY: u64 = MAX_CALLERS as u64 * MAX_CALLS + 1;
 
-/// Judges a list of places: Ok where it is a legal order of the book, and else its first fault.
-///
-/// It searches nothing, and takes time in proportion to places times callers.
+/// Judges a list of places, without a search: Ok where it is a legal order of the book, and else its
+/// first fault.
 pub fn check_order<S: SeqObject>(
     alloc: Global,
     object: &S,

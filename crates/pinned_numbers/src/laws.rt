@@ -2,10 +2,12 @@
 
 ghost use Rattle.std.specs.Prelude.{◌≡◌, ℕ, ◌+◌, ◌*◌, ◌^◌, ◌<◌, true, false, [], ◌∷◌, codes, None};
 ghost use Rattle.book_base.specs.declared.TheConstants.{MAX_CALLERS, MAX_CALLS, MAX_ROOM, BAD};
+ghost use Rattle.queue_pairs.specs.declared.TheConstants.{NEVER};
 ghost use Rattle.seq_objects.specs.declared.kind.Kind.TheVariants as kinds;
 ghost use Rattle.seq_objects.specs.Words as words;
 ghost use Rattle.seq_objects.specs.Words.{operation_text};
 ghost use Rattle.seq_objects.specs.Replies.{reply_bad, reply_word};
+ghost use Rattle.smaller_book.specs.declared.TheConstants.{FEW_CALLS};
 ghost use Rattle.text_fields.specs.declared.TheConstants.{TEXT_CALLERS, TEXT_CALLS, FIRST_TEXT_CALLERS, FIRST_TEXT_CALLS};
 ghost use Rattle.text_fields.specs.declared.version.Version.TheVariants.{First, Second};
 ghost use Rattle.text_fields.specs.Version.{most_callers, most_calls, word_limit};
@@ -27,6 +29,14 @@ pub fn limits_of_books()
     ensures calls { MAX_CALLS ≡ 256 }
     // A list has at most 8192 words.
     ensures room { MAX_ROOM ≡ 8192 }
+{}
+
+/// The limits of smaller books, and the moment that no call of a queue's book has.
+pub fn limits_of_searches()
+    // A book with at most 24 calls has few calls, and is tried at each earlier cut.
+    ensures few { FEW_CALLS ≡ 24 }
+    // The moment `NEVER` is one more than the calls that all callers may make.
+    ensures never { NEVER ≡ MAX_CALLERS * MAX_CALLS + 1 }
 {}
 
 /// The word of the reply `bad`, as in a table's rows and in texts.

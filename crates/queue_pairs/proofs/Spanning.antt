@@ -7,7 +7,7 @@ use Rattle.list_laws.proofs.Totals.{sum-within}
 use Rattle.book_base.specs.declared.TheConstants.{MAX_CALLERS, MAX_CALLS}
 use Rattle.book_base.specs.declared.call.Call.{Call}
 use Rattle.book_base.specs.declared.call.Record.{Record}
-use Rattle.book_base.specs.declared.sight.Span.{Span}
+use Rattle.queue_pairs.specs.declared.spans.Span.{Span}
 use Rattle.book_base.specs.Cut.{Holds}
 use Rattle.book_base.specs.Book.{Page, answers_of, IsAnswered, IsValid, IsSmall, record_of}
 use Rattle.book_base.proofs.GrowthLemmas.{below_calls}

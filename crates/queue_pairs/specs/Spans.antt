@@ -2,7 +2,7 @@
 use Rattle.std.specs.Prelude.{◌≡◌, ℕ, ◌+◌, ◌<◌, ◌≤◌, List, Some}
 use Rattle.book_base.specs.declared.call.Call.{Call}
 use Rattle.book_base.specs.declared.call.Record.{Record}
-use Rattle.book_base.specs.declared.sight.Span.{Span}
+use Rattle.queue_pairs.specs.declared.spans.Span.{Span}
 use Rattle.book_base.specs.Cut.{Holds}
 use Rattle.book_base.specs.Book.{Page, answers_of, record_of}
 use Rattle.queue_pairs.specs.declared.TheConstants.{NEVER}

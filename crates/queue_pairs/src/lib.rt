@@ -16,6 +16,7 @@ use book_base::{MAX_CALLERS, MAX_CALLS};
 pub use next_entries::{NextEntries, TimedPair};
 pub use order::{calls_in_order, places_of};
 pub use search::{PairSearch, PairsFound};
+pub use spans::Span;
 pub use standing::PairState;
 pub use surplus::Surplus;
 pub use table::{QueueDeal, Table, TimedCall};

@@ -7,7 +7,17 @@ ghost use Rattle.queue_pairs.specs.Moments.{moment_of, IsHeldBy};
 ghost use Rattle.queue_pairs.specs.Spans.{IsSpanOf, AreHolding, IsFirstBelow};
 
 use crate::NEVER;
-use book_base::{Book, Call, Cut, Span};
+use book_base::{Book, Call, Cut};
+
+/// When a call may take effect, as two moments: `first` is the moment of the first view that holds
+/// the call, and `last` that of the call's own view. The moment of a view is the number of calls
+/// that it counts. Where no view holds the call, `first` is later than the moment of any view, and
+/// so is `last` where the call is unanswered.
+#[derive(Clone, Copy, Debug, Drop)]
+pub struct Span {
+    pub first: u64,
+    pub last: u64,
+}
 
 /// When a call may take effect: from the moment of the first view that holds it to that of its own
 /// view, where a moment is how many calls a view counts. Where there is no such view, the moment is

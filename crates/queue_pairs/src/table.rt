@@ -6,8 +6,8 @@ ghost use Rattle.queue_pairs.specs.Tables.{known_deal, is_find, is_put, is_take,
 ghost use Rattle.queue_pairs.specs.NextEntries.{first_after, last_after, IsLeastOf};
 
 use crate::NEVER;
-use crate::spans::span_of;
-use book_base::{Book, Call, MAX_CALLERS, NoMemory, Span};
+use crate::spans::{Span, span_of};
+use book_base::{Book, Call, MAX_CALLERS, NoMemory};
 use container_pruning::{Reader, Role};
 use std::alloc::Global;
 

@@ -1,17 +1,18 @@
 ghost use Rattle.std.specs.Prelude.{◌≡◌, [], IfOk, IsTrue};
-ghost use Rattle.book_base.specs.Decision.{IsRightDecision};
+ghost use Rattle.search_hints.specs.Decision.{IsRightDecision};
 ghost use Rattle.history_rules.specs.Container.{IsQueue};
 ghost use Rattle.queue_refutation.specs.DeadEnds.{QueueHasNoOrder};
 
 use crate::clashes::refute_by_counts;
 use crate::dead_ends::DeadEnds;
-use book_base::{Book, Decision, NoMemory, SeqObject};
+use book_base::{Book, NoMemory, SeqObject};
 use container_pruning::Reader;
 use indexmap::IndexSet;
 use order_check::check_order;
 use queue_pairs::{
     PairSearch, PairState, PairWalk, PairsFound, Surplus, Table, calls_in_order, places_of,
 };
+use search_hints::Decision;
 use std::alloc::Global;
 
 // The greatest number of steps of the search for pairs.
@@ -29,19 +30,20 @@ const STEPS_ANEW: u64 = 200_000;
 /// The search isn't trusted: the order that it finds is judged, and is answered only where it is
 /// legal; and the standings that it entered without finding an order are checked once more. No
 /// clause says how often the answer is a decision, since an undecided book costs time alone.
-pub fn decide_queue<Q: SeqObject + Reader>(
+pub fn decide_queue<S: SeqObject, R: Reader>(
     alloc: Global,
-    queue: &Q,
+    queue: &S,
+    reader: &R,
     book: &Book,
 ) -> Result<Decision, NoMemory>
-    // The object is a queue.
-    requires queue { IsQueue (Q.reading queue.now) (Q.spec queue.now).next }
+    // The object is a queue, as the reader reads it.
+    requires queue { IsQueue (R.reading reader.now) (S.spec queue.now).next }
     // The object begins empty.
-    requires empty { (Q.reading queue.now).values (Q.spec queue.now).init ≡ [] }
+    requires empty { (R.reading reader.now).values (S.spec queue.now).init ≡ [] }
     // The decision is right for the object and the book.
-    ensures { IfOk result (IsRightDecision (Q.spec queue.now) book.now) }
+    ensures { IfOk result (IsRightDecision (S.spec queue.now) book.now) }
 {
-    let table = Table::of(alloc, queue, book)?;
+    let table = Table::of(alloc, reader, book)?;
     if container_counts::refute_by_counts(alloc, &table)? {
         return Ok(Decision::NoOrder);
     }
@@ -104,14 +106,14 @@ fn refute(book: &Book, table: &Table, standings: &IndexSet<PairState>) -> bool
 
 // The decision by the order that the pairs of a walk make: that order if it is legal, else
 // `Unsaid`.
-fn order_of<Q: SeqObject + Reader>(
+fn order_of<S: SeqObject>(
     alloc: Global,
-    queue: &Q,
+    queue: &S,
     book: &Book,
     table: &Table,
     walk: &PairWalk,
 ) -> Result<Decision, NoMemory>
-    ensures { IfOk result (IsRightDecision (Q.spec queue.now) book.now) }
+    ensures { IfOk result (IsRightDecision (S.spec queue.now) book.now) }
 {
     let order = calls_in_order(alloc, table, walk)?;
     let Some(places) = places_of(alloc, queue, book, &order)? else {

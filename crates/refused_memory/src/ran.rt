@@ -8,6 +8,7 @@ use anyhow::{Result, anyhow};
 use book_base::{MAX_CALLS, NoMemory};
 use client_scripts::{Script, read_script};
 use drv_wrapper::{BlackBox, ObjectPass};
+use kind_search::SearchedKind;
 use lawful_objects::{LogBox, Plain};
 use row_table::{Bench, Rows};
 use run_report::run_over;
@@ -71,7 +72,9 @@ where
     ensures passes { AreInOrder (IsOwnPass (B.is_own object.now) B.Pass.caller) passes.new.items }
 {
     let (rows, mut bench) = Rows::open(alloc, Outside, script.callers(), MAX_CALLS)?;
-    let kind = script.kind();
+    let kind = SearchedKind {
+        kind: script.kind(),
+    };
     let report = run_over(rt, alloc, &rows, &mut bench, &kind, object, passes, script);
     let is_whole = are_back(&bench, passes, script.callers());
     // The outcome is answered even where no memory is left for the words of the closed table.

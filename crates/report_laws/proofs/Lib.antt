@@ -6,7 +6,5 @@ pub mod Worlds
 pub mod Workers
 pub mod Determined
 pub mod Finality
-pub mod Worked
 pub mod Runs
-pub mod WorkedWorkers
 pub mod Fitting

@@ -2,4 +2,3 @@ pub mod Steps
 pub mod Telling
 pub mod Working
 pub mod Reporting
-pub mod Cases

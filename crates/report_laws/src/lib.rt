@@ -2,5 +2,4 @@
 //! that the workers of all its callers leave.
 #![tactic(auto)]
 
-pub mod cases;
 pub mod laws;

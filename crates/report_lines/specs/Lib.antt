@@ -5,4 +5,3 @@ pub mod Account
 pub mod Allotments
 pub mod Lawful
 pub mod Workers
-pub mod Cases

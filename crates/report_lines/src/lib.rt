@@ -2,7 +2,6 @@
 //! number of phases, and when the lines are lawful.
 #![tactic(auto)]
 
-pub mod cases;
 pub mod laws;
 mod line;
 

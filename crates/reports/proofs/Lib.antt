@@ -2,4 +2,3 @@ pub mod Filling
 pub mod Errors
 pub mod FirstErrors
 pub mod Sizes
-pub mod Worked

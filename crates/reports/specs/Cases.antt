@@ -1,10 +1,55 @@
--- Worked reports: the lines of three callers with all four ends, and lines that no report has.
-use Rattle.std.specs.Prelude.{◌^◌, List, [], ◌∷◌}
-use Rattle.book_base.specs.Book.{Page}
+-- Worked lines of three callers, with all four ends of a line, and their report: a delivered and a
+-- pending line of the first caller, an error line of the second, and an unchecked line of the third.
+use Rattle.std.specs.Prelude.{ℕ, List, [], ◌∷◌}
+use Rattle.book_base.specs.declared.call.Record.{Record}
 use Rattle.seq_objects.specs.declared.kind.Kind.TheVariants.{Queue}
+use Rattle.report_lines.specs.declared.line.LineEnd.TheVariants.{Pending, Unchecked, Delivered, Error}
 use Rattle.report_lines.specs.declared.line.Line.{Line}
-use Rattle.report_lines.specs.Cases.{answer, pending, unchecked, delivered, failed, first, second, page, worked_lines}
 use Rattle.reports.specs.Findings.{Findings}
+
+-- The record with this reply and this view.
+abbrev pub answer : ℕ → List ℕ → Record
+answer reply view = record { reply = reply; view = view }
+
+-- A pending line: its call has the operation `op`, and no record.
+abbrev pub pending : ℕ → Line
+pending op = record { op = op; end = Pending }
+
+-- An unchecked line: its call has the operation `op` and the record `r`, and no seen cut.
+abbrev pub unchecked : ℕ → Record → Line
+unchecked op r = record { op = op; end = Unchecked r }
+
+-- A delivered line: its call has the operation `op`, the record `r` and the seen cut `cut`.
+abbrev pub delivered : ℕ → Record → List ℕ → Line
+delivered op r cut = record { op = op; end = Delivered r cut }
+
+-- An error line: its call has the operation `op`, the record `r` and the seen cut `cut`.
+abbrev pub failed : ℕ → Record → List ℕ → Line
+failed op r cut = record { op = op; end = Error r cut }
+
+-- The record of the first caller's first call in the worked lines, with the reply 50 and a view
+-- that holds this call alone.
+abbrev pub first : Record
+first = answer 50 (1 ∷ 0 ∷ 0 ∷ [])
+
+-- The record of the second caller's call in the worked lines, with the reply 61 and a view that
+-- holds the first calls of the first two callers.
+abbrev pub second : Record
+second = answer 61 (1 ∷ 1 ∷ 0 ∷ [])
+
+-- The record of the third caller's call in the worked lines, with the reply 80 and a view that
+-- holds the first call of each caller.
+abbrev pub third : Record
+third = answer 80 (1 ∷ 1 ∷ 1 ∷ [])
+
+-- The worked lines: the first caller has a delivered and a pending line, the second an error line,
+-- and the third an unchecked line.
+abbrev pub worked_lines : List (List Line)
+worked_lines =
+    (delivered 5 first (1 ∷ 0 ∷ 0 ∷ []) ∷ pending 7 ∷ [])
+    ∷ (failed 6 second (1 ∷ 1 ∷ 0 ∷ []) ∷ [])
+    ∷ (unchecked 8 third ∷ [])
+    ∷ []
 
 -- The findings of a report of a queue with these lines.
 abbrev pub of_queue : List (List Line) → Findings
@@ -14,51 +59,3 @@ of_queue lines = record { kind = Queue; lines = lines }
 -- ends.
 abbrev pub worked : Findings
 worked = of_queue worked_lines
-
--- The witness of the worked lines, at the second caller's error: a record of the first caller, one
--- of the second, and the two calls that their views hold.
-abbrev pub worked_witness : List Page
-worked_witness = page (5 ∷ []) (first ∷ []) ∷ page (6 ∷ []) (second ∷ []) ∷ page [] [] ∷ []
-
--- Lines of one caller: a pending line, and a line after it.
-abbrev pub after_pending : List (List Line)
-after_pending = (pending 5 ∷ pending 7 ∷ []) ∷ []
-
--- Lines of one caller: an unchecked line, and a line after it.
-abbrev pub after_unchecked : List (List Line)
-after_unchecked = (unchecked 5 (answer 50 (1 ∷ [])) ∷ pending 7 ∷ []) ∷ []
-
--- Lines of one caller: an error line, and a line after it.
-abbrev pub after_error : List (List Line)
-after_error = (failed 5 (answer 50 (1 ∷ [])) (1 ∷ []) ∷ pending 7 ∷ []) ∷ []
-
--- One delivered line of one caller, whose seen cut lacks the line's own call.
-abbrev pub own_unseen : List (List Line)
-own_unseen = (delivered 5 (answer 50 (1 ∷ [])) (0 ∷ []) ∷ []) ∷ []
-
--- One delivered line of one caller, whose seen cut has counts for two callers.
-abbrev pub of_two_callers : List (List Line)
-of_two_callers = (delivered 5 (answer 50 (1 ∷ [])) (1 ∷ 0 ∷ []) ∷ []) ∷ []
-
--- Lines of one caller: a delivered line, whose seen cut counts two records, and a pending line; so
--- the caller has one record alone.
-abbrev pub one_too_many : List (List Line)
-one_too_many = (delivered 5 (answer 50 (1 ∷ [])) (2 ∷ []) ∷ pending 7 ∷ []) ∷ []
-
--- One pending line, whose operation is no operation word.
-abbrev pub no_operation : List (List Line)
-no_operation = (pending (2 ^ 128) ∷ []) ∷ []
-
--- One unchecked line, whose reply is no reply word.
-abbrev pub no_reply : List (List Line)
-no_reply = (unchecked 5 (answer (2 ^ 64) (1 ∷ [])) ∷ []) ∷ []
-
--- Lines of two callers with one unchecked call each, whose views aren't comparable.
-abbrev pub crossing : List (List Line)
-crossing =
-    (unchecked 5 (answer 50 (1 ∷ 0 ∷ [])) ∷ []) ∷ (unchecked 6 (answer 60 (0 ∷ 1 ∷ [])) ∷ []) ∷ []
-
--- Lines of two callers with one error line each.
-abbrev pub two_errors : List (List Line)
-two_errors = (failed 5 (answer 50 (1 ∷ 1 ∷ [])) (1 ∷ 0 ∷ []) ∷ [])
-    ∷ (failed 6 (answer 60 (1 ∷ 1 ∷ [])) (1 ∷ 1 ∷ []) ∷ []) ∷ []

@@ -1,4 +1,3 @@
 pub mod Passes
 pub mod Reporting
 pub mod Replies
-pub mod Cases

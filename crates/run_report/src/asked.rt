@@ -6,12 +6,13 @@ ghost use Rattle.script_workers.specs.Returns.{IsBackOn};
 ghost use Rattle.run_report.specs.Reporting.{IsReportOf, IsFreeAgain, IsCountedIn};
 
 use crate::report::report_of;
-use book_base::{NoMemory, SeqObject};
+use book_base::NoMemory;
 use client_calls::{Asks, Judging, Shared};
 use client_scripts::Script;
 use reports::Report;
 use row_table::Bench;
 use script_workers::{Pace, end_all, run_workers, start_all};
+use search_hints::SearchHints;
 use std::alloc::Global;
 use std::thread::Threads;
 use world_core::Program;
@@ -29,7 +30,7 @@ pub fn run_asked<
     R: Threads + Sync,
     P: Program + Send + Sync,
     T: Send,
-    S: SeqObject + Sync,
+    S: SearchHints + Sync,
     A: Asks<Program = P, Pass = T> + Sync,
 >(
     rt: &R,

@@ -2,7 +2,6 @@
 #![tactic(auto)]
 
 mod asked;
-pub mod cases;
 mod passes;
 mod replay;
 mod report;

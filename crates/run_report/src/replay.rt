@@ -9,13 +9,14 @@ ghost use Rattle.run_report.specs.Reporting.{IsReportOf, IsFreeAgain, IsToldIn};
 
 use crate::passes::passes_are_fresh;
 use crate::report::report_of;
-use book_base::{NoMemory, SeqObject};
+use book_base::NoMemory;
 use client_calls::{Judging, OutsideObject, Shared};
 use client_scripts::Script;
 use drv_wrapper::BlackBox;
 use reports::Report;
 use row_table::{Bench, Rows};
 use script_workers::{Pace, end_all, start_all, take_turns};
+use search_hints::SearchHints;
 use std::alloc::Global;
 use std::marker::Brand;
 use std::sync::ledger::Blank;
@@ -31,7 +32,7 @@ use world_core::{Outside, Program};
 /// after an error. Where a report is answered, each caller without an error that stopped between
 /// two calls, or made all of them, is free for its next call. `NoMemory` is answered before the
 /// first call, or where a call was left unjudged for want of memory.
-pub fn replay_over<S: SeqObject, B: BlackBox>(
+pub fn replay_over<S: SearchHints, B: BlackBox>(
     alloc: Global,
     rows: &Rows,
     bench: &mut Bench,

@@ -9,13 +9,13 @@ ghost use Rattle.script_workers.specs.Returns.{AreBack};
 ghost use Rattle.run_report.specs.Replies.{HasWord};
 ghost use Rattle.run_report.specs.Reporting.{IsReportOf, IsFreeAgain, IsCountedIn};
 
-use book_base::SeqObject;
 use client_calls::{Asks, Shared};
 use client_scripts::Script;
 use report_lines::{Line, LineEnd};
 use reports::{Own, Report};
 use row_table::Bench;
 use script_workers::Pace;
+use search_hints::SearchHints;
 use world_core::Program;
 
 // Every `u64` is less than 2 to the power 64.
@@ -57,7 +57,7 @@ fn read_replies(lines: &[Own])
 
 /// The report of a script's callers that are back on their bench with their passes, and left these
 /// lines. The pace says how many phases each caller was given.
-pub(crate) fn report_of<P: Program, T, S: SeqObject, A: Asks<Program = P, Pass = T>>(
+pub(crate) fn report_of<P: Program, T, S: SearchHints, A: Asks<Program = P, Pass = T>>(
     _shared: &Shared<A, P>,
     _bench: &Bench<P>,
     _sequential: &S,

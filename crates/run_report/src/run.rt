@@ -9,12 +9,13 @@ ghost use Rattle.run_report.specs.Reporting.{IsReportOf, IsFreeAgain, IsToldIn};
 
 use crate::asked::run_asked;
 use crate::passes::passes_are_fresh;
-use book_base::{NoMemory, SeqObject};
+use book_base::NoMemory;
 use client_calls::{OutsideObject, Shared};
 use client_scripts::Script;
 use drv_wrapper::BlackBox;
 use reports::Report;
 use row_table::{Bench, Rows};
+use search_hints::SearchHints;
 use std::alloc::Global;
 use std::thread::Threads;
 use world_core::{Outside, Program};
@@ -28,7 +29,7 @@ use world_core::{Outside, Program};
 /// after an error. Where a report is answered, each caller without an error that stopped between
 /// two calls, or made all of them, is free for its next call. `NoMemory` is answered before the
 /// first call, or where a call was left unjudged for want of memory.
-pub fn run_over<R: Threads + Sync, S: SeqObject + Sync, B: BlackBox + Sync>(
+pub fn run_over<R: Threads + Sync, S: SearchHints + Sync, B: BlackBox + Sync>(
     rt: &R,
     alloc: Global,
     rows: &Rows,

@@ -7,10 +7,9 @@ use Rattle.seq_objects.specs.Objects.{kind_spec}
 use Rattle.byte_streams.specs.declared.status.Status.{Status}
 use Rattle.byte_streams.specs.declared.status.Status.TheVariants.{Fine, Found}
 use Rattle.seq_objects.specs.declared.kind.Kind.TheVariants.{Queue}
-use Rattle.report_lines.specs.Cases.{pending}
 use Rattle.report_lines.specs.Lines.{any_error}
 use Rattle.reports.specs.Findings.{Findings}
-use Rattle.reports.specs.Cases.{of_queue, worked}
+use Rattle.reports.specs.Cases.{pending, of_queue, worked}
 use Rattle.reports.specs.Tally.{counts_of}
 use Rattle.run_writer.specs.declared.form.Form.TheVariants.{Counts as Numbers}
 use Rattle.run_writer.specs.Runs.{StatusesTellErrors, IsRunOutput, counts_text, status_of}

@@ -4,16 +4,17 @@ ghost use Rattle.std.specs.Prelude.{IfOk, IfSome, IfNone};
 ghost use Rattle.run_writer.specs.Certificates.{HasDeliveredOrder, IsCertificate};
 
 use crate::delivered::delivered_book;
-use book_base::{NoMemory, SeqObject};
+use book_base::NoMemory;
 use certificate_text::write_certificate;
 use frontier_check::{Verdict, check};
 use reports::Report;
+use search_hints::SearchHints;
 use std::alloc::Global;
 
 /// A certificate of a report: the text of the book at the greatest seen cut of the delivered lines,
 /// and of an order of it that is legal for the sequential object. `None` is answered exactly where
 /// that book has no legal order; the book of a lawful report has one.
-pub fn report_certificate<S: SeqObject>(
+pub fn report_certificate<S: SearchHints>(
     alloc: Global,
     object: &S,
     report: &Report,

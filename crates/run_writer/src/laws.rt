@@ -4,8 +4,7 @@ ghost use Rattle.std.specs.Prelude.{◌≡◌, ◌∷◌, []};
 ghost use Rattle.seq_objects.specs.Objects.{kind_spec};
 ghost use Rattle.byte_streams.specs.declared.status.Status.TheVariants.{Fine, Found};
 ghost use Rattle.seq_objects.specs.declared.kind.Kind.TheVariants.{Queue};
-ghost use Rattle.report_lines.specs.Cases.{pending};
-ghost use Rattle.reports.specs.Cases.{of_queue, worked};
+ghost use Rattle.reports.specs.Cases.{pending, of_queue, worked};
 ghost use Rattle.run_writer.specs.declared.form.Form.TheVariants.{Counts as Numbers};
 ghost use Rattle.run_writer.specs.Runs.{IsRunOutput, counts_text, StatusesTellErrors, FormsWriteOneText, CertificatesAreLegal, CertificatesAreOfTheirKind, CertificatesTellOneBook};
 

@@ -8,18 +8,19 @@ ghost use Rattle.run_writer.specs.Runs.{IsWitnessText, IsWritten, HasForm, IsRun
 
 use crate::certificate::report_certificate;
 use crate::form::Form;
-use book_base::{NoMemory, SeqObject};
+use book_base::NoMemory;
 use book_writer::write_book;
 use byte_streams::{Sink, Status, write_text};
 use report_text::report_text;
 use reports::{Counts, Report};
+use search_hints::SearchHints;
 use seq_objects::put_number;
 use std::alloc::Global;
 
 /// Writes what a form shows of a report that was judged by a sequential object. The form
 /// `Certificate` needs a report whose delivered book has a legal order; every lawful report is one.
 /// All of the text is built before its first byte is written.
-pub fn write_report<S: SeqObject, K: Sink>(
+pub fn write_report<S: SearchHints, K: Sink>(
     alloc: Global,
     form: Form,
     sequential: &S,
@@ -66,7 +67,7 @@ fn status_of(report: &Report) -> Status
 }
 
 /// The text that a form shows of a report.
-fn shown<S: SeqObject>(
+fn shown<S: SearchHints>(
     alloc: Global,
     form: Form,
     sequential: &S,
@@ -99,7 +100,7 @@ fn put_witness(alloc: Global, text: &mut Vec<u8>, report: &Report) -> Result<(),
 }
 
 /// A certificate of a report that has one.
-fn certificate<S: SeqObject>(
+fn certificate<S: SearchHints>(
     alloc: Global,
     sequential: &S,
     report: &Report,

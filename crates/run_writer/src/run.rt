@@ -24,8 +24,10 @@ use client_scripts::Script;
 use core_objects::CoreObject;
 use core_runs::run_core;
 use drv_wrapper::{BlackBox, ObjectPass};
+use kind_search::SearchedKind;
 use row_table::{Bench, Rows};
 use run_report::{replay_over, run_over};
+use search_hints::SearchHints;
 use std::alloc::Global;
 use std::thread::Threads;
 use world_core::{Outside, Program};
@@ -95,7 +97,9 @@ where
     // other status only where that count stayed. With `NoMemory` the sink is as it was.
     ensures faults { LeavesSink K.faults result sink.old sink.new }
 {
-    let kind = script.kind();
+    let kind = SearchedKind {
+        kind: script.kind(),
+    };
     match run_over(rt, alloc, rows, bench, &kind, object, passes, script) {
         Ok(report) => write_report(alloc, form, &kind, &report, sink),
         Err(NoMemory) => Status::NoMemory,
@@ -160,7 +164,9 @@ pub fn replay_and_write<B: BlackBox, K: Sink>(
     // other status only where that count stayed. With `NoMemory` the sink is as it was.
     ensures faults { LeavesSink K.faults result sink.old sink.new }
 {
-    let kind = script.kind();
+    let kind = SearchedKind {
+        kind: script.kind(),
+    };
     match replay_over(alloc, rows, bench, &kind, object, passes, script) {
         Ok(report) => write_report(alloc, form, &kind, &report, sink),
         Err(NoMemory) => Status::NoMemory,
@@ -188,7 +194,7 @@ pub fn core_and_write<R: Threads + Sync, O: CoreObject + Sync, K: Sink>(
     sink: &mut K,
 ) -> Status
 where
-    O::S: Sync,
+    O::S: SearchHints + Sync,
     O::P: Send + Sync,
     O::Pass: Send,
     // The rows were opened with the program of this object.

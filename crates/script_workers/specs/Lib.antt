@@ -3,4 +3,3 @@ pub mod Work
 pub mod Starts
 pub mod Returns
 pub mod Turns
-pub mod Cases

@@ -2,7 +2,6 @@
 //! and are brought back.
 #![tactic(auto)]
 
-pub mod cases;
 mod end;
 mod pace;
 mod start;

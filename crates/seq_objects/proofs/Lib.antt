@@ -7,13 +7,6 @@ pub mod WholeDigits
 pub mod Arguments
 pub mod MapPlaces
 pub mod ReadOnly
+pub mod Replying
 pub mod MapReading
-pub mod Reading
-pub mod KeyedItems
-pub mod SetKeys
-pub mod MapKeys
-pub mod Narrowing
 pub mod Lengths
-pub mod LeastFirst
-pub mod HoldsLast
-pub mod LastFirst

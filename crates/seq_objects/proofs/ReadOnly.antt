@@ -116,11 +116,11 @@ taken_out_either list (Some place) = inl (value_tag (slice_index list place))
 taken_out_either list None = inr refl
 
 -- in a list of one item that passes, the first item that passes is at place 0
-position-one : {X : Type 0} (p : X → Bool) (x : X) → p x ≡ true → position p (x ∷ []) ≡ Some 0
+pub position-one : {X : Type 0} (p : X → Bool) (x : X) → p x ≡ true → position p (x ∷ []) ≡ Some 0
 position-one p x passes = ap (λ (b : Bool). if nat_lt (if not b then 1 else 0) 1
     then Some (if not b then 1 else 0) else None) passes
 
-key_place : (key v : ℕ) → v < 2 ^ 32 → place_of_key (item_of key v ∷ []) key ≡ Some 0
+pub key_place : (key v : ℕ) → v < 2 ^ 32 → place_of_key (item_of key v ∷ []) key ≡ Some 0
 key_place key v small = position-one (λ item. key_of item == key) (item_of key v)
     (eq-eqb (key_of (item_of key v)) key (omega (arith, small)))
 
@@ -241,7 +241,7 @@ put_at_same list key value (Some place) small at replied =
     omega (arith, small, replied, eqb-true (key_of item) key found.1) in
     ap (set list place) same ∙ set-get_or list place 0
 
-put_at_tag : (list : List ℕ) (item : ℕ) (place : Option ℕ)
+pub put_at_tag : (list : List ℕ) (item : ℕ) (place : Option ℕ)
     → ((put_at list item place).1 ≡ reply_none) ⊎ ((put_at list item place).1 / 2 ^ 32 ≡ 2)
 put_at_tag list item (Some place) = inr (value_tag (slice_index list place))
 put_at_tag list item None = inl refl

@@ -12,10 +12,4 @@ pub mod MapSteps
 pub mod Objects
 pub mod EntryView
 pub mod ReplyView
-pub mod WorkedSteps
 pub mod MapLaws
-pub mod Readings
-pub mod Keys
-pub mod PqueueReading
-pub mod RegisterReading
-pub mod Seen

@@ -55,6 +55,22 @@ named_reply word = find (λ reply. word == reply.word) named_replies
 abbrev pub is_value : ℕ → Bool
 is_value word = word / 2 ^ 32 == 2
 
+-- Whether a reply word gives a value or is the reply `none`.
+abbrev pub is_value_or_none : ℕ → Bool
+is_value_or_none word = word == reply_none || is_value word
+
+-- Whether a reply word is the reply `yes` or the reply `no`.
+abbrev pub is_yes_or_no : ℕ → Bool
+is_yes_or_no word = word == reply_yes || word == reply_no
+
+-- The value of a word of a list: its low 32 bits.
+abbrev pub value_of : ℕ → ℕ
+value_of word = word % 2 ^ 32
+
+-- The value that a reply word gives, or none where it gives no value.
+abbrev pub shown_value : ℕ → Option ℕ
+shown_value reply = if is_value reply then Some (value_of reply) else None
+
 -- Whether the text of a reply word is a name, or '=' and a value.
 unfoldable pub is_known_reply : ℕ → Bool
 is_known_reply word = is_some (named_reply word) || is_value word

@@ -1,5 +1,5 @@
 ghost use Rattle.std.specs.Prelude.{◌≡◌, ◌<◌, [], ◌∷◌, length, ◌↔◌, IsTrue};
-ghost use Rattle.book_base.specs.PruningRules.{Leaves};
+ghost use Rattle.book_base.specs.Reaching.{Leaves, MayReply};
 ghost use Rattle.seq_objects.specs.declared.kind.Kind.TheVariants as kinds;
 ghost use Rattle.seq_objects.specs.Words.{is_known_word};
 ghost use Rattle.seq_objects.specs.Items.{length-one};
@@ -8,7 +8,7 @@ ghost use Rattle.seq_objects.specs.CasRegisterSteps.{compared_and_set, cas_regis
 use crate::entry::{CAS, READ, WRITE, argument_of, extra_of};
 use crate::items::{first_or_zero, set_only};
 use crate::kind::Kind;
-use crate::reply::{DONE, NO, YES, value_reply};
+use crate::reply::{DONE, NO, YES, is_value, is_yes_or_no, value_reply};
 use book_base::{BAD, OpWord, SeqObject, State};
 
 /// How many values a register can have: those below 2^32.
@@ -19,8 +19,8 @@ const VALUES: u64 = 1 << 32;
 pub struct CasRegister;
 
 /// An operation of a register with compare-and-set, with its arguments.
-#[derive(Clone, Copy)]
-enum CasRegisterOperation {
+#[derive(Clone, Copy, Debug, PartialEq, Eq)]
+pub enum CasRegisterOperation {
     Write(u32),
     Read,
     CompareAndSet(u32, u32),
@@ -29,7 +29,7 @@ enum CasRegisterOperation {
 impl CasRegisterOperation {
     /// The operation that an operation word stands for, where a register with compare-and-set knows
     /// the word.
-    fn from_word(word: OpWord) -> Option<CasRegisterOperation>
+    pub fn from_word(word: OpWord) -> Option<CasRegisterOperation>
         ensures { result ≡ cas_register_operation word }
     {
         if WRITE.has(word) {
@@ -104,6 +104,20 @@ impl SeqObject for CasRegister {
             Some(CasRegisterOperation::Read) => true,
             Some(CasRegisterOperation::CompareAndSet(_, _)) => reply != YES,
             None => true,
+        }
+    }
+
+    fn may_reply(&self, op: OpWord, reply: u64) -> bool
+        // The answer is whether the operation of a register with compare-and-set may have this
+        // reply: whether it has it at some list.
+        ensures { IsTrue result
+            ↔ MayReply (λ list op. cas_register_after list (cas_register_operation op)) op reply }
+    {
+        match CasRegisterOperation::from_word(op) {
+            Some(CasRegisterOperation::Write(_)) => reply == DONE,
+            Some(CasRegisterOperation::Read) => is_value(reply),
+            Some(CasRegisterOperation::CompareAndSet(_, _)) => is_yes_or_no(reply),
+            None => reply == BAD,
         }
     }
 }

@@ -1,5 +1,5 @@
 ghost use Rattle.std.specs.Prelude.{[], ◌∷◌, ◌≡◌, ◌↔◌, IsTrue};
-ghost use Rattle.book_base.specs.PruningRules.{Leaves};
+ghost use Rattle.book_base.specs.Reaching.{Leaves, MayReply};
 ghost use Rattle.seq_objects.specs.declared.kind.Kind.TheVariants as kinds;
 ghost use Rattle.seq_objects.specs.Words.{is_known_word};
 ghost use Rattle.seq_objects.specs.Items.{length-one};
@@ -19,14 +19,14 @@ const COUNTS: u64 = 1 << 32;
 pub struct Counter;
 
 /// An operation of a counter.
-#[derive(Clone, Copy)]
-enum CounterOperation {
+#[derive(Clone, Copy, Debug, PartialEq, Eq)]
+pub enum CounterOperation {
     Increment,
 }
 
 impl CounterOperation {
     /// The operation that an operation word stands for, where a counter knows the word.
-    fn from_word(word: OpWord) -> Option<CounterOperation>
+    pub fn from_word(word: OpWord) -> Option<CounterOperation>
         ensures { result ≡ counter_operation word }
     {
         if INC.has(word) {
@@ -77,6 +77,18 @@ impl SeqObject for Counter {
         match CounterOperation::from_word(op) {
             Some(CounterOperation::Increment) => !is_value(reply),
             None => true,
+        }
+    }
+
+    fn may_reply(&self, op: OpWord, reply: u64) -> bool
+        // The answer is whether the operation of a counter may have this reply: whether it has it
+        // at some list.
+        ensures { IsTrue result
+            ↔ MayReply (λ list op. counter_after list (counter_operation op)) op reply }
+    {
+        match CounterOperation::from_word(op) {
+            Some(CounterOperation::Increment) => is_value(reply),
+            None => reply == BAD,
         }
     }
 }

@@ -1,27 +1,23 @@
 ghost use Rattle.std.specs.Prelude.{◌≡◌, ◌<◌, [], length, ◌↔◌, IsTrue};
-ghost use Rattle.book_base.specs.PruningRules.{Leaves};
-ghost use Rattle.book_base.specs.Pruning.{HasOneOpen, IsForced, MarksAllNext, MarksSuffice, IsMarkedWithin};
+ghost use Rattle.book_base.specs.Reaching.{Leaves, MayReply};
 ghost use Rattle.seq_objects.specs.declared.kind.Kind.TheVariants as kinds;
 ghost use Rattle.seq_objects.specs.Words.{is_known_word};
 ghost use Rattle.seq_objects.specs.Items.{length-none};
-ghost use Rattle.seq_objects.specs.Keys.{set_key, IsNarrowedToKey};
 ghost use Rattle.seq_objects.specs.IntSetSteps.{set_operation, set_after, added, removed, length-set_after, set_after-unknown};
 
 use crate::entry::{ADD, HAS, REMOVE, argument_of};
 use crate::items::{insert_in_order, place_of};
-use crate::keyed::{Keyed, empty_sight, narrow_to_key};
 use crate::kind::Kind;
-use crate::reply::{NO, YES};
-use book_base::{BAD, Book, Cut, MarkedCallers, NoMemory, OpWord, SeqObject, Sight, State};
-use std::alloc::Global;
+use crate::reply::{NO, YES, is_yes_or_no};
+use book_base::{BAD, OpWord, SeqObject, State};
 
 /// A set of numbers below 2^32.
 #[derive(Clone, Copy, Debug)]
 pub struct IntSet;
 
 /// An operation of a set, with its argument.
-#[derive(Clone, Copy)]
-enum IntSetOperation {
+#[derive(Clone, Copy, Debug, PartialEq, Eq)]
+pub enum IntSetOperation {
     Add(u32),
     Remove(u32),
     Has(u32),
@@ -29,7 +25,7 @@ enum IntSetOperation {
 
 impl IntSetOperation {
     /// The operation that an operation word stands for, where a set knows the word.
-    fn from_word(word: OpWord) -> Option<IntSetOperation>
+    pub fn from_word(word: OpWord) -> Option<IntSetOperation>
         ensures { result ≡ set_operation word }
     {
         if ADD.has(word) {
@@ -67,19 +63,6 @@ fn remove(state: &mut State, value: u64) -> u64
     };
     state.remove(place as u64);
     YES
-}
-
-impl Keyed for IntSet {
-    ghost key_of = { λ _. set_key };
-
-    fn key(&self, op: OpWord) -> Option<u32> {
-        match IntSetOperation::from_word(op) {
-            Some(IntSetOperation::Add(value)) => Some(value),
-            Some(IntSetOperation::Remove(value)) => Some(value),
-            Some(IntSetOperation::Has(value)) => Some(value),
-            None => None,
-        }
-    }
 }
 
 impl SeqObject for IntSet {
@@ -129,41 +112,14 @@ impl SeqObject for IntSet {
         }
     }
 
-    fn prepare(&self, alloc: Global, book: &Book) -> Result<Option<Sight>, NoMemory> {
-        Ok(Some(empty_sight(alloc)))
-    }
-
-    /// Narrows the marked callers to those whose next calls have the forced call's key. Where the
-    /// forced call has no key, all marks stay.
-    fn narrow(
-        &self,
-        sight: &Sight,
-        book: &Book,
-        cut: &Cut,
-        words: &[u64],
-        forced: u32,
-        marks: MarkedCallers,
-    ) -> MarkedCallers
-        // Each view of the book holds at most one unanswered call of each caller.
-        requires open { HasOneOpen book.now }
-        // The cut has a count for each caller of the book.
-        requires wide { length cut.now ≡ length book.now }
-        // The forced caller's next call after the cut is answered, and has the least view of all
-        // answered calls outside the cut.
-        requires forced { IsForced book.now cut.now forced }
-        // Exactly those callers are marked whose next calls after the cut may come next.
-        requires marks { MarksAllNext book.now cut.now marks }
-        // Each caller that the answer marks was marked.
-        ensures fewer { IsMarkedWithin result marks }
-        // Where places continue an order from the cut and the list `words`, as many places or fewer
-        // do that begin with the next call of a caller that the answer marks.
-        ensures suffice { MarksSuffice book.now
-            (λ list op. set_after list (set_operation op)) cut.now
-            words.now result }
-        // Where the forced caller's next call has a key, exactly the marked callers whose next
-        // calls have this key keep their marks; else all marked callers do.
-        ensures narrowed { IsNarrowedToKey set_key book.now cut.now forced marks result }
+    fn may_reply(&self, op: OpWord, reply: u64) -> bool
+        // The answer is whether the operation of a set may have this reply: whether it has it at
+        // some list.
+        ensures { IsTrue result ↔ MayReply (λ list op. set_after list (set_operation op)) op reply }
     {
-        narrow_to_key(self, book, cut, forced, marks)
+        match IntSetOperation::from_word(op) {
+            Some(_) => is_yes_or_no(reply),
+            None => reply == BAD,
+        }
     }
 }

@@ -1,9 +1,8 @@
 ghost use Rattle.std.specs.Prelude.{◌≡◌, ◌≢◌, ℕ, ◌∷◌, ◌++◌, true, false, ◌↔◌, IfSome, IfNone, IsTrue, OnOk, OnErr, option_copied};
-ghost use Rattle.book_base.specs.PruningRules.{Leaves};
+ghost use Rattle.book_base.specs.Reaching.{Leaves, MayReply};
 ghost use Rattle.book_base.specs.OperationWord.{IsOperationWord};
 ghost use Rattle.seq_objects.specs.declared.kind.Kind.{Kind};
 ghost use Rattle.seq_objects.specs.Objects.{kind_next, kind_spec, length-kind_init, length-kind_next, kind_next-unknown};
-ghost use Rattle.seq_objects.specs.Seen.{kind_sees};
 ghost use Rattle.seq_objects.specs.Words.{kind_name, is_first_kind, is_known_word, operation_text, whole_digits, further, Spells, AppendsPrefix};
 
 use crate::cas_register::CasRegister;
@@ -17,12 +16,7 @@ use crate::queue::Queue;
 use crate::register::Register;
 use crate::stack::Stack;
 use crate::whole::{put_whole, whole};
-use book_base::{
-    Book, Cut, Decision, MarkedCallers, NoMemory, OpWord, PruningRules, SeqObject, Sight, State,
-};
-use queue_refutation::decide_queue;
-use stack_levels::decide_stack;
-use std::alloc::Global;
+use book_base::{NoMemory, OpWord, SeqObject, State};
 
 /// A kind of sequential object.
 #[derive(Clone, Copy, Debug, PartialEq, Eq)]
@@ -143,8 +137,6 @@ impl SeqObject for Kind {
 
     ghost spec = { kind_spec };
 
-    ghost sees = { kind_sees };
-
     ghost begins_small = { length-kind_init };
 
     ghost grows_by_one = { length-kind_next };
@@ -183,22 +175,6 @@ impl SeqObject for Kind {
         }
     }
 
-    /// The pruning rules that the object knows of a book before a search. Only queues and stacks
-    /// know any.
-    #[tactic(auto, unfolding(crate::specs::Objects::kind_next))]
-    fn find_pruning_rules(&self, alloc: Global, book: &Book) -> Result<PruningRules, NoMemory> {
-        match self {
-            Kind::Queue => Queue.find_pruning_rules(alloc, book),
-            Kind::Stack => Stack.find_pruning_rules(alloc, book),
-            Kind::Register
-            | Kind::Counter
-            | Kind::IntSet
-            | Kind::Pqueue
-            | Kind::CasRegister
-            | Kind::Map => Ok(PruningRules::none(alloc)),
-        }
-    }
-
     /// Whether an operation is read-only with the reply `reply`: it changes no list at which it has
     /// this reply. So it is read-only with each reply that it never gives.
     #[tactic(auto, unfolding(crate::specs::Objects::kind_next))]
@@ -217,55 +193,20 @@ impl SeqObject for Kind {
         }
     }
 
-    /// Decides a whole book without a search of orders, where it can: a queue's book by pairs of
-    /// puts and takes, and a stack's by levels. The answer is `Unsaid` where this decides nothing,
-    /// and for each book of another kind.
-    fn decide(&self, alloc: Global, book: &Book) -> Result<Decision, NoMemory> {
-        match self {
-            Kind::Queue => decide_queue(alloc, &Queue, book),
-            Kind::Stack => decide_stack(alloc, &Stack, book),
-            Kind::Register
-            | Kind::Counter
-            | Kind::IntSet
-            | Kind::Pqueue
-            | Kind::CasRegister
-            | Kind::Map => Ok(Decision::Unsaid),
-        }
-    }
-
+    /// Whether an operation may have the reply `reply`: whether it has this reply at some list.
     #[tactic(auto, unfolding(crate::specs::Objects::kind_next))]
-    fn prepare(&self, alloc: Global, book: &Book) -> Result<Option<Sight>, NoMemory> {
+    fn may_reply(&self, op: OpWord, reply: u64) -> bool
+        ensures { IsTrue result ↔ MayReply (kind_next self.now) op reply }
+    {
         match self {
-            Kind::Queue => Queue.prepare(alloc, book),
-            Kind::Stack => Stack.prepare(alloc, book),
-            Kind::Register => Register.prepare(alloc, book),
-            Kind::Counter => Counter.prepare(alloc, book),
-            Kind::IntSet => IntSet.prepare(alloc, book),
-            Kind::Pqueue => Pqueue.prepare(alloc, book),
-            Kind::CasRegister => CasRegister.prepare(alloc, book),
-            Kind::Map => Map.prepare(alloc, book),
-        }
-    }
-
-    #[tactic(auto, unfolding(crate::specs::Objects::kind_next))]
-    fn narrow(
-        &self,
-        sight: &Sight,
-        book: &Book,
-        cut: &Cut,
-        words: &[u64],
-        forced: u32,
-        marks: MarkedCallers,
-    ) -> MarkedCallers {
-        match self {
-            Kind::Queue => Queue.narrow(sight, book, cut, words, forced, marks),
-            Kind::Stack => Stack.narrow(sight, book, cut, words, forced, marks),
-            Kind::Register => Register.narrow(sight, book, cut, words, forced, marks),
-            Kind::Counter => Counter.narrow(sight, book, cut, words, forced, marks),
-            Kind::IntSet => IntSet.narrow(sight, book, cut, words, forced, marks),
-            Kind::Pqueue => Pqueue.narrow(sight, book, cut, words, forced, marks),
-            Kind::CasRegister => CasRegister.narrow(sight, book, cut, words, forced, marks),
-            Kind::Map => Map.narrow(sight, book, cut, words, forced, marks),
+            Kind::Queue => Queue.may_reply(op, reply),
+            Kind::Stack => Stack.may_reply(op, reply),
+            Kind::Register => Register.may_reply(op, reply),
+            Kind::Counter => Counter.may_reply(op, reply),
+            Kind::IntSet => IntSet.may_reply(op, reply),
+            Kind::Pqueue => Pqueue.may_reply(op, reply),
+            Kind::CasRegister => CasRegister.may_reply(op, reply),
+            Kind::Map => Map.may_reply(op, reply),
         }
     }
 }

@@ -1,20 +1,16 @@
 ghost use Rattle.std.specs.Prelude.{◌≡◌, ◌<◌, [], length, ◌↔◌, IsTrue};
-ghost use Rattle.book_base.specs.PruningRules.{Leaves};
-ghost use Rattle.book_base.specs.Pruning.{HasOneOpen, IsForced, MarksAllNext, MarksSuffice, IsMarkedWithin};
+ghost use Rattle.book_base.specs.Reaching.{Leaves, MayReply};
 ghost use Rattle.seq_objects.specs.declared.kind.Kind.TheVariants as kinds;
 ghost use Rattle.seq_objects.specs.Words.{is_known_word};
 ghost use Rattle.seq_objects.specs.Items.{length-none};
-ghost use Rattle.seq_objects.specs.Keys.{map_key, IsNarrowedToKey};
 ghost use Rattle.seq_objects.specs.MapSteps as steps;
 ghost use Rattle.seq_objects.specs.MapSteps.{map_operation, map_after, length-map_after, map_after-unknown, put_in, value_at, without, place_of_key};
 
 use crate::entry::{DEL, GET, PUT, argument_of, extra_of};
 use crate::items::insert_in_order;
-use crate::keyed::{Keyed, empty_sight, narrow_to_key};
 use crate::kind::Kind;
-use crate::reply::{NONE, is_value, value_reply};
-use book_base::{BAD, Book, Cut, MarkedCallers, NoMemory, OpWord, SeqObject, Sight, State};
-use std::alloc::Global;
+use crate::reply::{NONE, is_value, is_value_or_none, value_reply};
+use book_base::{BAD, OpWord, SeqObject, State};
 
 /// How many values a key can have.
 const VALUES: u64 = 1 << 32;
@@ -24,8 +20,8 @@ const VALUES: u64 = 1 << 32;
 pub struct Map;
 
 /// An operation of a map, with its arguments.
-#[derive(Clone, Copy)]
-enum MapOperation {
+#[derive(Clone, Copy, Debug, PartialEq, Eq)]
+pub enum MapOperation {
     Put(u32, u32),
     Get(u32),
     Delete(u32),
@@ -33,7 +29,7 @@ enum MapOperation {
 
 impl MapOperation {
     /// The operation that an operation word stands for, where a map knows the word.
-    fn from_word(word: OpWord) -> Option<MapOperation>
+    pub fn from_word(word: OpWord) -> Option<MapOperation>
         ensures { result ≡ map_operation word }
     {
         if PUT.has(word) {
@@ -103,19 +99,6 @@ fn delete(state: &mut State, key: u32) -> u64
     }
 }
 
-impl Keyed for Map {
-    ghost key_of = { λ _. map_key };
-
-    fn key(&self, op: OpWord) -> Option<u32> {
-        match MapOperation::from_word(op) {
-            Some(MapOperation::Put(key, _)) => Some(key),
-            Some(MapOperation::Get(key)) => Some(key),
-            Some(MapOperation::Delete(key)) => Some(key),
-            None => None,
-        }
-    }
-}
-
 impl SeqObject for Map {
     ghost is_known = { λ _. is_known_word kinds.Map };
 
@@ -161,41 +144,14 @@ impl SeqObject for Map {
         }
     }
 
-    fn prepare(&self, alloc: Global, book: &Book) -> Result<Option<Sight>, NoMemory> {
-        Ok(Some(empty_sight(alloc)))
-    }
-
-    /// Narrows the marked callers to those whose next calls have the forced call's key. Where the
-    /// forced call has no key, all marks stay.
-    fn narrow(
-        &self,
-        sight: &Sight,
-        book: &Book,
-        cut: &Cut,
-        words: &[u64],
-        forced: u32,
-        marks: MarkedCallers,
-    ) -> MarkedCallers
-        // Each view of the book holds at most one unanswered call of each caller.
-        requires open { HasOneOpen book.now }
-        // The cut has a count for each caller of the book.
-        requires wide { length cut.now ≡ length book.now }
-        // The forced caller's next call after the cut is answered, and has the least view of all
-        // answered calls outside the cut.
-        requires forced { IsForced book.now cut.now forced }
-        // Exactly those callers are marked whose next calls after the cut may come next.
-        requires marks { MarksAllNext book.now cut.now marks }
-        // Each caller that the answer marks was marked.
-        ensures fewer { IsMarkedWithin result marks }
-        // Where places continue an order from the cut and the list `words`, as many places or fewer
-        // do that begin with the next call of a caller that the answer marks.
-        ensures suffice { MarksSuffice book.now
-            (λ list op. map_after list (map_operation op)) cut.now
-            words.now result }
-        // Where the forced caller's next call has a key, exactly the marked callers whose next
-        // calls have this key keep their marks; else all marked callers do.
-        ensures narrowed { IsNarrowedToKey map_key book.now cut.now forced marks result }
+    fn may_reply(&self, op: OpWord, reply: u64) -> bool
+        // The answer is whether the operation of a map may have this reply: whether it has it at
+        // some list.
+        ensures { IsTrue result ↔ MayReply (λ list op. map_after list (map_operation op)) op reply }
     {
-        narrow_to_key(self, book, cut, forced, marks)
+        match MapOperation::from_word(op) {
+            Some(_) => is_value_or_none(reply),
+            None => reply == BAD,
+        }
     }
 }

@@ -1,8 +1,7 @@
 ghost use Rattle.std.specs.Prelude.{◌≡◌, ◌≢◌, ℕ, ◌^◌, ◌<◌, ◌++◌, true, false, map, decimal, option_map, IfSome, IfNone, OnOk, OnErr};
 ghost use Rattle.seq_objects.specs.Words.{AppendsPrefix};
-ghost use Rattle.seq_objects.specs.Replies.{named_replies, named_reply, is_value, is_known_reply, reply_word, reply_value};
+ghost use Rattle.seq_objects.specs.Replies.{named_replies, named_reply, is_value, is_value_or_none, is_yes_or_no, is_known_reply, reply_word, reply_value, shown_value};
 ghost use Rattle.seq_objects.specs.ReplyView.{shown, reply_named};
-ghost use Rattle.seq_objects.specs.Readings.{shown_value};
 
 use crate::digits::{argument, number, put_marked, suffix};
 use book_base::{BAD, NoMemory};
@@ -95,6 +94,20 @@ pub fn is_value(reply: u64) -> bool
     ensures { result ≡ is_value reply }
 {
     reply / VALUES == VALUE_TAG
+}
+
+/// Whether a reply word gives a value or is `NONE`.
+pub fn is_value_or_none(reply: u64) -> bool
+    ensures { result ≡ is_value_or_none reply }
+{
+    reply == NONE || is_value(reply)
+}
+
+/// Whether a reply word is `YES` or `NO`.
+pub fn is_yes_or_no(reply: u64) -> bool
+    ensures { result ≡ is_yes_or_no reply }
+{
+    reply == YES || reply == NO
 }
 
 /// The value that a reply word gives, if it gives one.

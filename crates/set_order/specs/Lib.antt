@@ -4,4 +4,3 @@ pub mod ServingLaws
 pub mod Joins
 pub mod Verdict
 pub mod Search
-pub mod Cases

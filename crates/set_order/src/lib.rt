@@ -2,7 +2,6 @@
 //! once, and the search for a legal set order of a book.
 #![tactic(auto)]
 
-pub mod cases;
 mod joins;
 mod laws;
 mod place_set;

@@ -10,7 +10,9 @@ pub trait SetObject {
     ghost init: { Self → List ℕ };
 
     /// The list after some operations are served at once at a list, and the reply to each; none
-    /// where they may not be served together.
+    /// where they may not be served together. A set order gives the operations in the order of
+    /// their callers. An object may serve them otherwise in that order than in another one: no law
+    /// asks that the order of the operations makes no difference.
     ghost served: { Self → List ℕ → List ℕ → Option (List ℕ × List ℕ) };
 
     /// Makes the list the one that the object begins with. The capacity doesn't change.

@@ -5,4 +5,3 @@ pub mod Parting
 pub mod Dealing
 pub mod Closing
 pub mod Calling
-pub mod Worked

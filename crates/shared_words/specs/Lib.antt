@@ -3,4 +3,3 @@ pub mod Histories
 pub mod Transcripts
 pub mod Rule
 pub mod Passes
-pub mod Cases

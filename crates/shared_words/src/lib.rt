@@ -1,7 +1,6 @@
 //! Atomic words that callers share, with one history of all accesses to them.
 #![tactic(auto)]
 
-pub mod cases;
 pub mod laws;
 mod plays;
 mod shared_words;

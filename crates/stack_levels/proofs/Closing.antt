@@ -8,10 +8,11 @@ use Rattle.list_laws.proofs.Options.{map_some}
 use Rattle.list_laws.proofs.Places.{get_or-replicate_default}
 use Rattle.book_base.specs.declared.TheConstants.{MAX_CALLERS}
 use Rattle.book_base.specs.declared.call.Call.{Call}
-use Rattle.book_base.specs.declared.marked_callers.MarkedCallers.{MarkedCallers}
+use Rattle.search_hints.specs.declared.marked_callers.MarkedCallers.{MarkedCallers}
 use Rattle.book_base.specs.Book.{Page, IsValid, operation_of}
 use Rattle.book_base.specs.Next.{next_call, raised}
-use Rattle.book_base.specs.Pruning.{HasOneOpen, IsMarked, MarksSuffice}
+use Rattle.book_base.specs.Pruning.{HasOneOpen}
+use Rattle.search_hints.specs.Marks.{IsMarked, MarksSuffice}
 use Rattle.history_rules.specs.Container.{Effect, Reading}
 use Rattle.container_pruning.specs.declared.reader.Role.{Role}
 use Rattle.container_pruning.specs.Deals.{deed_of}

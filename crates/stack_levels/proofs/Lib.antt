@@ -1,3 +1,2 @@
 pub mod Refuting
 pub mod Closing
-pub mod Worked

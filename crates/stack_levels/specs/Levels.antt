@@ -5,10 +5,11 @@
 use Rattle.std.specs.Prelude.{◌≡◌, ◌≢◌, ℕ, ◌≤◌, ◌⊎◌, IsTrue, List, length, replicate, Option, Some, None, IfSome, slice_get}
 use Rattle.book_base.specs.declared.call.Call.{Call}
 use Rattle.book_base.specs.declared.call.Record.{Record}
-use Rattle.book_base.specs.declared.marked_callers.MarkedCallers.{MarkedCallers}
+use Rattle.search_hints.specs.declared.marked_callers.MarkedCallers.{MarkedCallers}
 use Rattle.book_base.specs.Book.{Page, IsAnswered, operation_of, record_of}
 use Rattle.book_base.specs.Next.{next_call, raised, MayComeNext}
-use Rattle.book_base.specs.Pruning.{IsMarked, MarksSuffice, ViewsAreWithin}
+use Rattle.book_base.specs.Pruning.{ViewsAreWithin}
+use Rattle.search_hints.specs.Marks.{IsMarked, MarksSuffice}
 use Rattle.history_rules.specs.Container.{Effect, Puts, Takes, Neither, Reading}
 use Rattle.history_rules.specs.Calls.{IsNeverTaken, TakesShowing}
 use Rattle.stack_pruning.specs.declared.top.Top.{Top}

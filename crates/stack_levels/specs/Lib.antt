@@ -1,4 +1,3 @@
 pub mod Levels
 pub mod LevelLaws
 pub mod Tables
-pub mod Cases

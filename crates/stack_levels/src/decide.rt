@@ -1,5 +1,5 @@
 ghost use Rattle.std.specs.Prelude.{◌≡◌, ℕ, [], IfOk};
-ghost use Rattle.book_base.specs.Decision.{IsRightDecision};
+ghost use Rattle.search_hints.specs.Decision.{IsRightDecision};
 ghost use Rattle.history_rules.specs.Container.{IsContainer};
 ghost use Rattle.stack_pruning.specs.LastFirst.{GivesLastFirst};
 
@@ -9,12 +9,13 @@ use crate::runs::RunSearch;
 use crate::search::{LevelSearch, LevelsFound};
 use crate::stack_book::StackBook;
 use crate::table::LevelTable;
-use book_base::{Book, Decision, NoMemory, SeqObject};
+use book_base::{Book, NoMemory, SeqObject};
 use container_counts::refute_by_counts;
 use container_pruning::Reader;
 use next_calls::has_one_open;
 use order_check::check_order;
 use queue_pairs::{Table, places_of};
+use search_hints::Decision;
 use std::alloc::Global;
 use value_pruning::sight_of_values;
 
@@ -27,20 +28,22 @@ use value_pruning::sight_of_values;
 /// The search isn't trusted: an order that it finds is judged, and isn't delivered where it isn't
 /// legal; and a table of pairs from which it finds no order is checked once more. No clause says
 /// for which books a decision is made: where none is made, only time is lost.
-pub fn decide_stack<S: SeqObject + Reader>(
+pub fn decide_stack<S: SeqObject, R: Reader>(
     alloc: Global,
     stack: &S,
+    reader: &R,
     book: &Book,
 ) -> Result<Decision, NoMemory>
-    // The object gives its last value first, and its values are below a bound.
+    // The object gives its last value first, as the reader reads it, and its values are below a
+    // bound.
     requires stack { (bound : ℕ)
-        × GivesLastFirst (S.reading stack.now) (S.spec stack.now).next bound }
+        × GivesLastFirst (R.reading reader.now) (S.spec stack.now).next bound }
     // The object begins with the empty list.
     requires empty { (S.spec stack.now).init ≡ [] }
     // The object is a container: it gives out only what was put in.
-    requires container { IsContainer (S.reading stack.now) (S.spec stack.now).next }
+    requires container { IsContainer (R.reading reader.now) (S.spec stack.now).next }
     // The first list of the object holds no value.
-    requires nothing { (S.reading stack.now).values (S.spec stack.now).init ≡ [] }
+    requires nothing { (R.reading reader.now).values (S.spec stack.now).init ≡ [] }
     // `Order` is answered with a legal order of the book, and `NoOrder` only where the book has
     // none.
     ensures { IfOk result (IsRightDecision (S.spec stack.now) book.now) }
@@ -48,13 +51,13 @@ pub fn decide_stack<S: SeqObject + Reader>(
     if !has_one_open(book) {
         return Ok(Decision::Unsaid);
     }
-    let sight = sight_of_values(alloc, stack, book)?;
-    let calls = Table::of(alloc, stack, book)?;
+    let sight = sight_of_values(alloc, reader, book)?;
+    let calls = Table::of(alloc, reader, book)?;
     if refute_by_counts(alloc, &calls)? {
         return Ok(Decision::NoOrder);
     }
     let on = StackBook {
-        reader: stack,
+        reader,
         sight: &sight,
         book,
     };
@@ -84,7 +87,7 @@ pub fn decide_stack<S: SeqObject + Reader>(
 
 // The decision with the calls that lead from the start to a node, in order, where this order is
 // legal; else `Unsaid`.
-fn order_of<S: SeqObject + Reader>(
+fn order_of<S: SeqObject>(
     alloc: Global,
     stack: &S,
     book: &Book,

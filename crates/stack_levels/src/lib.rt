@@ -4,7 +4,6 @@
 //! pair that was found leads only to pairs that were found.
 #![tactic(auto)]
 
-pub mod cases;
 mod closure;
 mod decide;
 mod lasting;

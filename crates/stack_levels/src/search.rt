@@ -1,6 +1,7 @@
 ghost use Rattle.std.specs.Prelude.{◌≡◌, ◌<◌, length, IsTrue};
 ghost use Rattle.book_base.specs.Book.{IsCall};
-ghost use Rattle.book_base.specs.Pruning.{HasOneOpen, IsMarkedWithin, MarksAllNext};
+ghost use Rattle.book_base.specs.Pruning.{HasOneOpen};
+ghost use Rattle.search_hints.specs.Marks.{IsMarkedWithin, MarksAllNext};
 ghost use Rattle.value_pruning.specs.Sights.{ListsValues};
 
 use crate::stack_book::{NextCallers, StackBook};

@@ -1,14 +1,16 @@
 ghost use Rattle.std.specs.Prelude.{◌≡◌, ◌≢◌, ℕ, ◌<◌, false, List, None, Some, length, IfSome, IsTrue};
 ghost use Rattle.book_base.specs.Book.{IsAnswered, IsCall};
-ghost use Rattle.book_base.specs.Pruning.{HasOneOpen, IsMarkedWithin, MarksAllNext, MarksSuffice};
+ghost use Rattle.book_base.specs.Pruning.{HasOneOpen};
+ghost use Rattle.search_hints.specs.Marks.{IsMarkedWithin, MarksAllNext, MarksSuffice};
 ghost use Rattle.history_rules.specs.Calls.{IsNeverTaken, TakesOut};
 ghost use Rattle.stack_levels.specs.Levels.{AreAnsweredAlike, LeavesTop, ServesAtLevel, ShowsAnother};
 ghost use Rattle.stack_pruning.specs.LastFirst.{GivesLastFirst, HasTop};
 ghost use Rattle.value_pruning.specs.Sights.{ListsValues};
 
-use book_base::{Book, Call, Cut, MarkedCallers, Sight};
+use book_base::{Book, Call, Cut};
 use container_pruning::{Reader, Role};
 use next_calls::{all_next, cut_of, first_view, least_open};
+use search_hints::{MarkedCallers, Sight};
 use stack_pruning::{Top, narrow_by_top};
 use value_pruning::{is_read, value_taken};
 

@@ -5,12 +5,13 @@ use Rattle.std.proofs.lemmas.Bool.{cases_eq}
 use Rattle.book_base.specs.declared.call.Call.{Call}
 use Rattle.book_base.specs.declared.call.Place.{Place}
 use Rattle.book_base.specs.declared.call.Record.{Record}
-use Rattle.book_base.specs.declared.marked_callers.MarkedCallers.{MarkedCallers}
+use Rattle.search_hints.specs.declared.marked_callers.MarkedCallers.{MarkedCallers}
 use Rattle.book_base.specs.Book.{Page, IsValid, operation_of, record_of}
 use Rattle.book_base.specs.Order.{call_at, step_at}
 use Rattle.book_base.specs.Sequential.{IsRunFrom}
 use Rattle.book_base.specs.Next.{raised, next_call, MayComeNext, Continues}
-use Rattle.book_base.specs.Pruning.{HasOneOpen, IsForced, IsMarked, IsMarkedWithin, MarksAllNext, MarksSuffice}
+use Rattle.book_base.specs.Pruning.{HasOneOpen, IsForced}
+use Rattle.search_hints.specs.Marks.{IsMarked, IsMarkedWithin, MarksAllNext, MarksSuffice}
 use Rattle.book_laws.proofs.LegalOrder.{same_call, same_place, within_cut}
 use Rattle.history_rules.specs.Container.{Puts, Takes, Neither, Reading}
 use Rattle.history_rules.specs.Calls.{TakesShowing}

@@ -4,10 +4,10 @@ use Rattle.std.proofs.lemmas.Bool.{cases_lt}
 use Rattle.list_laws.proofs.Options.{some_from_is_some_and}
 use Rattle.book_base.specs.declared.call.Call.{Call}
 use Rattle.book_base.specs.declared.call.Record.{Record}
-use Rattle.book_base.specs.declared.marked_callers.MarkedCallers.{MarkedCallers}
+use Rattle.search_hints.specs.declared.marked_callers.MarkedCallers.{MarkedCallers}
 use Rattle.book_base.specs.Book.{Page, IsValid, Precedes, calls_of, record_of}
 use Rattle.book_base.specs.Next.{next_call, MayComeNext}
-use Rattle.book_base.specs.Pruning.{IsMarked, MarksAllNext}
+use Rattle.search_hints.specs.Marks.{IsMarked, MarksAllNext}
 use Rattle.book_base.proofs.GrowthLemmas.{below_calls}
 use Rattle.book_base.proofs.ViewLemmas.{same_call}
 

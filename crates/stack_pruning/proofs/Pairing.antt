@@ -8,12 +8,13 @@ use Rattle.std.proofs.lemmas.Option.{same_Some, none-some}
 use Rattle.book_base.specs.declared.call.Call.{Call}
 use Rattle.book_base.specs.declared.call.Place.{Place}
 use Rattle.book_base.specs.declared.call.Record.{Record}
-use Rattle.book_base.specs.declared.marked_callers.MarkedCallers.{MarkedCallers}
-use Rattle.book_base.specs.declared.sight.Sight.{Sight}
+use Rattle.search_hints.specs.declared.marked_callers.MarkedCallers.{MarkedCallers}
+use Rattle.search_hints.specs.declared.sight.Sight.{Sight}
 use Rattle.book_base.specs.Book.{Page, IsValid, operation_of, record_of}
 use Rattle.book_base.specs.Order.{call_at}
 use Rattle.book_base.specs.Next.{raised, next_call, MayComeNext, MayStandNext, list_after, Continues}
-use Rattle.book_base.specs.Pruning.{HasOneOpen, IsMarked, MarksAllNext, MarksSuffice}
+use Rattle.book_base.specs.Pruning.{HasOneOpen}
+use Rattle.search_hints.specs.Marks.{IsMarked, MarksAllNext, MarksSuffice}
 use Rattle.book_laws.proofs.LegalOrder.{raised_same, raised_twice, comes_later, within_cut}
 use Rattle.history_rules.specs.Container.{Puts, Takes, Reading}
 use Rattle.history_rules.specs.Calls.{PutsIn, PutsInAlone}

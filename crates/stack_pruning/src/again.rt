@@ -1,12 +1,13 @@
 ghost use Rattle.std.specs.Prelude.{◌≡◌, ℕ, ◌<◌, ◌≤◌, false, length, slice_index, IsTrue};
 ghost use Rattle.book_base.specs.Book.{IsAnswered, IsCall, calls_of};
 ghost use Rattle.book_base.specs.Next.{next_call};
-ghost use Rattle.book_base.specs.Pruning.{IsMarked, MarksAllNext};
+ghost use Rattle.search_hints.specs.Marks.{IsMarked, MarksAllNext};
 ghost use Rattle.history_rules.specs.Calls.{PutsIn};
 ghost use Rattle.stack_pruning.specs.LastFirst.{PutsAreNextOrLater};
 
-use book_base::{Book, Call, Cut, MarkedCallers};
+use book_base::{Book, Call, Cut};
 use container_pruning::Reader;
+use search_hints::MarkedCallers;
 use value_pruning::value_put;
 
 /// Whether each call outside the cut that puts in the value `value` is a marked caller's next call,

@@ -1,13 +1,15 @@
 ghost use Rattle.std.specs.Prelude.{◌≡◌, ◌≢◌, ◌⊎◌, ℕ, ◌<◌, length, Some, IfSome, IsTrue};
 ghost use Rattle.book_base.specs.Book.{IsCall};
 ghost use Rattle.book_base.specs.Next.{next_call};
-ghost use Rattle.book_base.specs.Pruning.{IsForced, IsMarked, IsMarkedWithin, MarksAllNext};
+ghost use Rattle.book_base.specs.Pruning.{IsForced};
+ghost use Rattle.search_hints.specs.Marks.{IsMarked, IsMarkedWithin, MarksAllNext};
 ghost use Rattle.history_rules.specs.Calls.{TakesShowing};
 ghost use Rattle.stack_pruning.specs.LastFirst.{EndsWith, PutsNeedless};
 
 use crate::words::last_word;
-use book_base::{Book, Call, Cut, MarkedCallers};
+use book_base::{Book, Call, Cut};
 use container_pruning::{Reader, Role};
+use search_hints::MarkedCallers;
 use value_pruning::value_put;
 
 /// What the forced caller's next call shows, where it is a take: a value, or nothing. No clause

@@ -1,14 +1,15 @@
 ghost use Rattle.std.specs.Prelude.{◌≡◌, ℕ, ◌<◌, ◌≤◌, false, length, slice_index, IfSome, IsTrue};
 ghost use Rattle.std.specs.List.{AllByRecursion};
 ghost use Rattle.book_base.specs.Book.{IsAnswered, IsCall};
-ghost use Rattle.book_base.specs.Pruning.{IsMarked, MarksAllNext};
+ghost use Rattle.search_hints.specs.Marks.{IsMarked, MarksAllNext};
 ghost use Rattle.history_rules.specs.Calls.{FindsNothing};
 ghost use Rattle.value_pruning.specs.HoldsLast.{IsUnreadWrite};
 ghost use Rattle.value_pruning.specs.Sights.{ListsValues};
 ghost use Rattle.stack_pruning.specs.LastFirst.{IsKept, IsKeptPut, IsNeverEmpty, PutsKept};
 
-use book_base::{Book, Call, Cut, MarkedCallers, Sight};
+use book_base::{Book, Call, Cut};
 use container_pruning::{Reader, Role};
+use search_hints::{MarkedCallers, Sight};
 use value_pruning::{is_read, value_put};
 
 /// A marked caller whose next call is answered and puts in a value that no answered call outside

@@ -1,7 +1,8 @@
 ghost use Rattle.std.specs.Prelude.{◌≡◌, ℕ, ◌<◌, List, length, IfSome, IsTrue};
 ghost use Rattle.book_base.specs.SeqSpec.{SeqSpec};
 ghost use Rattle.book_base.specs.Next.{next_call};
-ghost use Rattle.book_base.specs.Pruning.{HasOneOpen, IsForced, IsMarked, IsMarkedWithin, IsReached, MarksAllNext, MarksSuffice};
+ghost use Rattle.book_base.specs.Pruning.{HasOneOpen, IsForced, IsReached};
+ghost use Rattle.search_hints.specs.Marks.{IsMarked, IsMarkedWithin, MarksAllNext, MarksSuffice};
 ghost use Rattle.value_pruning.specs.Sights.{ListsValues};
 ghost use Rattle.stack_pruning.specs.LastFirst.{GivesLastFirst, HasTop, IsSmall, PutsKept, PutsPaired, StandFor, TakesLast};
 
@@ -10,8 +11,9 @@ use crate::forced::{forced_take, without_needless};
 use crate::kept::kept_put;
 use crate::top::Top;
 use crate::words::{holds, last_word};
-use book_base::{Book, Call, Cut, MarkedCallers, Sight};
+use book_base::{Book, Call, Cut};
 use container_pruning::Reader;
+use search_hints::{MarkedCallers, Sight};
 use value_pruning::{is_put_once, next_least_take, value_put};
 
 /// The callers whose next calls a search has to try at a list of a stack: some of the marked

@@ -5,9 +5,9 @@ use Rattle.std.proofs.lemmas.Bool.{cases_lt, cases_Bool, cond-true, cond-false, 
 use Rattle.std.proofs.lemmas.Option.{same_Some, slice_get_within}
 use Rattle.book_base.specs.declared.call.Call.{Call}
 use Rattle.book_base.specs.declared.call.Record.{Record}
-use Rattle.book_base.specs.declared.sight.Labelled.{Labelled}
-use Rattle.book_base.specs.declared.sight.Sight.{Sight}
-use Rattle.book_base.specs.declared.marked_callers.MarkedCallers.{MarkedCallers}
+use Rattle.search_hints.specs.declared.sight.Labelled.{Labelled}
+use Rattle.search_hints.specs.declared.sight.Sight.{Sight}
+use Rattle.search_hints.specs.declared.marked_callers.MarkedCallers.{MarkedCallers}
 use Rattle.book_base.specs.Book.{Page, page_of, calls_of, IsCall}
 use Rattle.book_base.proofs.PageLemmas.{caller_from_call}
 use Rattle.book_base.proofs.ViewLemmas.{same_call}
@@ -15,7 +15,7 @@ use Rattle.history_rules.specs.Container.{Puts, Takes, Reading}
 use Rattle.history_rules.specs.Calls.{PutsIn, TakesOut}
 use Rattle.container_pruning.specs.Uses.{IsReadTo}
 use Rattle.book_base.specs.Next.{next_call}
-use Rattle.book_base.specs.Pruning.{IsMarked, MarksAllNext}
+use Rattle.search_hints.specs.Marks.{IsMarked, MarksAllNext}
 use Rattle.list_laws.proofs.Places.{slice_get-push_old, slice_get-push_last}
 use Rattle.value_pruning.specs.LeastFirst.{IsBelowFirst, IsLeastTake, PutsLeast}
 use Rattle.value_pruning.specs.Sights.{place_of, puts_at, shows_at, puts_of, shows_of, IsListed, HasItsPlaces, HasPlace, HasPut, HasTake, ListsRead, ListsValues}

@@ -9,8 +9,9 @@ use Rattle.book_base.specs.declared.call.Record.{Record}
 use Rattle.book_base.specs.Book.{Page, page_of, answers_of, IsCall, IsAnswered, IsValid, operation_of, record_of}
 use Rattle.book_base.specs.Order.{call_at, step_at}
 use Rattle.book_base.specs.Next.{raised, next_call, MayComeNext, MayStandNext, HoldsAnswered, list_after, Continues}
-use Rattle.book_base.specs.declared.marked_callers.MarkedCallers.{MarkedCallers}
-use Rattle.book_base.specs.Pruning.{HasOneOpen, IsMarked, MarksSuffice}
+use Rattle.search_hints.specs.declared.marked_callers.MarkedCallers.{MarkedCallers}
+use Rattle.book_base.specs.Pruning.{HasOneOpen}
+use Rattle.search_hints.specs.Marks.{IsMarked, MarksSuffice}
 use Rattle.book_laws.proofs.LegalOrder.{raised_more, raised_twice, comes_later, same_call, answer_stands, within_cut}
 use Rattle.history_rules.specs.Container.{Puts, Takes, Neither, Reading}
 use Rattle.history_rules.specs.Calls.{TakesOut}

@@ -6,14 +6,15 @@ use Rattle.std.proofs.lemmas.Option.{same_Some, slice_get_within}
 use Rattle.book_base.specs.declared.call.Call.{Call}
 use Rattle.book_base.specs.declared.call.Place.{Place}
 use Rattle.book_base.specs.declared.call.Record.{Record}
-use Rattle.book_base.specs.declared.marked_callers.MarkedCallers.{MarkedCallers}
-use Rattle.book_base.specs.declared.sight.Sight.{Sight}
+use Rattle.search_hints.specs.declared.marked_callers.MarkedCallers.{MarkedCallers}
+use Rattle.search_hints.specs.declared.sight.Sight.{Sight}
 use Rattle.book_base.specs.Book.{Page, calls_of, IsAnswered, operation_of, record_of}
 use Rattle.book_base.specs.Order.{call_at}
 use Rattle.book_base.specs.Next.{raised, next_call, MayComeNext, MayStandNext, Continues}
-use Rattle.book_base.specs.Pruning.{HasOneOpen, IsForced, IsMarked, IsMarkedWithin, MarksAllNext, MarksSuffice}
+use Rattle.book_base.specs.Pruning.{HasOneOpen, IsForced}
+use Rattle.search_hints.specs.Marks.{IsMarked, IsMarkedWithin, MarksAllNext, MarksSuffice}
 use Rattle.book_base.proofs.PageLemmas.{caller_from_call}
-use Rattle.book_base.proofs.PruningLemmas.{all_next_suffice}
+use Rattle.search_hints.proofs.PruningLemmas.{all_next_suffice}
 use Rattle.book_laws.proofs.LegalOrder.{raised_same, raised_other, raised_more, comes_later, same_call, within_cut}
 use Rattle.history_rules.specs.Container.{Puts, Takes, Neither, Reading}
 use Rattle.history_rules.specs.Calls.{PutsIn, TakesOut}

@@ -4,7 +4,7 @@ use Rattle.std.specs.Ordering.{nat_cmp}
 use Rattle.std.specs.BTreeMap.{is_at}
 use Rattle.std.specs.Map.{lookup}
 use Rattle.book_base.specs.declared.call.Call.{Call}
-use Rattle.book_base.specs.declared.sight.Sight.{Sight}
+use Rattle.search_hints.specs.declared.sight.Sight.{Sight}
 use Rattle.book_base.specs.Book.{Page}
 use Rattle.history_rules.specs.Container.{Reading}
 use Rattle.history_rules.specs.Calls.{PutsIn, TakesOut}

@@ -1,14 +1,16 @@
 ghost use Rattle.std.specs.Prelude.{◌≡◌, ◌↔◌, ◌⊎◌, ℕ, ◌<◌, List, length, IfSome, IsTrue};
 ghost use Rattle.book_base.specs.Book.{IsCall, IsAnswered};
 ghost use Rattle.book_base.specs.Next.{next_call};
-ghost use Rattle.book_base.specs.Pruning.{HasOneOpen, IsForced, IsMarked, IsMarkedWithin, MarksAllNext, MarksSuffice};
+ghost use Rattle.book_base.specs.Pruning.{HasOneOpen, IsForced};
+ghost use Rattle.search_hints.specs.Marks.{IsMarked, IsMarkedWithin, MarksAllNext, MarksSuffice};
 ghost use Rattle.value_pruning.specs.Sights.{ListsValues};
 ghost use Rattle.value_pruning.specs.HoldsLast.{HoldsLast, IsIrreplaceable, IsNeedless, IsRead, IsUnreadWrite, IsWritten, WritesAnother, WritesUnread};
 
 use crate::outside::{is_read, is_written};
 use crate::values::value_put;
-use book_base::{Book, Call, Cut, MarkedCallers, Sight};
+use book_base::{Book, Call, Cut};
 use container_pruning::Reader;
+use search_hints::{MarkedCallers, Sight};
 
 /// The callers whose next calls a search has to try, in the book of a register that holds a value:
 /// some of the marked callers, and these marks suffice. No clause says which.

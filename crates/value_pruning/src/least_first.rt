@@ -2,7 +2,8 @@ ghost use Rattle.std.specs.Prelude.{◌≡◌, ◌↔◌, ◌⊎◌, ℕ, ◌<�
 ghost use Rattle.book_base.specs.SeqSpec.{SeqSpec};
 ghost use Rattle.book_base.specs.Book.{IsCall, operation_of};
 ghost use Rattle.book_base.specs.Next.{next_call, MayComeNext};
-ghost use Rattle.book_base.specs.Pruning.{HasOneOpen, IsForced, IsMarked, IsMarkedWithin, IsReached, MarksAllNext, MarksSuffice};
+ghost use Rattle.book_base.specs.Pruning.{HasOneOpen, IsForced, IsReached};
+ghost use Rattle.search_hints.specs.Marks.{IsMarked, IsMarkedWithin, MarksAllNext, MarksSuffice};
 ghost use Rattle.history_rules.specs.Container.{Takes};
 ghost use Rattle.value_pruning.specs.Sights.{ListsValues};
 ghost use Rattle.value_pruning.specs.LeastFirst.{GivesLeastFirst, IsBelowFirst, IsNeverFirst, IsRising, IsTakenByNone, IsUnwanted, CouldTake, PutsLeast, TakesFirst};
@@ -11,8 +12,9 @@ use crate::outside::reads_outside;
 use crate::sight::is_put_once;
 use crate::takes::next_least_take;
 use crate::values::{value_put, value_taken};
-use book_base::{Book, Call, Cut, MarkedCallers, Sight};
+use book_base::{Book, Call, Cut};
 use container_pruning::{Reader, Role};
+use search_hints::{MarkedCallers, Sight};
 
 /// The callers whose next calls a search has to try, in the book of a priority queue: some of the
 /// marked callers, and these marks suffice. No clause says which.

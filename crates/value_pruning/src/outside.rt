@@ -5,8 +5,9 @@ ghost use Rattle.value_pruning.specs.HoldsLast.{IsRead, IsWritten, ReadsOutside,
 
 use crate::sight::{is_outside, labelled_of};
 use crate::values::{value_put, value_taken};
-use book_base::{Book, Call, Cut, Sight};
+use book_base::{Book, Call, Cut};
 use container_pruning::Reader;
+use search_hints::Sight;
 
 /// Whether some answered call outside a cut reads the value `value`.
 pub fn is_read<R: Reader>(reader: &R, sight: &Sight, book: &Book, cut: &Cut, value: u64) -> bool

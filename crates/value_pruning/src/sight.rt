@@ -4,8 +4,9 @@ ghost use Rattle.value_pruning.specs.Sights as sights;
 ghost use Rattle.value_pruning.specs.Sights.{place_of, HasItsPlaces, HasPlace, HasPut, HasTake, ListsRead, ListsValues};
 
 use crate::values::{value_put, value_taken};
-use book_base::{Book, Call, Cut, Labelled, NoMemory, Sight};
+use book_base::{Book, Call, Cut, NoMemory};
 use container_pruning::Reader;
+use search_hints::{Labelled, Sight};
 use std::alloc::Global;
 use std::collections::BTreeMap;
 

@@ -4,13 +4,15 @@ ghost use Rattle.book_base.specs.declared.call.Record.{Record};
 ghost use Rattle.book_base.specs.Book.{IsAnswered, record_of};
 ghost use Rattle.book_base.specs.Cut.{IsWithin};
 ghost use Rattle.book_base.specs.Next.{next_call};
-ghost use Rattle.book_base.specs.Pruning.{IsMarked, ViewsAreWithin};
+ghost use Rattle.book_base.specs.Pruning.{ViewsAreWithin};
+ghost use Rattle.search_hints.specs.Marks.{IsMarked};
 ghost use Rattle.history_rules.specs.Calls.{TakesOut};
 ghost use Rattle.value_pruning.specs.LeastFirst.{IsLeastTake};
 
 use crate::values::value_taken;
-use book_base::{Book, Call, Cut, MarkedCallers};
+use book_base::{Book, Call, Cut};
 use container_pruning::Reader;
+use search_hints::MarkedCallers;
 
 /// A marked caller whose next call takes out the value `value`, with the least view of all answered
 /// calls outside the cut that take it out. A call that the take's view doesn't hold has no lesser

@@ -1,6 +1,7 @@
 //! What stacks decide of whole books without a search of orders.
-use book_base::{Decision, SeqObject};
 use book_text::read_book;
+use kind_search::SearchedKind;
+use search_hints::{Decision, SearchHints};
 use std::alloc::Global;
 use std::test::Fail;
 
@@ -40,7 +41,7 @@ const TWO_OPEN: &[u8] =
 // What the sequential object of the book's kind decides of the book with this text.
 fn decision(alloc: Global, text: &[u8]) -> Result<Decision, Fail> {
     let (kind, book) = read_book(alloc, text)?;
-    Ok(kind.decide(alloc, &book)?)
+    Ok(SearchedKind { kind }.decide(alloc, &book)?)
 }
 
 #[test]

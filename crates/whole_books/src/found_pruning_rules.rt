@@ -1,6 +1,8 @@
 //! Pruning rules that objects find. No clause says that objects find any.
-use book_base::{Book, Call, MAX_CALLERS, PruningRules, SeqObject};
+use book_base::{Book, Call, MAX_CALLERS};
 use book_text::read_book;
+use kind_search::SearchedKind;
+use search_hints::{PruningRules, SearchHints};
 use std::alloc::Global;
 use std::test::Fail;
 
@@ -50,7 +52,7 @@ const OPEN_TAKE: &[u8] =
 // text.
 fn found_rules(alloc: Global, text: &[u8]) -> Result<PruningRules, Fail> {
     let (kind, book) = read_book(alloc, text)?;
-    Ok(kind.find_pruning_rules(alloc, &book)?)
+    Ok(SearchedKind { kind }.find_pruning_rules(alloc, &book)?)
 }
 
 #[test]

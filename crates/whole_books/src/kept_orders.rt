@@ -4,7 +4,8 @@ ghost use Rattle.std.specs.Prelude.{◌≡◌, length, IfOk};
 
 use book_base::{Book, Cut, OpWord, Place};
 use frontier_check::{KeptOrder, check_after};
-use seq_objects::{DONE, NONE, Queue, value_reply};
+use kind_search::SearchedKind;
+use seq_objects::{DONE, Kind, NONE, value_reply};
 use std::alloc::Global;
 use std::test::Fail;
 
@@ -53,9 +54,9 @@ fn found_later(
     requires two { length book ≡ 2 }
     requires wide { length view ≡ 2 }
 {
-    let standing = check_after(alloc, &Queue, &book, None)?;
+    let standing = check_after(alloc, &SearchedKind { kind: Kind::Queue }, &book, None)?;
     book.add_answer(0, reply, view)?;
-    Ok(check_after(alloc, &Queue, &book, standing)?)
+    Ok(check_after(alloc, &SearchedKind { kind: Kind::Queue }, &book, standing)?)
 }
 
 // The first place of an order that was found, and how many places it has.

@@ -8,6 +8,8 @@ mod decisions;
 #[cfg(test)]
 mod found_pruning_rules;
 #[cfg(test)]
+mod impossible_replies;
+#[cfg(test)]
 mod kept_orders;
 #[cfg(test)]
 mod lanes;

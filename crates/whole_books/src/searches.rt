@@ -2,6 +2,7 @@
 use book_base::Place;
 use book_text::read_book;
 use frontier_check::{Guide, Verdict, check_from};
+use kind_search::SearchedKind;
 use seq_objects::{DONE, value_reply};
 use std::alloc::Global;
 use std::test::Fail;
@@ -21,7 +22,7 @@ const OF_A_STACK: &[u8] =
 // Whether a search that begins with the guide finds the book with this text legal.
 fn is_legal(alloc: Global, text: &[u8], guide: &mut Guide) -> Result<bool, Fail> {
     let (kind, book) = read_book(alloc, text)?;
-    let verdict = check_from(alloc, &kind, &book, guide)?;
+    let verdict = check_from(alloc, &SearchedKind { kind }, &book, guide)?;
     Ok(matches!(verdict, Verdict::Legal(_)))
 }
 

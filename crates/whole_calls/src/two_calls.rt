@@ -7,6 +7,7 @@ use book_base::{Cut, NoMemory, OpWord, Place};
 use drv_wrapper::ObjectPass;
 use enforcer::{Gathered, Judged, Outcome, Unjudged, enforce, enforce_after};
 use frontier_check::{Guide, KeptOrder};
+use kind_search::SearchedKind;
 use lawful_objects::{Entry, LogBox, LogPass, Machine, Plain};
 use row_table::{Bench, Caller, Rows, Steps};
 use seq_objects::{DONE, Kind};
@@ -210,7 +211,7 @@ fn call<M: Machine, L: Ledger>(
         rows,
         caller,
         op,
-        &Kind::Queue,
+        &SearchedKind { kind: Kind::Queue },
         object,
         &mut seat.pass,
         &mut seat.gathered,
@@ -267,7 +268,7 @@ fn call_after<M: Machine, L: Ledger>(
         rows,
         caller,
         op,
-        &Kind::Queue,
+        &SearchedKind { kind: Kind::Queue },
         object,
         &mut seat.pass,
         &mut seat.gathered,

@@ -6,6 +6,7 @@ ghost use Rattle.monitor.specs.Watching.{IsFresh};
 use crate::lossy_queue::{DEQUEUE, LossyPass, call, lose_an_item};
 use crate::table::{close_rows, open_rows};
 use book_base::NoMemory;
+use kind_search::SearchedKind;
 use monitor::{Board, Monitor, Round, Witness};
 use row_table::{Caller, Rows, Steps};
 use seq_objects::Kind;
@@ -28,7 +29,13 @@ fn look<L: Ledger>(
     requires { IsFresh ⟦<Outside as Program>⟧.meaning rows.now board.now monitor.old }
     ensures { IsLater ⟦<Outside as Program>⟧.meaning rows.now board.now monitor.old monitor.new }
 {
-    match monitor.round(alloc, &Kind::Queue, rows, board, steps) {
+    match monitor.round(
+        alloc,
+        &SearchedKind { kind: Kind::Queue },
+        rows,
+        board,
+        steps,
+    ) {
         Ok(Round::Legal(_)) => Some(false),
         Ok(Round::Illegal(_)) => Some(true),
         Err(NoMemory) => None,

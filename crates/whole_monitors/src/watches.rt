@@ -3,6 +3,7 @@ ghost use Rattle.std.specs.Prelude.{◌≡◌, ◌<◌};
 use crate::lossy_queue::{LossyPass, lose_an_item};
 use crate::two_monitors::shown;
 use book_base::NoMemory;
+use kind_search::SearchedKind;
 use monitor::{Left, watch_beside};
 use row_table::{Rows, Steps};
 use seq_objects::Kind;
@@ -56,7 +57,7 @@ fn watch_beside_a_door<L: Ledger, R: Threads + Sync>(
         alloc,
         &rows,
         &mut bench,
-        &Kind::Queue,
+        &SearchedKind { kind: Kind::Queue },
         &true,
         &mut doors,
         1,

@@ -9,8 +9,10 @@ use book_base::{Call, MAX_CALLERS, MAX_CALLS, NoMemory};
 use client_scripts::make_script;
 use core_objects::{CoreCell, CoreLog, CoreObject, CoreTally};
 use core_runs::run_core_fresh;
+use kind_search::SearchedKind;
 use report_lines::LineEnd;
 use reports::Report;
+use search_hints::SearchHints;
 use seq_objects::{DONE, Kind, NO, NONE, YES};
 use std::alloc::Global;
 use std::test::Fail;
@@ -110,7 +112,7 @@ fn run_made<R: Threads + Sync, O: CoreObject + Sync>(
     size: Size,
 ) -> Result<Option<Vec<u64>>, NoMemory>
 where
-    O::S: Sync,
+    O::S: SearchHints + Sync,
     O::P: Send + Sync,
     O::Pass: Send,
     requires { ArePassesFor (O.fits object.now) size.callers size.cap passes.old.items }
@@ -128,7 +130,7 @@ fn run_log<R: Threads + Sync>(
     kind: Kind,
     size: Size,
 ) -> Result<Option<Vec<u64>>, NoMemory> {
-    let (log, mut passes) = CoreLog::open(alloc, kind, size.callers, size.cap)?;
+    let (log, mut passes) = CoreLog::open(alloc, SearchedKind { kind }, size.callers, size.cap)?;
     run_made(rt, alloc, &log, &mut passes, kind, size)
 }
 

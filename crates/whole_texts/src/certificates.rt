@@ -1,6 +1,7 @@
 //! Certificates of reports, and orders that are found and accepted.
 use book_text::read_book;
 use certificate_text::has_accepted_order;
+use kind_search::SearchedKind;
 use report_text::read_report;
 use run_writer::report_certificate;
 use std::alloc::Global;
@@ -21,7 +22,13 @@ const NOT_LAWFUL: &[u8] =
 // The certificate of the report with this text, where it has one.
 fn certificate_of(alloc: Global, text: &[u8]) -> Result<Option<Vec<u8>>, Fail> {
     let report = read_report(alloc, text)?;
-    Ok(report_certificate(alloc, &report.kind(), &report)?)
+    Ok(report_certificate(
+        alloc,
+        &SearchedKind {
+            kind: report.kind(),
+        },
+        &report,
+    )?)
 }
 
 #[test]
@@ -41,11 +48,11 @@ fn an_order_that_is_found_is_accepted(rt: HostRuntime) -> Result<(), Fail> {
         rt.alloc(),
         b"book 2\nobject queue\ncallers 2\ncalls 1 1\n0 0 enq 5 done view 0:1 1:1\n1 0 deq =5 view 0:1 1:1\nend\n",
     )?;
-    assert!(rt; has_accepted_order(rt.alloc(), &kind, &book)?);
+    assert!(rt; has_accepted_order(rt.alloc(), &SearchedKind { kind }, &book)?);
     let (kind, book) = read_book(
         rt.alloc(),
         b"book 2\nobject queue\ncallers 1\ncalls 1\n0 0 deq =1 view 0:1\nend\n",
     )?;
-    assert!(rt; !has_accepted_order(rt.alloc(), &kind, &book)?);
+    assert!(rt; !has_accepted_order(rt.alloc(), &SearchedKind { kind }, &book)?);
     Ok(())
 }

@@ -1,9 +1,11 @@
-//! Tests of texts that are read and written, of reports, of pictures and of byte streams. They use
-//! several of the crates below this one.
+//! Tests of texts that are read and written, of reports, of pictures, of byte streams and of the
+//! texts of faults. They use several of the crates below this one.
 #![tactic(auto)]
 
 #[cfg(test)]
 mod certificates;
+#[cfg(test)]
+mod faults;
 #[cfg(test)]
 mod pictures;
 #[cfg(test)]

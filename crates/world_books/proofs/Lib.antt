@@ -5,7 +5,4 @@ pub mod LegalOrders
 pub mod Recording
 pub mod NoFalseErrors
 pub mod Judging
-pub mod Worked
-pub mod WorkedGathering
-pub mod WorkedLate
 pub mod RowBooks

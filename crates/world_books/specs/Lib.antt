@@ -2,5 +2,4 @@ pub mod Books
 pub mod Gathering
 pub mod Linearizing
 pub mod Verdicts
-pub mod Cases
 pub mod Rows

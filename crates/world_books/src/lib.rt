@@ -3,7 +3,6 @@
 #![tactic(auto)]
 
 pub mod books;
-pub mod cases;
 pub mod gathering;
 pub mod linearizing;
 pub mod rows;

@@ -1,15 +1,3 @@
 pub mod Indices
 pub mod Scans
-pub mod Linear
 pub mod Bounds
-pub mod Histories
-pub mod Moments
-pub mod OneCaller
-pub mod Spans
-pub mod Together
-pub mod Published
-pub mod Peeking
-pub mod Gathering
-pub mod Agreeing
-pub mod Steady
-pub mod WrongHistories

@@ -12,10 +12,3 @@ pub mod Calls
 pub mod Agreement
 pub mod Standing
 pub mod ScanLayout
-pub mod Schedules
-pub mod Refusals
-pub mod Histories
-pub mod SecondCalls
-pub mod OneCaller
-pub mod Parts
-pub mod WrongHistories

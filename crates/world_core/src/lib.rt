@@ -3,14 +3,10 @@
 
 mod course;
 mod local;
-pub mod parts;
 mod program;
 mod region;
 mod scan_core;
-pub mod schedules;
-pub mod second_calls;
 mod want;
-pub mod wrong_histories;
 
 pub use local::Local;
 pub use program::{InWorld, Outside, Program, Scrap};

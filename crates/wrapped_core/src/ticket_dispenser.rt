@@ -6,6 +6,7 @@ use book_base::{BAD, OpWord, SeqObject, State};
 use core_objects::{CoreObject, OneWordPass};
 use drv_wrapper::Announced;
 use row_table::Rows;
+use search_hints::SearchHints;
 use seq_objects::value_reply;
 use world_core::{InWorld, Program};
 
@@ -70,6 +71,8 @@ impl SeqObject for TicketDispenser {
         self.ticket(taken)
     }
 }
+
+impl SearchHints for TicketDispenser {}
 
 /// The program of a dispenser inside the world: a call that takes a ticket makes one object step,
 /// which adds 1 to the one object word. Each other call makes none.

@@ -1,5 +1,5 @@
 use Rattle.std.proofs.Common.{ap}
-use Rattle.book_base.specs.PruningRules.{Known}
+use Rattle.search_hints.specs.PruningRules.{Known}
 use Rattle.container_pruning.specs.declared.links.Discipline.TheVariants.{Queue}
 use Rattle.container_pruning.proofs.Linking.{links_name_calls}
 use Rattle.history_rules.proofs.QueueRuns.{queue_is_container}

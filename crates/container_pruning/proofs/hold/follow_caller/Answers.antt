@@ -1,6 +1,6 @@
 use Rattle.std.proofs.Common.{◌+◌, ◌∙◌, ap, sym, inl, inr, refl, arith}
 use Rattle.book_base.specs.Book.{Precedes}
-use Rattle.book_base.specs.PruningRules.{Known}
+use Rattle.search_hints.specs.PruningRules.{Known}
 use Rattle.container_pruning.specs.declared.links.Link.{Link}
 use Rattle.container_pruning.specs.Links.{link_at}
 use Rattle.container_pruning.specs.Pasts.{last_held}

@@ -1,5 +1,6 @@
 use Rattle.std.proofs.Common.{ℕ, ◌-◌, ◌∙◌, List, ap, sym, subst, arith}
-use Rattle.book_base.specs.PruningRules.{Known, HasEarly, MustComeFirst}
+use Rattle.book_base.specs.Reaching.{MustComeFirst}
+use Rattle.search_hints.specs.PruningRules.{Known, HasEarly}
 use Rattle.container_pruning.proofs.hold.hold_after.Goals as goal
 use Rattle.container_pruning.proofs.hold.hold_after.Goals.{then-count-gt0, else-count-gt0}
 

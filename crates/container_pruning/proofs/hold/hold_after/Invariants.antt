@@ -2,7 +2,8 @@ use Rattle.std.proofs.Common.{◌≡◌, ℕ, ◌<◌, List, get_or}
 use Rattle.book_base.specs.declared.call.Call.{Call}
 use Rattle.book_base.specs.SeqSpec.{SeqSpec}
 use Rattle.book_base.specs.Book.{Page}
-use Rattle.book_base.specs.PruningRules.{HasCallBound, ArePruningRules, MustComeFirst}
+use Rattle.book_base.specs.Reaching.{MustComeFirst}
+use Rattle.search_hints.specs.PruningRules.{HasCallBound, ArePruningRules}
 use Rattle.container_pruning.specs.Pasts.{last_held}
 use Rattle.container_pruning.proofs.hold.hold_after.Given as goal
 

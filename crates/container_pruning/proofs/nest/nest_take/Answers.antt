@@ -1,7 +1,7 @@
 use Rattle.std.proofs.Common.{◌≡◌, ℕ, List, Option, Some, IfSome, ◌∙◌, ap, sym, subst, inr, arith}
 use Rattle.book_base.specs.declared.call.Call.{Call}
 use Rattle.book_base.specs.Book.{IsCall, Precedes}
-use Rattle.book_base.specs.PruningRules.{Known}
+use Rattle.search_hints.specs.PruningRules.{Known}
 use Rattle.container_pruning.specs.declared.links.Link.{Link}
 use Rattle.container_pruning.specs.Nests.{Outlasts}
 use Rattle.container_pruning.proofs.Passing.{small_call}

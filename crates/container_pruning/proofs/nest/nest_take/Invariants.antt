@@ -2,7 +2,7 @@ use Rattle.std.proofs.Common.{◌≡◌}
 use Rattle.book_base.specs.declared.call.Call.{Call}
 use Rattle.book_base.specs.SeqSpec.{SeqSpec}
 use Rattle.book_base.specs.Book.{IsCall}
-use Rattle.book_base.specs.PruningRules.{HasCallBound, ArePruningRules}
+use Rattle.search_hints.specs.PruningRules.{HasCallBound, ArePruningRules}
 use Rattle.container_pruning.specs.Nests.{AreNested}
 use Rattle.container_pruning.proofs.nest.nest_take.Given as goal
 

@@ -1,4 +1,4 @@
-use Rattle.std.proofs.Common.{length, arith}
+use Rattle.std.proofs.Common.{arith}
 use Rattle.frontier_check.proofs.Following.{stands-fit}
 use Rattle.frontier_check.proofs.fresh.next_place.Goals as goal
 

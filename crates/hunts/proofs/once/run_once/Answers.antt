@@ -17,8 +17,8 @@ returns g c =
     let done = c.run_asked-report.ensures in
     if_ok_both c.run_asked-report.result _ _ _
     (λ (report : Findings) is counted. told_report g.B.Pass.ObjectPass.made g.B.Pass.ObjectPass.cap
-    g.B.Pass.ObjectPass.told c.args.script.now c.kind-kind.result _
+    g.B.Pass.ObjectPass.told c.args.script.now c.kind.result _
     (locals_on c.run_asked-report.new.bench) c.run_asked-report.new.passes.items report
-    c.kind-kind.ensures (outside_shapes _ _ _
+    c.kind.ensures (outside_shapes _ _ _
     (c.in_ok-rows.ensures.rows.0 ∙ c.callers.ensures.count) c.in_ok-rows.ensures.rows.1) is counted)
     done.report done.counted

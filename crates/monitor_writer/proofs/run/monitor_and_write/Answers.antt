@@ -9,17 +9,17 @@ use Rattle.monitor_writer.proofs.run.monitor_and_write.Goals as goal
 pub returns-in-Ok-clause-rounds : goal.returns-in-Ok-clause-rounds
 returns-in-Ok-clause-rounds g c some i before monitor there =
     subst (λ (kind : Kind). HasMonitored (kind_spec kind) c.args.script.now
-    (locals_on c.monitor_over.new.bench) i before) c.kind-kind.ensures
+    (locals_on c.monitor_over.new.bench) i before) c.kind.ensures
     (c.in-Ok.ensures.rounds i before monitor there)
 
 pub returns-in-Ok-clause-ends : goal.returns-in-Ok-clause-ends
 returns-in-Ok-clause-ends g c =
-    ends_of_run _ _ _ _ _ _ _ c.kind-kind.ensures c.in-Ok.ensures.answer c.write_answer.ensures.ends
+    ends_of_run _ _ _ _ _ _ _ c.kind.ensures c.in-Ok.ensures.answer c.write_answer.ensures.ends
 
 pub returns-in-Ok-clause-found : goal.returns-in-Ok-clause-found
-returns-in-Ok-clause-found g c illegal = found_of_run _ _ _ _ _ c.kind-kind.ensures
+returns-in-Ok-clause-found g c illegal = found_of_run _ _ _ _ _ c.kind.ensures
     c.in-Ok.ensures.answer c.write_answer.ensures.status illegal
 
 pub returns-in-Ok-clause-fine : goal.returns-in-Ok-clause-fine
-returns-in-Ok-clause-fine g c legal = fine_of_run _ _ _ _ _ c.kind-kind.ensures
+returns-in-Ok-clause-fine g c legal = fine_of_run _ _ _ _ _ c.kind.ensures
     c.in-Ok.ensures.answer c.write_answer.ensures.status legal

@@ -6,15 +6,15 @@ use Rattle.run_writer.proofs.run.replay_and_write.Goals as goal
 
 pub write_report-requires : goal.write_report-requires
 write_report-requires g c = record {
-  form = has_form (kind_spec c.kind-kind.result) _ c.args.form _ refl
+  form = has_form (kind_spec c.kind.result) _ c.args.form _ refl
       c.in-Ok.ensures.report.lawful;
 }
 
 pub returns-in-Ok-clause-ends : goal.returns-in-Ok-clause-ends
 returns-in-Ok-clause-ends g c =
-    RunEnds-from_report _ _ _ _ _ _ _ _ (ap kind_spec c.kind-kind.ensures)
+    RunEnds-from_report _ _ _ _ _ _ _ _ (ap kind_spec c.kind.ensures)
     (record {
-      report = by_its_kind _ _ _ _ _ _ c.kind-kind.ensures c.in-Ok.ensures.report;
+      report = by_its_kind _ _ _ _ _ _ c.kind.ensures c.in-Ok.ensures.report;
       told_in = c.in-Ok.ensures.told;
     })
     c.write_report.ensures.ends
@@ -22,7 +22,7 @@ returns-in-Ok-clause-ends g c =
 pub returns-in-Ok-clause-reported : goal.returns-in-Ok-clause-reported
 returns-in-Ok-clause-reported g c =
     ends_by_one _ _ _ c.replay_over.new.bench c.args.script.now _ _ _
-    (by_its_kind _ _ _ _ _ _ c.kind-kind.ensures c.in-Ok.ensures.report) c.in-Ok.ensures.free
+    (by_its_kind _ _ _ _ _ _ c.kind.ensures c.in-Ok.ensures.report) c.in-Ok.ensures.free
     c.write_report.ensures.found c.write_report.ensures.fine
 
 pub returns-in-Err-clause-reported : goal.returns-in-Err-clause-reported

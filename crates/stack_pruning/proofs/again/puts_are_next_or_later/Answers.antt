@@ -4,7 +4,7 @@ use Rattle.std.proofs.lemmas.Option.{slice_get_within}
 use Rattle.book_base.specs.declared.call.Record.{Record}
 use Rattle.book_base.specs.Book.{calls_of, record_of}
 use Rattle.book_base.specs.Next.{next_call}
-use Rattle.book_base.specs.Pruning.{IsMarked}
+use Rattle.search_hints.specs.Marks.{IsMarked}
 use Rattle.book_base.proofs.PageLemmas.{caller_from_call}
 use Rattle.history_rules.specs.Calls.{PutsIn}
 use Rattle.stack_pruning.proofs.NextOrLater.{view_below_calls, next_or_later}

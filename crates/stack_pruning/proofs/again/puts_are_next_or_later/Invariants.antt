@@ -1,5 +1,5 @@
 use Rattle.std.proofs.Common.{◌≡◌, ℕ, ◌<◌, ◌≤◌, get_or}
-use Rattle.book_base.specs.Pruning.{IsMarked}
+use Rattle.search_hints.specs.Marks.{IsMarked}
 use Rattle.history_rules.specs.Calls.{PutsIn}
 use Rattle.stack_pruning.proofs.again.puts_are_next_or_later.Given as goal
 

@@ -1,5 +1,5 @@
 use Rattle.std.proofs.Common.{ℕ, Option, sym, subst}
-use Rattle.book_base.specs.declared.marked_callers.MarkedCallers.{MarkedCallers}
+use Rattle.search_hints.specs.declared.marked_callers.MarkedCallers.{MarkedCallers}
 use Rattle.stack_pruning.proofs.Answering.{AreLeft, one_less_left}
 use Rattle.stack_pruning.proofs.forced.without_needless.Goals as goal
 use Rattle.stack_pruning.proofs.forced.without_needless.Goals.{then-has+then-puts_needless, else-has}

@@ -1,5 +1,5 @@
 use Rattle.std.proofs.Common.{refl, arith}
-use Rattle.book_base.proofs.PruningLemmas.{all_next_suffice}
+use Rattle.search_hints.proofs.PruningLemmas.{all_next_suffice}
 use Rattle.stack_pruning.proofs.Taking.{last_take_suffices}
 use Rattle.stack_pruning.proofs.Pairing.{paired_put_suffices}
 use Rattle.stack_pruning.proofs.Keeping.{kept_put_suffices}

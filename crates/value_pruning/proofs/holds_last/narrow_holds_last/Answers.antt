@@ -1,5 +1,5 @@
 use Rattle.std.proofs.Common.{ℕ, ◌⊎◌, refl, sym, subst, arith}
-use Rattle.book_base.specs.Pruning.{IsMarked}
+use Rattle.search_hints.specs.Marks.{IsMarked}
 use Rattle.value_pruning.specs.HoldsLast.{IsNeedless, WritesUnread}
 use Rattle.value_pruning.proofs.Writing.{unread_write_suffices, needed_suffice}
 use Rattle.value_pruning.proofs.holds_last.narrow_holds_last.Goals as goal

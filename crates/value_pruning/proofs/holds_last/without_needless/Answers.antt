@@ -1,5 +1,5 @@
 use Rattle.std.proofs.Common.{ℕ, sym, subst}
-use Rattle.book_base.specs.declared.marked_callers.MarkedCallers.{MarkedCallers}
+use Rattle.search_hints.specs.declared.marked_callers.MarkedCallers.{MarkedCallers}
 use Rattle.value_pruning.proofs.Writing.{AreNeeded, one_less_needed}
 use Rattle.value_pruning.proofs.holds_last.without_needless.Goals as goal
 use Rattle.value_pruning.proofs.holds_last.without_needless.Goals.{then-has+then-is_needless, else-has}

@@ -1,5 +1,5 @@
 use Rattle.std.proofs.Common.{ℕ, sym, subst}
-use Rattle.book_base.specs.declared.marked_callers.MarkedCallers.{MarkedCallers}
+use Rattle.search_hints.specs.declared.marked_callers.MarkedCallers.{MarkedCallers}
 use Rattle.value_pruning.proofs.Wanting.{AreWanted, one_less_wanted}
 use Rattle.value_pruning.proofs.least_first.without_unwanted.Goals as goal
 use Rattle.value_pruning.proofs.least_first.without_unwanted.Goals.{then-has+then-is_unwanted, else-has}

@@ -1,8 +1,8 @@
 use Rattle.std.proofs.Common.{◌≡◌, ◌∙◌, ℕ, List, [], ◌∷◌, ◌++◌, length, sym, ap, subst, arith}
 use Rattle.book_base.specs.declared.call.Place.{Place}
-use Rattle.book_base.specs.PruningRules.{IsInfeasible}
+use Rattle.book_base.specs.Reaching.{IsInfeasible}
 use Rattle.book_base.specs.Next.{next_call, MayComeNext}
-use Rattle.book_base.specs.Pruning.{IsMarked, MarksSuffice}
+use Rattle.search_hints.specs.Marks.{IsMarked, MarksSuffice}
 use Rattle.frontier_check.specs.declared.choice.Choice.{Choice}
 use Rattle.frontier_check.specs.Search.{AreChosen, IsOpen, places_of}
 use Rattle.frontier_check.proofs.Choosing.{chosen-next, unmarked-skip, infeasible-skip, open-from_chosen, open-from_once}

@@ -1,7 +1,8 @@
 use Rattle.std.proofs.Common.{ℕ, ◌<◌, List, Option, IfSome, inl, inr, subst, arith}
 use Rattle.std.proofs.lemmas.Bool.{ltb-true}
 use Rattle.book_base.specs.declared.call.Call.{Call}
-use Rattle.book_base.specs.PruningRules.{call_bound_of, IsBelow, HasEarly, IsInfeasible}
+use Rattle.book_base.specs.Reaching.{IsInfeasible}
+use Rattle.search_hints.specs.PruningRules.{call_bound_of, IsBelow, HasEarly}
 use Rattle.frontier_check.specs.Search.{IsRankIn}
 use Rattle.frontier_check.proofs.search.Search.is_infeasible.Goals as goal
 

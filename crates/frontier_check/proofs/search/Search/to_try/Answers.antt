@@ -1,4 +1,4 @@
-use Rattle.book_base.proofs.PruningLemmas.{all_next_suffice}
+use Rattle.search_hints.proofs.PruningLemmas.{all_next_suffice}
 use Rattle.frontier_check.proofs.search.Search.to_try.Goals as goal
 
 pub returns-in-None : goal.returns-in-None

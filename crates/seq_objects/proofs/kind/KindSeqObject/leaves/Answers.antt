@@ -1,5 +1,5 @@
 use Rattle.std.proofs.Common.{◌↔◌, IsTrue, sym, subst}
-use Rattle.book_base.specs.PruningRules.{Leaves}
+use Rattle.book_base.specs.Reaching.{Leaves}
 use Rattle.seq_objects.specs.Objects.{kind_next}
 use Rattle.seq_objects.proofs.kind.KindSeqObject.leaves.Goals as goal
 

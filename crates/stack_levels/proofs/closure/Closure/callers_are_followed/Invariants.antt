@@ -1,6 +1,6 @@
 use Rattle.std.proofs.Common.{ℕ, ◌<◌}
 use Rattle.book_base.specs.Next.{next_call}
-use Rattle.book_base.specs.Pruning.{IsMarked}
+use Rattle.search_hints.specs.Marks.{IsMarked}
 use Rattle.stack_levels.specs.Levels.{IsFollowed}
 use Rattle.stack_levels.specs.Tables.{layer_of, layers_of, nodes_of}
 use Rattle.stack_levels.proofs.closure.Closure.callers_are_followed.Given as goal

@@ -1,0 +1,43 @@
+-- Which cut and list an order reaches, which calls are infeasible there, which must come first,
+-- which operations are read-only with a reply, and which replies an operation may have.
+use Rattle.std.specs.Prelude.{◌≡◌, ℕ, ◌<◌, List, [], ◌∷◌, ◌++◌, map}
+use Rattle.book_base.specs.declared.call.Call.{Call}
+use Rattle.book_base.specs.declared.call.Place.{Place}
+use Rattle.book_base.specs.SeqSpec.{SeqSpec}
+use Rattle.book_base.specs.Cut.{Holds}
+use Rattle.book_base.specs.Book.{Page}
+use Rattle.book_base.specs.Order.{StandsAt, step_at, IsLegalOrder}
+
+-- the object's list after the operations of a run, applied in order from a first list on
+abbrev pub list_after_run : (List ℕ → ℕ → List ℕ × ℕ) → List ℕ → List (ℕ × ℕ) → List ℕ
+list_after_run next list [] = list
+list_after_run next list (step ∷ steps) = list_after_run next (next list step.0).0 steps
+
+-- An order reaches a cut and a list: the cut holds the calls that stand in the order and no others,
+-- and the list is the object's after them.
+pub record Reaches (spec : SeqSpec) (book : List Page) (order : List Place)
+    (cut list : List ℕ) : Type 0 where
+  pub holds : (k : ℕ) (call : Call) → StandsAt order k call → Holds cut call
+  pub held : (call : Call) → Holds cut call → (k : ℕ) × StandsAt order k call
+  pub reached : list_after_run spec.next spec.init (map (step_at book) order) ≡ list
+
+-- A call is infeasible next, after a cut and at a list: no legal order has it right after places
+-- that reach the cut and the list.
+abbrev pub IsInfeasible : SeqSpec → List Page → List ℕ → List ℕ → Call → Type 0
+IsInfeasible spec book cut list call = (before rest : List Place) (reply : ℕ)
+    → Reaches spec book before cut list
+    → IsLegalOrder spec book
+    (before ++ record { caller = call.caller; number = call.number; reply = reply } ∷ rest) → ⊥
+
+-- In every legal order where call b stands, call a stands before it.
+abbrev pub MustComeFirst : SeqSpec → List Page → Call → Call → Type 0
+MustComeFirst spec book a b = (order : List Place) → IsLegalOrder spec book order
+    → (q : ℕ) → StandsAt order q b → (p : ℕ) × (p < q) × StandsAt order p a
+
+-- An operation is read-only with this reply: it doesn't change any list at which it has the reply.
+abbrev pub Leaves : (List ℕ → ℕ → List ℕ × ℕ) → ℕ → ℕ → Type 0
+Leaves next op reply = (list : List ℕ) → (next list op).1 ≡ reply → (next list op).0 ≡ list
+
+-- An operation may have this reply: at some list the object gives it.
+abbrev pub MayReply : (List ℕ → ℕ → List ℕ × ℕ) → ℕ → ℕ → Type 0
+MayReply next op reply = (list : List ℕ) × ((next list op).1 ≡ reply)

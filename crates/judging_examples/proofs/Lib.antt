@@ -1,0 +1,5 @@
+pub mod LegalBooks
+pub mod SmallObjects
+pub mod BagBooks
+pub mod ClosedTables
+pub mod EvidenceBooks

@@ -1,0 +1,31 @@
+use Rattle.std.proofs.Common.{refl}
+use Rattle.std.specs.Fmt.{digits}
+use Rattle.seq_objects.specs.Words.{entries, entry_of, operation_words, operation_text}
+use Rattle.seq_objects.specs.Replies.{named_replies, named_reply, reply_word}
+use Rattle.seq_objects.specs.Objects.{kind_next}
+use Rattle.judging_examples.proofs.steps.worked_stack_steps.Goals as goal
+
+pub returns-clause-puts_at_the_end : goal.returns-clause-puts_at_the_end
+unfolding digits entries entry_of operation_words operation_text named_replies named_reply
+    reply_word kind_next
+returns-clause-puts_at_the_end c = record { text = refl; list = refl; reply = refl }
+
+pub returns-clause-takes_the_last : goal.returns-clause-takes_the_last
+unfolding digits entries entry_of operation_words operation_text named_replies named_reply
+    reply_word kind_next
+returns-clause-takes_the_last c = record { text = refl; list = refl; reply = refl }
+
+pub returns-clause-takes_the_low_bits : goal.returns-clause-takes_the_low_bits
+unfolding digits entries entry_of operation_words operation_text named_replies named_reply
+    reply_word kind_next
+returns-clause-takes_the_low_bits c = record { text = refl; list = refl; reply = refl }
+
+pub returns-clause-takes_none : goal.returns-clause-takes_none
+unfolding digits entries entry_of operation_words operation_text named_replies named_reply
+    reply_word kind_next
+returns-clause-takes_none c = record { text = refl; list = refl; reply = refl }
+
+pub returns-clause-leaves_an_unknown_word : goal.returns-clause-leaves_an_unknown_word
+unfolding digits entries entry_of operation_words operation_text named_replies named_reply
+    reply_word kind_next
+returns-clause-leaves_an_unknown_word c = record { text = refl; list = refl; reply = refl }

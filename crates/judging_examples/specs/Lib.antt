@@ -1,0 +1,10 @@
+pub mod Books
+pub mod SmallObjects
+pub mod Bags
+pub mod Piles
+pub mod Steps
+pub mod Runs
+pub mod KeyedCalls
+pub mod Joins
+pub mod SmallerBooks
+pub mod EvidenceBooks

@@ -1,0 +1,14 @@
+//! Small objects, books, tables and runs, written out, on which the definitions and laws of judging
+//! are seen to hold and to fail.
+#![tactic(auto)]
+
+pub mod bags;
+pub mod books;
+pub mod evidence;
+pub mod joins;
+pub mod keyed_calls;
+pub mod piles;
+pub mod runs;
+pub mod small_objects;
+pub mod smaller_books;
+pub mod steps;

@@ -1,0 +1,5 @@
+pub mod Readings
+pub mod Keys
+pub mod PqueueReading
+pub mod RegisterReading
+pub mod Seen

@@ -1,0 +1,3 @@
+pub mod WordHistories
+pub mod TallyTranscripts
+pub mod FaultyTranscripts

@@ -1,0 +1,3 @@
+pub mod ReportedRuns
+pub mod Workers
+pub mod WorkedReport

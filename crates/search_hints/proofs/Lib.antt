@@ -1,0 +1,2 @@
+pub mod PruningRuleLemmas
+pub mod PruningLemmas

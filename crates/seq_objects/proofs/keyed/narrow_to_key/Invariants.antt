@@ -1,8 +1,0 @@
-use Rattle.std.proofs.Common.{◌≡◌, Some}
-use Rattle.seq_objects.specs.Keys.{next_word}
-use Rattle.seq_objects.proofs.Narrowing.{KeptBelow}
-use Rattle.seq_objects.proofs.keyed.narrow_to_key.Given as goal
-
-abbrev pub invariant-loop-caller : goal.invariant-loop-caller
-invariant-loop-caller g l = KeptBelow
-    (λ i. g.K.Keyed.key_of l.object (next_word l.book l.cut i) ≡ Some l.key) l.marks l.caller l.kept

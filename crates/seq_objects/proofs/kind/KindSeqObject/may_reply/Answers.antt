@@ -1,0 +1,52 @@
+use Rattle.std.proofs.Common.{◌↔◌, IsTrue, sym, subst}
+use Rattle.book_base.specs.Reaching.{MayReply}
+use Rattle.seq_objects.specs.Objects.{kind_next}
+use Rattle.seq_objects.proofs.kind.KindSeqObject.may_reply.Goals as goal
+
+pub returns-in-Queue : goal.returns-in-Queue
+unfolding kind_next
+returns-in-Queue c =
+    subst (λ kind. IsTrue c.may_reply.result ↔ MayReply (kind_next kind) c.args.op c.args.reply)
+    (sym c.in-Queue.is) c.may_reply.ensures
+
+pub returns-in-Stack : goal.returns-in-Stack
+unfolding kind_next
+returns-in-Stack c =
+    subst (λ kind. IsTrue c.may_reply-in-Stack.result ↔ MayReply (kind_next kind) c.args.op c.args.reply)
+    (sym c.in-Stack.is) c.may_reply-in-Stack.ensures
+
+pub returns-in-Register : goal.returns-in-Register
+unfolding kind_next
+returns-in-Register c = subst
+    (λ kind. IsTrue c.may_reply-in-Register.result ↔ MayReply (kind_next kind) c.args.op c.args.reply)
+    (sym c.in-Register.is) c.may_reply-in-Register.ensures
+
+pub returns-in-Counter : goal.returns-in-Counter
+unfolding kind_next
+returns-in-Counter c = subst
+    (λ kind. IsTrue c.may_reply-in-Counter.result ↔ MayReply (kind_next kind) c.args.op c.args.reply)
+    (sym c.in-Counter.is) c.may_reply-in-Counter.ensures
+
+pub returns-in-IntSet : goal.returns-in-IntSet
+unfolding kind_next
+returns-in-IntSet c = subst
+    (λ kind. IsTrue c.may_reply-in-IntSet.result ↔ MayReply (kind_next kind) c.args.op c.args.reply)
+    (sym c.in-IntSet.is) c.may_reply-in-IntSet.ensures
+
+pub returns-in-Pqueue : goal.returns-in-Pqueue
+unfolding kind_next
+returns-in-Pqueue c = subst
+    (λ kind. IsTrue c.may_reply-in-Pqueue.result ↔ MayReply (kind_next kind) c.args.op c.args.reply)
+    (sym c.in-Pqueue.is) c.may_reply-in-Pqueue.ensures
+
+pub returns-in-CasRegister : goal.returns-in-CasRegister
+unfolding kind_next
+returns-in-CasRegister c = subst
+    (λ kind. IsTrue c.may_reply-in-CasRegister.result ↔ MayReply (kind_next kind) c.args.op c.args.reply)
+    (sym c.in-CasRegister.is) c.may_reply-in-CasRegister.ensures
+
+pub returns-in-Map : goal.returns-in-Map
+unfolding kind_next
+returns-in-Map c =
+    subst (λ kind. IsTrue c.may_reply-in-Map.result ↔ MayReply (kind_next kind) c.args.op c.args.reply)
+    (sym c.in-Map.is) c.may_reply-in-Map.ensures

@@ -1,0 +1,15 @@
+pub mod Agreeing
+pub mod Gathering
+pub mod Histories
+pub mod Linear
+pub mod Moments
+pub mod OneCaller
+pub mod Peeking
+pub mod Published
+pub mod Spans
+pub mod Steady
+pub mod Together
+pub mod WrongHistories
+pub mod JudgedRuns
+pub mod GatheredBook
+pub mod LateReturns
