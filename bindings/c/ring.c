@@ -1,7 +1,8 @@
 /* ring [watched]: a queue that checks itself at each call. It is a ring of four places, which forgets to ask whether it is
  * full: the fifth value goes over the first one, and the call that takes it is the error. Writes the witness of the error,
  * and ends with the status of the last call. With the word `watched` its calls are only published, and a monitor judges
- * them at the end. */
+ * them at the end. The header's selfcheck_announce, selfcheck_answered and selfcheck_publish have the
+ * fences round the ring's own calls. */
 #include "selfcheck.h"
 #include <pthread.h>
 #include <stdio.h>

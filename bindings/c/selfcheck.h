@@ -3,10 +3,15 @@
  *
  * Link libselfcheck_c.a, and behind it liblibc_c.a, by which it takes memory from malloc.
  *
- * Each call keeps no pointer to anything it is given. Any number of threads may call at once. What is asked of a
- * caller, and nothing checks: no pointer is null, not even that of an empty text or buffer; each points to as many
- * bytes as its length says; and what is written to (the buffer, `written`, the refusal, a slot) overlaps nothing else
- * that is given to the same call. The text is any bytes, of any length. */
+ * Each call keeps no pointer to anything it is given. Any number of threads may call at once. What
+ * is asked of a caller, and nothing checks: no pointer is null but that of a text, a kind or a
+ * buffer whose length is 0; each points to as many bytes as its length says; and what is written to
+ * (the buffer, `written`, the refusal, a slot) overlaps nothing else that is given to the same
+ * call. The text is any bytes, of any length.
+ *
+ * Some calls are inline functions of this header, each over the library's export of the same name:
+ * they put an empty text or buffer in the place of a null pointer, and fences round the object's
+ * own call. A program that calls the exports without this header sees to both. */
 #ifndef SELFCHECK_H
 #define SELFCHECK_H
 
@@ -17,10 +22,13 @@
 extern "C" {
 #endif
 
+/* An export takes no null pointer. */
+#define SELFCHECK_EXPORT __attribute__((nonnull))
+
 enum selfcheck_status {
     SELFCHECK_LEGAL = 0,     /* the book has a legal order; the certificate's list is one */
     SELFCHECK_DONE = 0,      /* the call did what it is for; a reply is delivered */
-    SELFCHECK_ILLEGAL = 1,   /* the book has none; the certificate's list isn't one; the object is wrong */
+    SELFCHECK_ILLEGAL = 1,   /* the book, or what is published, has none; the list isn't one */
     SELFCHECK_REFUSED = 3,   /* the text isn't one of the wanted form: the refusal says why */
     SELFCHECK_NO_MEMORY = 6, /* nothing is said of the text, or of the reply */
     SELFCHECK_NO_ROOM = 8,   /* the buffer is too short, and `written` says how long a one is needed */
@@ -43,16 +51,18 @@ struct selfcheck_refusal {
 };
 
 /* Whether the book with this text has a legal order. */
-uint32_t selfcheck_verify(const uint8_t *text, size_t length, struct selfcheck_refusal *refusal);
+SELFCHECK_EXPORT uint32_t selfcheck_verify(const uint8_t *text, size_t length,
+    struct selfcheck_refusal *refusal);
 
 /* Whether the list of the certificate with this text is a legal order of its book. */
-uint32_t selfcheck_order(const uint8_t *text, size_t length, struct selfcheck_refusal *refusal);
+SELFCHECK_EXPORT uint32_t selfcheck_order(const uint8_t *text, size_t length,
+    struct selfcheck_refusal *refusal);
 
 /* Writes the certificate of the book with this text into the buffer, and its length into `written`: the book's text
  * with a legal order of it, which selfcheck_order judges without a search. Where the status isn't SELFCHECK_LEGAL, the
  * buffer is as it was. A buffer of twice the text's length and 64 bytes is mostly long enough. */
-uint32_t selfcheck_certify(const uint8_t *text, size_t length, uint8_t *buffer, size_t room, size_t *written,
-                           struct selfcheck_refusal *refusal);
+SELFCHECK_EXPORT uint32_t selfcheck_certify(const uint8_t *text, size_t length, uint8_t *buffer,
+    size_t room, size_t *written, struct selfcheck_refusal *refusal);
 
 /* Writes into the buffer the text of a smaller book, and its length into `written`: a part of the book that the text gives,
  * which has no legal order and shows that the whole book has none, and which no rule makes smaller. The text is that of
@@ -60,22 +70,23 @@ uint32_t selfcheck_certify(const uint8_t *text, size_t length, uint8_t *buffer, 
  * the title of the book. ILLEGAL where the smaller book is in the buffer, LEGAL where the book has a legal order and there
  * is none, REFUSED, NO_MEMORY or NO_ROOM; but for ILLEGAL the buffer is as it was. As much room as the book takes in
  * version 2 should do, which no clause says; with NO_ROOM `written` says how much is needed. */
-uint32_t selfcheck_smaller(const uint8_t *text, size_t length, uint8_t *buffer, size_t room, size_t *written,
-                           struct selfcheck_refusal *refusal);
+SELFCHECK_EXPORT uint32_t selfcheck_smaller(const uint8_t *text, size_t length, uint8_t *buffer,
+    size_t room, size_t *written, struct selfcheck_refusal *refusal);
 
 /* Writes into the buffer the picture, as SVG, of the book that such a text gives, and its length into `written`. DONE,
  * REFUSED, NO_MEMORY or NO_ROOM; but for DONE the buffer is as it was. */
-uint32_t selfcheck_picture(const uint8_t *text, size_t length, uint8_t *buffer, size_t room, size_t *written,
-                           struct selfcheck_refusal *refusal);
+SELFCHECK_EXPORT uint32_t selfcheck_picture(const uint8_t *text, size_t length, uint8_t *buffer,
+    size_t room, size_t *written, struct selfcheck_refusal *refusal);
 
 /* Calls that check themselves. A table of callers stands beside an object: each caller announces a call there, makes the
  * object's own call, and hands in its reply, which is delivered, or is an error with a witness. Or callers hand in replies
  * that are published without a judgement, and monitors, which are callers of the table that make no calls, judge them in
  * rounds.
  *
- * A slot is a place for one handle: of a table, of one of its callers, or of one of its monitors. It is all zero before its first use, and then
- * the library alone writes to it. It isn't copied, but may be moved, and is given to one call at a time: threads that
- * pass it on order their calls by a lock, by a start or a join. While it has a handle, `in_use` is 1. */
+ * A slot is a place for one handle: of a table, of one of its callers, or of one of its monitors.
+ * It is all zero before its first use, and then the library alone writes to it. It isn't copied,
+ * but may be moved, and is given to one call at a time: threads that pass it on order their calls
+ * by a lock, by a start or a join. While it has a handle, `in_use` is 1. */
 struct selfcheck_slot {
     uint32_t in_use;
     void *at;
@@ -83,43 +94,52 @@ struct selfcheck_slot {
 
 /* Opens a table into an empty slot, for 1 to 16 callers with 1 to 256 calls each, whose calls are judged by the kind of
  * this name: "queue", "stack", "register", "counter", "set", "pqueue", "casreg" or "map". DONE, NO_MEMORY or UNFIT. */
-uint32_t selfcheck_open(const uint8_t *kind, size_t length, uint32_t callers, uint64_t calls, struct selfcheck_slot *slot);
+SELFCHECK_EXPORT uint32_t selfcheck_open(const uint8_t *kind, size_t length, uint32_t callers,
+    uint64_t calls, struct selfcheck_slot *slot);
 
 /* Puts the next caller of a table into an empty slot. UNFIT where there is none left. A caller goes on after its table's
  * slot is dropped. DONE, NO_MEMORY or UNFIT. */
-uint32_t selfcheck_caller(struct selfcheck_slot *table, struct selfcheck_slot *slot);
+SELFCHECK_EXPORT uint32_t selfcheck_caller(struct selfcheck_slot *table,
+    struct selfcheck_slot *slot);
 
 /* Puts the next caller of a table as a monitor into an empty slot: else as selfcheck_caller. DONE, NO_MEMORY or UNFIT. */
-uint32_t selfcheck_monitor(struct selfcheck_slot *table, struct selfcheck_slot *slot);
+SELFCHECK_EXPORT uint32_t selfcheck_monitor(struct selfcheck_slot *table,
+    struct selfcheck_slot *slot);
 
 /* Announces a call of the caller: to be written right before the object's own. `low` is selfcheck_word of the operation
  * and its first argument, `high` its second argument, or 0. UNFIT where a call is announced already, where the caller
  * has made all its calls, and after an error; then the object isn't to be asked. DONE or UNFIT. */
-uint32_t selfcheck_announce(struct selfcheck_slot *caller, uint64_t low, uint64_t high);
+SELFCHECK_EXPORT uint32_t selfcheck_announce(struct selfcheck_slot *caller, uint64_t low,
+    uint64_t high);
 
-/* Hands in the object's reply to the announced call: to be written right after the object's own. DONE: the calls that
- * are published and that the caller has seen, its own among them, have a legal order, and the reply is delivered.
- * ILLEGAL: they have none, and the object is wrong. NO_MEMORY: the reply isn't checked, but others see it. After these
- * two the caller makes no further call. UNFIT where no call is announced. */
-uint32_t selfcheck_answered(struct selfcheck_slot *caller, uint64_t reply);
+/* Hands in the object's reply to the announced call: to be written right after the object's own.
+ * DONE: the calls that are published and that the caller has seen, its own among them, have a legal
+ * order, and the reply is delivered. ILLEGAL: they have none, and the object is wrong, if it began
+ * as its kind does, and each of its calls was made between the announcement and the reply of a
+ * caller of this table, with the fences of this header. NO_MEMORY: the reply isn't checked, but
+ * others see it. After these two the caller makes no further call. UNFIT where no call is
+ * announced. */
+SELFCHECK_EXPORT uint32_t selfcheck_answered(struct selfcheck_slot *caller, uint64_t reply);
 
 /* Hands in the object's reply to the announced call, in place of selfcheck_answered, and publishes the call without a
  * judgement: that is for monitors. The caller may then make its next call. DONE, or UNFIT where no call is announced. */
-uint32_t selfcheck_publish(struct selfcheck_slot *caller, uint64_t reply);
+SELFCHECK_EXPORT uint32_t selfcheck_publish(struct selfcheck_slot *caller, uint64_t reply);
 
-/* Makes a round of a monitor: judges all calls that are published. LEGAL: they have a legal order. ILLEGAL: they have none,
- * the object is wrong, and the monitor has the witness. NO_MEMORY: nothing is judged, and a further round may judge it.
- * UNFIT where the slot has no monitor, and after ILLEGAL. */
-uint32_t selfcheck_judge(struct selfcheck_slot *monitor);
+/* Makes a round of a monitor: judges all calls that are published. LEGAL: they have a legal order.
+ * ILLEGAL: they have none, the object is wrong where it would be by selfcheck_answered, and the
+ * monitor has the witness. NO_MEMORY: nothing is judged, and a further round may judge it. UNFIT
+ * where the slot has no monitor, and after ILLEGAL. */
+SELFCHECK_EXPORT uint32_t selfcheck_judge(struct selfcheck_slot *monitor);
 
 /* Writes into the buffer the witness of a caller's or a monitor's error, the text of a book that has no legal order, and its
  * length into `written`. DONE, NO_MEMORY, NO_ROOM, or UNFIT where the caller's last call, or the monitor's last round,
  * wasn't ILLEGAL; but for DONE the buffer is as it was. */
-uint32_t selfcheck_witness(struct selfcheck_slot *holder, uint8_t *buffer, size_t room, size_t *written);
+SELFCHECK_EXPORT uint32_t selfcheck_witness(struct selfcheck_slot *holder, uint8_t *buffer,
+    size_t room, size_t *written);
 
 /* Lets the slot's handle go; an announced call stays unanswered. The slot is then empty. A table's memory is freed with
  * the last of its slots. DONE, or UNFIT where it was empty. */
-uint32_t selfcheck_drop(struct selfcheck_slot *slot);
+SELFCHECK_EXPORT uint32_t selfcheck_drop(struct selfcheck_slot *slot);
 
 /* The operations of each kind. */
 enum selfcheck_operation {
@@ -148,14 +168,109 @@ static inline uint64_t selfcheck_reply_value(uint32_t value) {
     return ((uint64_t)2 << 32) + value;
 }
 
-/* The name of what is wrong, as the program selfcheck writes it. */
+/* The name of what is wrong, as the program selfcheck writes it; "?" where no fault has this
+ * number. */
 static inline const char *selfcheck_name(uint32_t what) {
-    static const char *const names[] = {
+    static const char *const names[SELFCHECK_REST + 1] = {
         "Long", "Cut", "Head", "Object", "Callers", "Calls", "Place", "Op", "Gap", "Reply", "View", "ViewOutside",
         "ViewLacksOwn", "ViewHasLater", "ViewsCross", "Mark", "Seen", "Last", "Stop", "Turns", "End", "Rest",
     };
-    return names[what];
+    return what <= SELFCHECK_REST ? names[what] : "?";
 }
+
+/* The fences round the object's own call: the first one between the announcement and the call, the
+ * second one between the call and what hands in its reply. The inline functions below have them.
+ *
+ * That call A ended before call B began is known by a load of A's view that found B's old count.
+ * Such a load orders no other access. What A stored in the object with release order may still lie
+ * in the store buffer of A's processor while the loads of A's view pass it. Then B announces
+ * itself, asks the object, misses that store, and a right object is judged wrong: a ring for one
+ * producer and one consumer is such an object. The fences are part of the program, since a fence of
+ * the library orders nothing against weaker accesses in C. */
+static inline void selfcheck_before_object(void) {
+    __atomic_thread_fence(__ATOMIC_SEQ_CST);
+}
+
+static inline void selfcheck_after_object(void) {
+    __atomic_thread_fence(__ATOMIC_SEQ_CST);
+}
+
+static inline uint32_t selfcheck_announce_inline(struct selfcheck_slot *caller, uint64_t low,
+    uint64_t high) {
+    uint32_t status = selfcheck_announce(caller, low, high);
+    selfcheck_before_object();
+    return status;
+}
+
+static inline uint32_t selfcheck_answered_inline(struct selfcheck_slot *caller, uint64_t reply) {
+    selfcheck_after_object();
+    return selfcheck_answered(caller, reply);
+}
+
+static inline uint32_t selfcheck_publish_inline(struct selfcheck_slot *caller, uint64_t reply) {
+    selfcheck_after_object();
+    return selfcheck_publish(caller, reply);
+}
+
+/* What an export is given for a text of this length. */
+static inline const uint8_t *selfcheck_text(const uint8_t *text, size_t length) {
+    return length == 0 ? (const uint8_t *)"" : text;
+}
+
+/* What an export is given for a buffer of this length. */
+static inline uint8_t *selfcheck_buffer(uint8_t *buffer, size_t room) {
+    static uint8_t none;
+    return room == 0 ? &none : buffer;
+}
+
+static inline uint32_t selfcheck_verify_inline(const uint8_t *text, size_t length,
+    struct selfcheck_refusal *refusal) {
+    return selfcheck_verify(selfcheck_text(text, length), length, refusal);
+}
+
+static inline uint32_t selfcheck_order_inline(const uint8_t *text, size_t length,
+    struct selfcheck_refusal *refusal) {
+    return selfcheck_order(selfcheck_text(text, length), length, refusal);
+}
+
+static inline uint32_t selfcheck_certify_inline(const uint8_t *text, size_t length, uint8_t *buffer,
+    size_t room, size_t *written, struct selfcheck_refusal *refusal) {
+    text = selfcheck_text(text, length);
+    return selfcheck_certify(text, length, selfcheck_buffer(buffer, room), room, written, refusal);
+}
+
+static inline uint32_t selfcheck_smaller_inline(const uint8_t *text, size_t length, uint8_t *buffer,
+    size_t room, size_t *written, struct selfcheck_refusal *refusal) {
+    text = selfcheck_text(text, length);
+    return selfcheck_smaller(text, length, selfcheck_buffer(buffer, room), room, written, refusal);
+}
+
+static inline uint32_t selfcheck_picture_inline(const uint8_t *text, size_t length, uint8_t *buffer,
+    size_t room, size_t *written, struct selfcheck_refusal *refusal) {
+    text = selfcheck_text(text, length);
+    return selfcheck_picture(text, length, selfcheck_buffer(buffer, room), room, written, refusal);
+}
+
+static inline uint32_t selfcheck_open_inline(const uint8_t *kind, size_t length, uint32_t callers,
+    uint64_t calls, struct selfcheck_slot *slot) {
+    return selfcheck_open(selfcheck_text(kind, length), length, callers, calls, slot);
+}
+
+static inline uint32_t selfcheck_witness_inline(struct selfcheck_slot *holder, uint8_t *buffer,
+    size_t room, size_t *written) {
+    return selfcheck_witness(holder, selfcheck_buffer(buffer, room), room, written);
+}
+
+#define selfcheck_announce selfcheck_announce_inline
+#define selfcheck_answered selfcheck_answered_inline
+#define selfcheck_publish selfcheck_publish_inline
+#define selfcheck_verify selfcheck_verify_inline
+#define selfcheck_order selfcheck_order_inline
+#define selfcheck_certify selfcheck_certify_inline
+#define selfcheck_smaller selfcheck_smaller_inline
+#define selfcheck_picture selfcheck_picture_inline
+#define selfcheck_open selfcheck_open_inline
+#define selfcheck_witness selfcheck_witness_inline
 
 #ifdef __cplusplus
 }

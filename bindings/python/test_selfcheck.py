@@ -2,6 +2,8 @@
 
 import collections
 import os
+import subprocess
+import sys
 import threading
 import unittest
 
@@ -18,6 +20,17 @@ def record(kind, count, work):
     for thread in threads:
         thread.join()
     return recorder.book()
+
+
+class Library(unittest.TestCase):
+    def test_missing(self):
+        script = "try:\n    import selfcheck\nexcept ImportError as error:\n    print(error)\n"
+        nowhere = {**os.environ, "SELFCHECK_SO": "/nowhere/libselfcheck.so"}
+        said = subprocess.check_output([sys.executable, "-c", script], env=nowhere, text=True)
+        cause, build, name = said.splitlines()
+        self.assertIn("/nowhere/libselfcheck.so", cause)
+        self.assertIn("bindings/try", build)
+        self.assertIn("SELFCHECK_SO", name)
 
 
 class Texts(unittest.TestCase):

@@ -54,7 +54,14 @@ class _Refusal(ctypes.Structure):
 _TEXT = [ctypes.c_char_p, ctypes.c_size_t]
 _BUFFER = [ctypes.c_char_p, ctypes.c_size_t, ctypes.POINTER(ctypes.c_size_t)]
 _HERE = os.path.join(os.path.dirname(os.path.abspath(__file__)), "libselfcheck.so")
-_library = ctypes.CDLL(os.environ.get("SELFCHECK_SO", _HERE))
+try:
+    _library = ctypes.CDLL(os.environ.get("SELFCHECK_SO", _HERE))
+except OSError as error:
+    raise ImportError(
+        f"{error}\n"
+        "bindings/try proves and builds the library, and then pip install puts it beside this module;\n"
+        "or SELFCHECK_SO names the shared library, where it is elsewhere"
+    ) from error
 for _name, _more in [
     ("selfcheck_verify", []),
     ("selfcheck_order", []),

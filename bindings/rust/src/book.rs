@@ -8,7 +8,7 @@ use std::fmt;
 use std::marker::PhantomData;
 
 /// What the callers of an object did. Its text is a book of version 2, which `selfcheck verify` reads too.
-#[derive(Clone, Debug, PartialEq, Eq)]
+#[derive(Clone, Debug)]
 pub struct Book<K: Kind> {
     text: String,
     calls: usize,
@@ -97,6 +97,15 @@ impl<K: Kind> Book<K> {
         picture(&self.text)
     }
 }
+
+// Written out, since what is derived would compare only where the kind does.
+impl<K: Kind> PartialEq for Book<K> {
+    fn eq(&self, other: &Book<K>) -> bool {
+        self.text == other.text
+    }
+}
+
+impl<K: Kind> Eq for Book<K> {}
 
 /// The text of version 2.
 impl<K: Kind> fmt::Display for Book<K> {

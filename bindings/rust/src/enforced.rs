@@ -1,5 +1,6 @@
 //! Calls that check themselves: an object with a table beside it, in which each call is announced and judged.
 
+use crate::asked::Asked;
 use crate::book::Book;
 use crate::kind::{Kind, Operation};
 use crate::library::{Announced, Answer, Idle, Lack, Table};
@@ -7,7 +8,8 @@ use crate::reply::Reply;
 use std::error::Error;
 use std::fmt;
 use std::marker::PhantomData;
-use std::sync::{Arc, Mutex, PoisonError};
+use std::mem::discriminant;
+use std::sync::{Mutex, PoisonError};
 
 /// An object whose calls check themselves.
 ///
@@ -43,8 +45,10 @@ use std::sync::{Arc, Mutex, PoisonError};
 /// # Ok::<_, Box<dyn std::error::Error>>(())
 /// ```
 ///
-/// The object is to be as its kind is at first, and to be called through its callers alone. A call of an unknown end
-/// isn't waited for: where the object panics, the call stays unanswered, and the others go on.
+/// The object is to be as its kind is at first, and to be called through its callers alone. It may
+/// use any memory order that is right for it: each of its calls stands between two fences. A call
+/// of an unknown end isn't waited for: where the object panics, the call stays unanswered, and the
+/// others go on.
 ///
 /// **What it says.** That a reply is delivered only where the published calls that its caller has seen have a legal
 /// order, and that an error's book has none, is proved, of the table and of the judgement. That the object was asked
@@ -52,12 +56,14 @@ use std::sync::{Arc, Mutex, PoisonError};
 /// tested. Wrong replies whose calls overlap may be delivered, as [`Recorder`](crate::Recorder) may miss them, and here
 /// the intervals are wider, since a call ends with its look at the table.
 ///
-/// **What it costs.** A call looks at all callers of the table several times, and judges: some microseconds, more the more
-/// callers and calls there are. A table is full after its calls, 16 callers by 256 at the most. A recorder costs less
-/// and sees more; what is here is an error at the call itself, and a reply that is held back. Each caller judges its own
-/// calls; of a [`Monitored`](crate::Monitored) object the calls are only published, and monitors judge them.
+/// **What it costs.** A call looks at all callers of the table several times, and judges: some
+/// microseconds, more the more callers and calls there are. A table is full after its calls, 16
+/// callers by 256 at the most. A recorder costs less, and fewer wrong replies pass it; what is here
+/// is an error at the call itself, and a reply that is held back. Each caller judges its own calls;
+/// of a [`Monitored`](crate::Monitored) object the calls are only published, and monitors judge
+/// them.
 pub struct Enforced<K: Kind, O> {
-    object: Arc<O>,
+    object: Asked<O>,
     table: Mutex<Table>,
     kind: PhantomData<K>,
 }
@@ -76,7 +82,7 @@ pub struct Enforced<K: Kind, O> {
 /// }
 /// ```
 pub struct EnforcedCaller<K: Kind, O> {
-    object: Arc<O>,
+    object: Asked<O>,
     // None where it makes no further call
     idle: Option<Idle>,
     kind: PhantomData<fn() -> K>,
@@ -125,7 +131,7 @@ impl fmt::Display for CallerError {
 impl Error for CallerError {}
 
 /// Why a call gave no reply.
-#[derive(Clone, Debug, PartialEq, Eq)]
+#[derive(Clone, Debug)]
 #[non_exhaustive]
 pub enum CallError<K: Kind> {
     /// The object is wrong: the published calls that the caller has seen, its own among them, have no legal order. They
@@ -155,6 +161,19 @@ impl<K: Kind> fmt::Display for CallError<K> {
 }
 
 impl<K: Kind> Error for CallError<K> {}
+
+// Written out for the reason that it is for a book.
+impl<K: Kind> PartialEq for CallError<K> {
+    fn eq(&self, other: &CallError<K>) -> bool {
+        match (self, other) {
+            (CallError::Illegal(one), CallError::Illegal(other)) => one == other,
+            (CallError::Unjudged(one), CallError::Unjudged(other)) => one == other,
+            _ => discriminant(self) == discriminant(other),
+        }
+    }
+}
+
+impl<K: Kind> Eq for CallError<K> {}
 
 /// Why a call wasn't made: the object wasn't asked.
 #[derive(Clone, Copy, Debug, PartialEq, Eq)]
@@ -230,7 +249,7 @@ impl<K: Kind, O> Enforced<K, O> {
     pub fn new(object: O, callers: usize, calls: usize) -> Result<Enforced<K, O>, OpenError> {
         let table = open::<K>(callers, calls)?;
         Ok(Enforced {
-            object: Arc::new(object),
+            object: Asked::new(object),
             table: Mutex::new(table),
             kind: PhantomData,
         })
@@ -246,7 +265,7 @@ impl<K: Kind, O> Enforced<K, O> {
         let mut table = self.table.lock().unwrap_or_else(PoisonError::into_inner);
         let idle = table.caller()?;
         Ok(EnforcedCaller {
-            object: Arc::clone(&self.object),
+            object: self.object.share(),
             idle: Some(idle),
             kind: PhantomData,
         })
@@ -268,7 +287,7 @@ impl<K: Kind, O> EnforcedCaller<K, O> {
         ask: impl FnOnce(&O) -> R,
     ) -> Result<R, CallError<K>> {
         let announced = announce(&mut self.idle, op.word())?;
-        let reply = ask(&self.object);
+        let reply = self.object.ask(ask);
         match announced.answered(reply.into().word()) {
             Answer::Delivered(idle) => {
                 self.idle = Some(idle);

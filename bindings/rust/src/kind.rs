@@ -2,8 +2,26 @@
 
 use std::fmt;
 
+mod sealed {
+    /// What the kinds of this crate and their operations have, and no other type can.
+    pub trait Sealed {}
+}
+
 /// A kind of object, by whose sequential rules the calls are judged.
-pub trait Kind: Copy + fmt::Debug + 'static {
+///
+/// The kinds are those of this crate, since the library refuses a book of any other:
+///
+/// ```compile_fail,E0277
+/// #[derive(Clone, Copy, Debug)]
+/// struct Mine;
+///
+/// impl selfcheck::Kind for Mine {
+///     const NAME: &'static str = "mine";
+///
+///     type Op = selfcheck::CounterOp;
+/// }
+/// ```
+pub trait Kind: sealed::Sealed + Copy + fmt::Debug + 'static {
     /// Its name in a book.
     const NAME: &'static str;
 
@@ -12,7 +30,24 @@ pub trait Kind: Copy + fmt::Debug + 'static {
 }
 
 /// An operation of a kind. It is displayed as a book has it.
-pub trait Operation: Copy + fmt::Debug + fmt::Display + Send {
+///
+/// ```compile_fail,E0277
+/// #[derive(Clone, Copy, Debug)]
+/// struct Mine;
+///
+/// impl std::fmt::Display for Mine {
+///     fn fmt(&self, f: &mut std::fmt::Formatter<'_>) -> std::fmt::Result {
+///         f.write_str("mine")
+///     }
+/// }
+///
+/// impl selfcheck::Operation for Mine {
+///     fn word(self) -> u128 {
+///         1 << 32
+///     }
+/// }
+/// ```
+pub trait Operation: sealed::Sealed + Copy + fmt::Debug + fmt::Display + Send {
     /// The word that stands for it in a table of callers: its code, the first argument and the second, 32 bits each
     /// from bit 32, 0 and 64 on.
     fn word(self) -> u128;
@@ -36,6 +71,8 @@ macro_rules! kinds {
         #[derive(Clone, Copy, Debug, PartialEq, Eq, Hash)]
         pub enum $kind {}
 
+        impl sealed::Sealed for $kind {}
+
         impl Kind for $kind {
             const NAME: &'static str = $name;
 
@@ -47,6 +84,8 @@ macro_rules! kinds {
         pub enum $operations {
             $($(#[$does])* $op $(($(kinds!(@value $argument)),+))?,)+
         }
+
+        impl sealed::Sealed for $operations {}
 
         impl Operation for $operations {
             fn word(self) -> u128 {

@@ -29,13 +29,18 @@
 //! with a book that has no legal order. The calls of a [`Monitored`] object are only published, and a [`Monitor`] judges
 //! them in rounds. An illegal book is made small by [`Book::smaller`], and drawn by [`Book::picture`].
 //!
+//! Code that uses the types of [`schedule`] in place of the standard library's runs one thread at a time, by a seed, and
+//! [`hunt()`] makes random calls of an object under such schedules, until one is wrong; what it finds comes again.
+//!
 //! **What it says.** The verdict on a book is proved. The recorder is tested: a book that it makes is always a
 //! text of a book, and where the book has no legal order, the recorded run wasn't linearizable. A run of a wrong
 //! object may be legal all the same: the threads didn't meet in the wrong way, or the recorded intervals, which
-//! are a little wider than the calls, hide it. Nothing is promised of schedules, so record many short runs.
+//! are a little wider than the calls, hide it. Nothing is promised of schedules, so record many short runs, or hunt.
 #![deny(unsafe_code)]
 #![warn(missing_docs)]
 
+#[forbid(unsafe_code)]
+mod asked;
 #[forbid(unsafe_code)]
 mod book;
 #[forbid(unsafe_code)]
@@ -44,6 +49,8 @@ mod calls;
 mod enforced;
 #[forbid(unsafe_code)]
 mod fault;
+#[forbid(unsafe_code)]
+pub mod hunt;
 #[forbid(unsafe_code)]
 mod kind;
 #[allow(unsafe_code)]
@@ -58,10 +65,13 @@ mod objects;
 mod recorder;
 #[forbid(unsafe_code)]
 mod reply;
+#[forbid(unsafe_code)]
+pub mod schedule;
 
 pub use book::Book;
 pub use enforced::{CallError, CallerError, Enforced, EnforcedCaller, NotMade, OpenError};
 pub use fault::{Fault, Verdict, What};
+pub use hunt::hunt;
 pub use kind::{
     CasRegister, CasRegisterOp, Counter, CounterOp, Kind, Map, MapOp, Operation, PriorityQueue,
     PriorityQueueOp, Queue, QueueOp, Register, RegisterOp, Set, SetOp, Stack, StackOp,

@@ -241,9 +241,50 @@ pub fn picture(text: impl AsRef<[u8]>) -> Result<String, Fault> {
     }
 }
 
-// SAFETY: what a slot owns may be used by any thread, which the library proves of its handles (`crossing.rt` of
-// `selfcheck_c`), and each call takes the slot by `&mut`.
+// SAFETY: what a slot owns may be used by any thread, which the library proves of its handles
+// (`crossing.rt` of `selfcheck_c`), and one call at a time has the slot: the exports take it by
+// `&mut`, and there is no second one of it.
 unsafe impl Send for Slot {}
+
+// What the safety rests on, for each export that is given a slot whose handle goes from thread to
+// thread.
+const _: [unsafe extern "C" fn(&mut Slot) -> u32; 2] = [selfcheck_judge, selfcheck_drop];
+const _: [unsafe extern "C" fn(&mut Slot, &mut Slot) -> u32; 2] =
+    [selfcheck_caller, selfcheck_monitor];
+const _: unsafe extern "C" fn(&mut Slot, u64, u64) -> u32 = selfcheck_announce;
+const _: [unsafe extern "C" fn(&mut Slot, u64) -> u32; 2] = [selfcheck_answered, selfcheck_publish];
+const _: unsafe extern "C" fn(&mut Slot, *mut u8, usize, &mut usize) -> u32 = selfcheck_witness;
+
+// Compiles only where a type lacks a trait: else the path below might mean either of two impls.
+macro_rules! lacks {
+    ($($type:ty: $($trait:path),+;)+) => {$($(
+        const _: fn() = || {
+            trait Lacks<By> {
+                fn it() {}
+            }
+
+            struct ByAll;
+
+            struct ByTrait;
+
+            impl<T: ?Sized> Lacks<ByAll> for T {}
+
+            impl<T: ?Sized + $trait> Lacks<ByTrait> for T {}
+
+            <$type as Lacks<_>>::it();
+        };
+    )+)+};
+}
+
+// A slot, and what has one, is neither copied nor shared by threads.
+lacks! {
+    Slot: Sync, Clone, Copy;
+    Table: Sync, Clone, Copy;
+    Idle: Sync, Clone, Copy;
+    Announced: Sync, Clone, Copy;
+    Wrong: Sync, Clone, Copy;
+    Watching: Sync, Clone, Copy;
+}
 
 impl Slot {
     fn empty() -> Slot {

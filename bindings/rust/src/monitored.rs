@@ -1,5 +1,6 @@
 //! Objects whose calls are published in a table beside them, and monitors that judge what is published.
 
+use crate::asked::Asked;
 use crate::book::Book;
 use crate::enforced::{CallerError, NotMade, OpenError, announce, open};
 use crate::kind::{Kind, Operation};
@@ -8,7 +9,8 @@ use crate::reply::Reply;
 use std::error::Error;
 use std::fmt;
 use std::marker::PhantomData;
-use std::sync::{Arc, Mutex, MutexGuard, PoisonError};
+use std::mem::discriminant;
+use std::sync::{Mutex, MutexGuard, PoisonError};
 
 /// An object whose calls are published, and that monitors judge.
 ///
@@ -56,7 +58,7 @@ use std::sync::{Arc, Mutex, MutexGuard, PoisonError};
 /// tested. Wrong replies whose calls overlap may be right in some order, as with [`Enforced`](crate::Enforced). Nothing
 /// is promised of when a monitor makes its rounds: a last one after all callers have ended judges every call.
 pub struct Monitored<K: Kind, O> {
-    object: Arc<O>,
+    object: Asked<O>,
     places: Mutex<Places>,
     kind: PhantomData<K>,
 }
@@ -72,7 +74,7 @@ struct Places {
 /// One caller of an object that monitors judge, for one thread at a time. Its place in the table isn't given again where
 /// it is dropped.
 pub struct MonitoredCaller<K: Kind, O> {
-    object: Arc<O>,
+    object: Asked<O>,
     // None where it makes no further call
     idle: Option<Idle>,
     kind: PhantomData<fn() -> K>,
@@ -91,7 +93,7 @@ enum Stage {
 }
 
 /// Why a round of a monitor isn't legal.
-#[derive(Clone, Debug, PartialEq, Eq)]
+#[derive(Clone, Debug)]
 #[non_exhaustive]
 pub enum JudgeError<K: Kind> {
     /// The object is wrong: the calls that were published at this round's cut, or at an earlier one's, have no legal
@@ -115,6 +117,18 @@ impl<K: Kind> fmt::Display for JudgeError<K> {
 
 impl<K: Kind> Error for JudgeError<K> {}
 
+// Written out for the reason that it is for a book.
+impl<K: Kind> PartialEq for JudgeError<K> {
+    fn eq(&self, other: &JudgeError<K>) -> bool {
+        match (self, other) {
+            (JudgeError::Illegal(one), JudgeError::Illegal(other)) => one == other,
+            _ => discriminant(self) == discriminant(other),
+        }
+    }
+}
+
+impl<K: Kind> Eq for JudgeError<K> {}
+
 impl<K: Kind, O> Monitored<K, O> {
     /// The object with a table for so many callers, with so many calls each, and so many monitors.
     ///
@@ -133,7 +147,7 @@ impl<K: Kind, O> Monitored<K, O> {
             .ok_or(OpenError::NoSuchTable)?;
         let table = open::<K>(all, calls)?;
         Ok(Monitored {
-            object: Arc::new(object),
+            object: Asked::new(object),
             places: Mutex::new(Places {
                 table,
                 callers,
@@ -159,7 +173,7 @@ impl<K: Kind, O> Monitored<K, O> {
         let idle = places.table.caller()?;
         places.callers = left;
         Ok(MonitoredCaller {
-            object: Arc::clone(&self.object),
+            object: self.object.share(),
             idle: Some(idle),
             kind: PhantomData,
         })
@@ -200,7 +214,7 @@ impl<K: Kind, O> MonitoredCaller<K, O> {
         ask: impl FnOnce(&O) -> R,
     ) -> Result<R, NotMade> {
         let announced = announce(&mut self.idle, op.word())?;
-        let reply = ask(&self.object);
+        let reply = self.object.ask(ask);
         self.idle = Some(announced.publish(reply.into().word()));
         Ok(reply)
     }

@@ -17,6 +17,9 @@ pub const MAX_CALLS: usize = 256;
 ///
 /// The object is to be as its kind is at first. One that isn't is filled before: by calls of a caller that is
 /// dropped before the threads start, with closures that do nothing.
+///
+/// A reply of a form that the kind never gives to the operation, such as `None` to a read of a register, makes the
+/// book illegal at once, whatever the other calls are.
 #[derive(Debug)]
 pub struct Recorder<K: Kind> {
     shared: Arc<Shared<K>>,
@@ -51,7 +54,10 @@ struct Shared<K: Kind> {
 struct Clock(AtomicU64);
 
 impl Clock {
-    // The next moment. Between its two moments lies all that a call does, since the steps are sequentially consistent.
+    // The next moment. All steps of the clock are read-modify-writes that acquire and release, so
+    // each one synchronizes with every later one. So what a call did before it returned happens
+    // before what a later call does: a weakly ordered object needs no fence here, unlike beside a
+    // table, whose looks only load.
     fn tick(&self) -> u64 {
         self.0.fetch_add(1, Ordering::SeqCst)
     }

@@ -1,8 +1,8 @@
 //! What is recorded of objects on threads, right and wrong, and how it is judged.
 
 use selfcheck::{
-    CasRegister, Counter, Incomplete, Map, PriorityQueue, Queue, QueueOp, Recorder, Register,
-    Reply, Set, Stack, TooManyCallers, Verdict, order,
+    Book, CallError, CasRegister, Counter, Incomplete, JudgeError, Kind, Map, PriorityQueue, Queue,
+    QueueOp, Recorder, Register, Reply, Set, Stack, TooManyCallers, Verdict, order,
 };
 use std::cmp::Reverse;
 use std::collections::{BinaryHeap, HashMap, HashSet, VecDeque};
@@ -344,4 +344,31 @@ fn a_reply_that_no_object_of_the_kind_gives_is_illegal() {
         drop(me);
         assert_eq!(recorder.book().unwrap().verify(), Ok(Verdict::Illegal));
     }
+}
+
+/// What books and errors of any kind at all are compared by: it compiles where they compare
+/// whatever the kind.
+fn are_equal<K: Kind>(one: &Book<K>, other: &Book<K>) -> bool {
+    let illegal = |book: &Book<K>| CallError::Illegal(book.clone());
+    let found = |book: &Book<K>| JudgeError::Illegal(book.clone());
+    let equal = one == other;
+    assert_eq!(illegal(one) == illegal(other), equal);
+    assert_eq!(found(one) == found(other), equal);
+    assert!(illegal(one) != CallError::IllegalUntold && found(one) != JudgeError::NoMemory);
+    equal
+}
+
+#[test]
+fn books_and_errors_compare() {
+    let book_of = |value| {
+        let recorder = Recorder::<Queue>::new();
+        recorder.caller().unwrap().enq(value, || ());
+        recorder.book().unwrap()
+    };
+    assert!(are_equal(&book_of(1), &book_of(1)));
+    assert!(!are_equal(&book_of(1), &book_of(2)));
+    let unjudged = CallError::<Queue>::Unjudged;
+    assert_eq!(unjudged(Reply::Done), unjudged(Reply::Done));
+    assert_ne!(unjudged(Reply::Done), unjudged(Reply::None));
+    assert_ne!(CallError::<Queue>::Halted, CallError::NoCallLeft);
 }

@@ -1,0 +1,124 @@
+//! The place of a thread in its run.
+
+use super::parker::Parker;
+use super::run::Run;
+use super::step::Operated;
+use std::cell::{Cell, RefCell};
+use std::panic::{self, Location, resume_unwind};
+use std::sync::atomic::{AtomicU64, Ordering};
+use std::sync::{Arc, Once};
+use std::thread;
+
+#[derive(Clone, Debug)]
+pub(crate) struct Seat {
+    pub(crate) run: Arc<Run>,
+    pub(crate) me: usize,
+    pub(crate) parker: Arc<Parker>,
+}
+
+/// What a thread of a run that is over unwinds with.
+#[derive(Debug)]
+pub(crate) struct Abandon;
+
+thread_local! {
+    static SEAT: RefCell<Option<Seat>> = const { RefCell::new(None) };
+    static HEARS: Cell<bool> = const { Cell::new(false) };
+    static PANIC: RefCell<Option<(String, String)>> = const { RefCell::new(None) };
+}
+
+impl Seat {
+    pub(crate) fn new(run: Arc<Run>, me: usize, parker: Arc<Parker>) -> Seat {
+        Seat { run, me, parker }
+    }
+
+    /// The seat of this thread; none where it is in no run, or unwinds since the run is over.
+    pub(crate) fn current() -> Option<Seat> {
+        let seat = SEAT.try_with(|it| it.borrow().clone()).ok()??;
+        if seat.run.is_over() {
+            abandon();
+            return None;
+        }
+        Some(seat)
+    }
+
+    /// The number of an object in this run.
+    pub(crate) fn number_of(&self, tag: &Tag) -> u32 {
+        let run = u64::from(self.run.number);
+        let given = tag.0.load(Ordering::Relaxed);
+        if given >> 32 == run {
+            return given as u32;
+        }
+        let number = self.next_object();
+        tag.0
+            .store((run << 32) | u64::from(number), Ordering::Relaxed);
+        number
+    }
+}
+
+/// A step of this thread, where it is in a run.
+#[track_caller]
+pub(crate) fn step(name: &'static str) {
+    if let Some(seat) = Seat::current() {
+        seat.step(Operated::on_none(name), Location::caller());
+    }
+}
+
+/// Leaves a run that is over, unless this thread unwinds already.
+pub(crate) fn abandon() {
+    if !thread::panicking() {
+        resume_unwind(Box::new(Abandon));
+    }
+}
+
+pub(crate) fn enter(seat: Seat) {
+    HEARS.set(true);
+    PANIC.take();
+    SEAT.set(Some(seat));
+}
+
+pub(crate) fn leave() {
+    SEAT.take();
+    HEARS.set(false);
+}
+
+/// The panics of this thread are kept for its hunt, and not printed.
+pub(crate) fn hear_panics(hears: bool) {
+    HEARS.set(hears);
+}
+
+/// Where the last panic of this thread was, and what it said.
+pub(crate) fn last_panic() -> (String, String) {
+    let unknown = || ("an unknown place".to_owned(), "no message".to_owned());
+    PANIC.take().unwrap_or_else(unknown)
+}
+
+/// Panics of threads of runs are told with their findings; all others go to the hook that was
+/// there.
+pub(crate) fn listen_to_panics() {
+    static SET: Once = Once::new();
+    SET.call_once(|| {
+        let before = panic::take_hook();
+        panic::set_hook(Box::new(move |info| {
+            if !HEARS.try_with(Cell::get).unwrap_or(false) {
+                return before(info);
+            }
+            let place = (info.location())
+                .map_or_else(|| "an unknown place".to_owned(), ToString::to_string);
+            let said = info.payload();
+            let message = (said.downcast_ref::<&str>().map(|it| (*it).to_owned()))
+                .or_else(|| said.downcast_ref::<String>().cloned())
+                .unwrap_or_else(|| "no message".to_owned());
+            let _ = PANIC.try_with(|it| it.replace(Some((place, message))));
+        }));
+    });
+}
+
+/// The number of an object in the run that has used it last.
+#[derive(Debug, Default)]
+pub(crate) struct Tag(AtomicU64);
+
+impl Tag {
+    pub(crate) const fn new() -> Tag {
+        Tag(AtomicU64::new(0))
+    }
+}
