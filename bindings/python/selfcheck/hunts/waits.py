@@ -1,0 +1,239 @@
+"""Locks and conditions of a hunt, which take the places of those of `threading` while it runs.
+
+Events, semaphores and barriers stand on these in the standard library, so they are the hunt's too.
+Made by a thread that is in no run they are the standard library's own.
+"""
+
+import functools
+import sys
+import threading
+import time
+
+from . import opcodes
+from .run import Abandon, caller_place, current
+
+_Lock, _RLock, _Condition = threading.Lock, threading.RLock, threading.Condition
+_sleep, _now = time.sleep, time.monotonic
+
+
+def operation(method):
+    """What a thread does by the hunt's own code, no opcode of which is a step.
+
+    The method is given the member that the thread is, or None where it is in no run.
+    """
+
+    @functools.wraps(method)
+    def operates(thing, *arguments, **named):
+        me = current()
+        trace = me and sys.gettrace()
+        if not trace:
+            return method(thing, me, *arguments, **named)
+        sys.settrace(None)
+        try:
+            return method(thing, me, *arguments, **named)
+        finally:
+            if not me.run.over:
+                sys.settrace(trace)
+
+    return operates
+
+
+def nanoseconds(seconds):
+    return None if seconds is None else max(0, int(seconds * 1e9))
+
+
+class _Waited:
+    """An object that members of a run wait for, with its number there and where it was made."""
+
+    def __init__(self, made=None):
+        self.numbered = None, 0
+        self._made = made or caller_place()
+
+    def begins(self):
+        """A run uses it for the first time."""
+
+    def told(self, run):
+        made = self._made if isinstance(self._made, str) else opcodes.place(*self._made)
+        return f"{self._KIND} #{run.number_of(self)}, made at {made},"
+
+    def _step(self, me, name):
+        me.step(name, me.run.number_of(self))
+
+
+class Lock(_Waited):
+    _KIND = "Lock"
+
+    def __new__(cls):
+        return super().__new__(cls) if current() else _Lock()
+
+    def __init__(self, made=None):
+        super().__init__(made)
+        self.begins()
+
+    @classmethod
+    def of_module(cls, name):
+        """In the place of a lock that a module has made."""
+        lock = object.__new__(cls)
+        lock.__init__(name)
+        return lock
+
+    def begins(self):
+        self._count, self._owner = 0, None
+
+    def _is_free(self, _me):
+        return self._count == 0
+
+    @operation
+    def acquire(self, me, blocking=True, timeout=-1):
+        if me is None:
+            return self._acquire_plainly(blocking, timeout)
+        self._step(me, f"{self._KIND}.acquire")
+        return self._take(me, blocking, nanoseconds(None if timeout < 0 else timeout))
+
+    __enter__ = acquire
+
+    def _take(self, me, blocking=True, left=None):
+        until = None if left is None else me.run.now + left
+        while not self._is_free(me):
+            left = None if until is None else until - me.run.now
+            if not blocking or not me.wait(self, ("{}", self), left):
+                return False
+        if self._count == 0:
+            me.run.holds(self, me)
+        self._count, self._owner = self._count + 1, me
+        return True
+
+    # By a thread that is in no run, as where a test looks at an object once its run is over.
+    def _acquire_plainly(self, blocking, timeout):
+        until = _now() + timeout
+        while not self._is_free(None):
+            if not blocking or 0 <= timeout and _now() >= until:
+                return False
+            _sleep(0.001)
+        self._count, self._owner = self._count + 1, None
+        return True
+
+    @operation
+    def release(self, me):
+        self._release(me)
+
+    def _release(self, me):
+        if self._count == 0:
+            if me and me.run.over:
+                return
+            raise RuntimeError("release unlocked lock")
+        self._count -= 1
+        if self._count == 0:
+            self._give_back(me)
+
+    def _give_back(self, me):
+        owner, self._owner = self._owner, None
+        if owner or me:
+            (owner or me).run.gives_back(self)
+
+    def __exit__(self, *_):
+        self.release()
+
+    @operation
+    def locked(self, me):
+        if me:
+            self._step(me, f"{self._KIND}.locked")
+        return self._count > 0
+
+    # What conditions ask of a lock, the standard library's among them.
+
+    def _is_owned(self):
+        return self._count > 0
+
+    @operation
+    def _release_save(self, me):
+        count, self._count = self._count, 0
+        self._give_back(me)
+        return count
+
+    @operation
+    def _acquire_restore(self, me, count):
+        if me and not me.run.over:
+            self._take(me)
+        self._count = count
+
+
+class RLock(Lock):
+    _KIND = "RLock"
+
+    def __new__(cls):
+        return object.__new__(cls) if current() else _RLock()
+
+    def _is_free(self, me):
+        return self._count == 0 or self._owner is me
+
+    def _release(self, me):
+        if self._count > 0 and self._owner is not me and not (me and me.run.over):
+            raise RuntimeError("cannot release un-acquired lock")
+        super()._release(me)
+
+    def _is_owned(self):
+        return self._count > 0 and self._owner is current()
+
+
+class Condition(_Waited):
+    _KIND = "Condition"
+
+    def __new__(cls, lock=None):
+        return super().__new__(cls) if current() else _Condition(lock)
+
+    def __init__(self, lock=None):
+        super().__init__()
+        self._lock = RLock() if lock is None else lock
+        self._waiters = []
+        self.acquire, self.release = self._lock.acquire, self._lock.release
+
+    def __enter__(self):
+        return self._lock.__enter__()
+
+    def __exit__(self, *error):
+        return self._lock.__exit__(*error)
+
+    @operation
+    def wait(self, me, timeout=None):
+        if not self._lock._is_owned():
+            raise RuntimeError("cannot wait on un-acquired lock")
+        self._step(me, "Condition.wait")
+        ticket = object()
+        self._waiters.append(ticket)
+        saved = self._lock._release_save()
+        try:
+            return me.wait(ticket, ("a notification of {}", self), nanoseconds(timeout))
+        finally:
+            if ticket in self._waiters:
+                self._waiters.remove(ticket)
+            self._lock._acquire_restore(saved)
+
+    def wait_for(self, predicate, timeout=None):
+        until = None if timeout is None else current().run.now + nanoseconds(timeout)
+        result = predicate()
+        while not result:
+            left = None if until is None else (until - current().run.now) / 1e9
+            if left is not None and left <= 0:
+                break
+            self.wait(left)
+            result = predicate()
+        return result
+
+    @operation
+    def notify(self, me, n=1):
+        if not self._lock._is_owned():
+            if me and me.run.over:
+                raise Abandon
+            raise RuntimeError("cannot notify on un-acquired lock")
+        if me is None:
+            return
+        self._step(me, "Condition.notify")
+        woken, self._waiters = self._waiters[:n], self._waiters[n:]
+        for ticket in woken:
+            me.run.wake(ticket)
+
+    def notify_all(self):
+        self.notify(len(self._waiters))
+
+    notifyAll = notify_all
