@@ -1,9 +1,10 @@
-"""Hunts for what is wrong with objects that are wrong on purpose, and what they say where they can't hunt."""
+"""Hunts of objects that are wrong on purpose, and what hunts say where they can't hunt."""
 
 import collections
 import dataclasses
 import os
 import queue
+import re
 import subprocess
 import sys
 import tempfile
@@ -139,7 +140,8 @@ class Endings(unittest.TestCase):
         self.assertEqual(stops.found, "exception")
         self.assertRegex(
             stops.trial.told,
-            r"^exception\ncaller \d, in its call 0, raised at .*test_hunts\.py:\d+: AssertionError: never one$",
+            r"^exception\ncaller \d, in its call 0, raised at .*test_hunts\.py:\d+: "
+            r"AssertionError: never one$",
         )
         goes_on = hunt(Settings("counter", calls=1, runs=500, after_exceptions=True), Once)
         self.assertEqual(len(goes_on.exceptions), 1)
@@ -150,7 +152,8 @@ class Endings(unittest.TestCase):
             raise LookupError("none today")
 
         told = str(hunt(Settings("counter"), make))
-        self.assertRegex(told, r"^exception\nmain raised at .*test_hunts\.py:\d+: LookupError: none today\n")
+        said = r"^exception\nmain raised at .*test_hunts\.py:\d+: LookupError: none today\n"
+        self.assertRegex(told, said)
 
     def test_a_reply_of_no_kind_is_told(self):
         told = str(hunt(Settings("counter"), lambda: None, lambda _, op: "seven"))
@@ -164,7 +167,8 @@ class Endings(unittest.TestCase):
 
         finding = hunt(Settings("counter", callers=1, calls=1), Spawns).finding
         self.assertEqual(finding.found, "exception")
-        self.assertRegex(finding.trial.told, r"thread \d+ 'Thread-\d+.*' raised at .*ZeroDivisionError")
+        said = r"thread \d+ 'Thread-\d+.*' raised at .*ZeroDivisionError"
+        self.assertRegex(finding.trial.told, said)
 
 
 @dataclasses.dataclass
@@ -198,12 +202,13 @@ class Names(unittest.TestCase):
         self.right(OfClass)
 
     def test_names_are_as_they_were(self):
-        before = threading.Lock, threading.Condition, threading.Thread.start, time.sleep, queue.SimpleQueue
+        def names():
+            start = threading.Thread.start
+            return threading.Lock, threading.Condition, start, time.sleep, queue.SimpleQueue
+
+        before = names()
         hunt(Settings("counter", runs=3), Torn)
-        self.assertEqual(
-            before,
-            (threading.Lock, threading.Condition, threading.Thread.start, time.sleep, queue.SimpleQueue),
-        )
+        self.assertEqual(names(), before)
         self.assertIs(ImportedLock, threading.Lock)
         self.assertEqual(type(_module_lock), type(threading.Lock()))
         self.assertEqual(type(OfClass.shared), type(threading.Lock()))
@@ -309,7 +314,7 @@ class Written(unittest.TestCase):
         self.assertIn("caller 2: inc, inc, inc, inc, inc, inc\n", read("script.txt"))
         self.assertGreaterEqual(len(read("steps.txt")), len(read("small-steps.txt")))
         names = {"replay": replay, "Settings": Settings, "make": Torn}
-        again = eval(finding.line(), {**names, "call": lambda thing, op: thing.inc()})
+        again = eval(finding.line(), names)
         self.assertEqual((again.found, again.book), ("illegal", finding.small.book))
 
     def test_what_is_lost_is_said(self):
@@ -324,7 +329,8 @@ class Written(unittest.TestCase):
         self.assertEqual(it.exception.lost, ["steps.txt", "picture.svg"])
         self.assertEqual(
             str(it.exception),
-            f"steps.txt, picture.svg of the finding in {own} couldn't be written: No space left on device",
+            f"steps.txt, picture.svg of the finding in {own} couldn't be written: "
+            "No space left on device",
         )
         self.assertEqual(it.exception.hunted.finding.found, "illegal")
         self.assertTrue(os.path.exists(os.path.join(own, "book.txt")))
@@ -343,7 +349,8 @@ class Written(unittest.TestCase):
         with open(os.path.join(self.folder, "counter-4-begun.txt"), encoding="utf-8") as file:
             first, line, *script = file.read().splitlines()
         self.assertRegex(first, r"^run \d+ has begun, and hasn't ended:$")
-        self.assertRegex(line, r"^    replay\(Settings\('counter', callers=3, calls=6, seed=4\), \"\d+\", make, call\)$")
+        settings = "Settings('counter', callers=3, calls=6, seed=4)"
+        self.assertRegex(line, rf'^    replay\({re.escape(settings)}, "\d+", make, call\)$')
         self.assertIn("caller 2: inc, inc, inc, inc, inc, inc", script)
 
     def test_a_run_that_cannot_be_named_on_disk_does_not_begin(self):
@@ -352,7 +359,8 @@ class Written(unittest.TestCase):
         with self.assertRaises(Unwritten) as it:
             hunt(Settings("counter", folder=self.folder), lambda: made.append(1))
         self.assertEqual(
-            str(it.exception), "counter-0-begun.txt of run 0 couldn't be written: No space left on device"
+            str(it.exception),
+            "counter-0-begun.txt of run 0 couldn't be written: No space left on device",
         )
         self.assertEqual(made, [])
 
@@ -381,14 +389,15 @@ class Scripts(unittest.TestCase):
             self.assertEqual(names[:3], [["enq"] * 4] * 3)
 
     def test_settings_out_of_bounds_are_refused_by_name(self):
+        weights = "numbers for operations of enq, deq, not all 0"
         refused = {
             "callers is 0, and has to be 1 to 16": {"callers": 0},
             "callers is 17, and has to be 1 to 16": {"callers": 17},
             "calls is 257, and has to be 1 to 256": {"calls": 257},
             "calls is '6', and has to be 1 to 256": {"calls": "6"},
             "seed is -1, and has to be 0 to 18446744073709551615": {"seed": -1},
-            "weights is {'pop': 1}, and has to be numbers for operations of enq, deq, not all 0": {"weights": {"pop": 1}},
-            "weights is {'enq': 0, 'deq': 0}, and has to be numbers for operations of enq, deq, not all 0": {
+            f"weights is {{'pop': 1}}, and has to be {weights}": {"weights": {"pop": 1}},
+            f"weights is {{'enq': 0, 'deq': 0}}, and has to be {weights}": {
                 "weights": {"enq": 0, "deq": 0}
             },
             "values is 0, and has to be 1 to 4294967295": {"values": 0},

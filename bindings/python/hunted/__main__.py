@@ -40,18 +40,11 @@ def _measure_wrong(case, hunts):
     found, times, again = [], [], 0
     for seed in range(hunts):
         settings, began = _settings(case, seed=seed, seconds=2), time.monotonic()
-        runs = 0
-
-        def make():
-            # when the last run of the hunt itself began, and not the time to make it small
-            nonlocal runs
-            runs += 1
-            return case.wrong()
-
-        hunted = hunt(settings, make)
+        hunted = hunt(settings, case.wrong)
         finding = hunted.finding
         if finding is None or finding.found not in case.wanted:
-            print(f"{case.name}: {finding and finding.found} in {hunted.runs} runs", file=sys.stderr)
+            found_it = finding and finding.found
+            print(f"{case.name}: {found_it} in {hunted.runs} runs", file=sys.stderr)
             continue
         found.append((hunted.runs, finding.small.script.calls(), finding.small.switches))
         times.append(time.monotonic() - began)
@@ -72,7 +65,8 @@ def _measure_right(case, runs):
     hunted = hunt(_settings(case, seed=1, runs=runs), case.right)
     seconds, used = time.monotonic() - began, time.process_time() - used
     words = [case.name, hunted.runs, int(hunted.finding is not None)]
-    words += [f"{hunted.runs / seconds:.0f}", f"{hunted.turns / seconds:.0f}", f"{hunted.turns / used:.0f}"]
+    words += [f"{hunted.runs / seconds:.0f}", f"{hunted.turns / seconds:.0f}"]
+    words.append(f"{hunted.turns / used:.0f}")
     print(f"| {' | '.join(map(str, words))} |", flush=True)
     if hunted.finding:
         print(hunted, file=sys.stderr)
@@ -81,8 +75,8 @@ def _measure_right(case, runs):
 
 def measure(hunts, runs):
     print(
-        f"| Wrong object | {hunts} hunts: found | again | runs, mean | most | ms with making it small, mean "
-        "| most | small: calls, median | most | switches, median | most |"
+        f"| Wrong object | {hunts} hunts: found | again | runs, mean | most | ms with making it "
+        "small, mean | most | small: calls, median | most | switches, median | most |"
     )
     print("|---|---|---|---|---|---|---|---|---|---|---|")
     is_well = all([_measure_wrong(it, hunts) for it in CASES])

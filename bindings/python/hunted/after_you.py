@@ -1,4 +1,7 @@
-"""A counter that one thread uses at a time. Wrong where each waits for all others that want it too."""
+"""A counter that one thread uses at a time.
+
+Wrong where each waits for all others that want it too.
+"""
 
 import threading
 import time

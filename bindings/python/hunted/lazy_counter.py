@@ -1,4 +1,7 @@
-"""A counter that is made when it is used first. Wrong where it isn't looked for again under the lock."""
+"""A counter that is made when it is used first.
+
+Wrong where it isn't looked for again under the lock.
+"""
 
 import threading
 

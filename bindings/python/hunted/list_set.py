@@ -1,4 +1,4 @@
-"""A set as a sorted list whose nodes have locks, and are found without them (Heller and others 2005).
+"""A set as a sorted list whose nodes have locks (Heller and others 2005).
 
 Wrong where a removed node has no mark: what is added after it goes with it.
 """

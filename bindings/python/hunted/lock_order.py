@@ -1,4 +1,7 @@
-"""A register in two halves, each with a lock. Wrong where a read takes the locks in another order than a write."""
+"""A register in two halves, each with a lock.
+
+Wrong where a read takes the locks in another order than a write.
+"""
 
 import threading
 

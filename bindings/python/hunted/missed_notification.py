@@ -1,4 +1,7 @@
-"""A queue whose takers wait for a value. Wrong where they look for one before they have the lock."""
+"""A queue whose takers wait for a value.
+
+Wrong where they look for one before they have the lock.
+"""
 
 import collections
 import threading

@@ -1,4 +1,7 @@
-"""A priority queue as a heap. Wrong where a min looks at the least under the lock, and takes under it again."""
+"""A priority queue as a heap.
+
+Wrong where a min looks at the least under the lock, and takes under it again.
+"""
 
 import heapq
 import threading

@@ -1,4 +1,7 @@
-"""A counter in shards. Wrong, since the sum of shards that others change is the number of no time."""
+"""A counter in shards.
+
+Wrong, since the sum of shards that others change is the number of no time.
+"""
 
 import itertools
 

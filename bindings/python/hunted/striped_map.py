@@ -1,4 +1,7 @@
-"""A map in stripes, each a dict behind a lock. Wrong where it looks under the lock, and then changes under it again."""
+"""A map in stripes, each a dict behind a lock.
+
+Wrong where it looks under the lock, and then changes under it again.
+"""
 
 import threading
 

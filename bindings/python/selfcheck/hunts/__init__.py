@@ -1,4 +1,6 @@
-"""Hunts: random calls of an object under random schedules, until a run is wrong; then it is made small.
+"""Hunts: random calls of an object under random schedules, until a run is wrong.
+
+Then the run is made small.
 
     from selfcheck.hunts import Settings, hunt, replay
 
@@ -27,7 +29,6 @@ hunt that finds nothing shows nothing of the object: random schedules aren't all
 docs/SCHEDULES.md says what a schedule is, and what breaks repetition.
 """
 
-import keyword
 import os
 import time
 
@@ -38,7 +39,7 @@ from .finding import Finding
 from .folder import Begun, Unwritten, write
 from .names import Names
 from .settings import SettingError, Settings
-from .trial import ILLEGAL, Hunter, Trial
+from .trial import ILLEGAL, Hunter, Trial, by_name
 
 __all__ = [
     "Finding",
@@ -73,18 +74,16 @@ class Hunted:
         return told + str(self.finding or f"nothing was found in {self.runs} runs\n")
 
 
-def by_name(thing, op, *arguments):
-    """Makes an operation by the method of its name; of `del` it is `del_`."""
-    return getattr(thing, f"{op}_" if keyword.iskeyword(op) else op)(*arguments)
-
-
 def hunt(settings, make, call=by_name):
-    """Hunts for a wrong run of the object that `make` makes; `call(object, op, *arguments)` makes an operation on it.
+    """Hunts for a wrong run of the object that `make` makes.
 
-    Each run has an object of its own. Raises `Unwritten` where files of a finding, or the one that
-    says which run has begun, can't be written, and what is lost.
+    `call(object, op, *arguments)` makes an operation on it; where it isn't given that is by the
+    method of the operation's name, and `del_` for `del`. Each run has an object of its own. Raises
+    `Unwritten` where files of a finding, or the one that says which run has begun, can't be
+    written, and what is lost.
     """
-    hunted, hunter, begun = Hunted(), Hunter(settings, make, call), Begun(settings)
+    hunted, hunter = Hunted(), Hunter(settings, make, call)
+    begun = Begun(hunter)
     ends = None if settings.seconds is None else _now() + settings.seconds
     with Names():
         while hunted.runs != settings.most_runs and (ends is None or _now() < ends):
@@ -109,9 +108,10 @@ def hunt(settings, make, call=by_name):
 
 
 def replay(settings, again, make, call=by_name):
-    """Runs a run of a hunt once more, by its number, or as `Finding.again` says it, and gives the `Trial`.
+    """Runs a run of a hunt once more, by its number, or as `Finding.again` says it.
 
-    The settings and what makes and calls the object have to be those of the hunt. Raises `NoRun`.
+    It gives the `Trial`. The settings and what makes and calls the object have to be those of the
+    hunt. Raises `NoRun`.
     """
     again = Again.read(again)
     with Names():
@@ -120,7 +120,7 @@ def replay(settings, again, make, call=by_name):
 
 # Runs it once more, and makes it small where it came again.
 def _told(hunter, run, trial):
-    finding = Finding(hunter.settings, run, trial, hunter.run(run).is_same(trial))
+    finding = Finding(hunter, run, trial, hunter.run(run).is_same(trial))
     if finding.repeats and trial.found != endings.STUCK:
         finding.made_small(small.smaller(hunter, trial))
     if trial.found == ILLEGAL:

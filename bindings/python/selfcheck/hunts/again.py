@@ -11,7 +11,7 @@ class NoRun(ValueError):
 
 
 class Again:
-    """A run by its number, or a small one, by the calls that are left of its script and its schedule.
+    """A run by its number, or a small one, by what is left of its script and its schedule.
 
     It is written and read as text: `412`, or `412 calls 0.1 2.0 turns 1*1 2*5 1*9`.
     """
@@ -31,7 +31,8 @@ class Again:
             if words[0] != "calls":
                 raise ValueError(text)
             calls, legs = words[1:turns], words[turns + 1 :]
-            return cls(_number(run), [_pair(it, ".") for it in calls], [_pair(it, "*") for it in legs])
+            calls, legs = [_pair(it, ".") for it in calls], [_pair(it, "*") for it in legs]
+            return cls(_number(run), calls, legs)
         except ValueError:
             raise NoRun(text) from None
 

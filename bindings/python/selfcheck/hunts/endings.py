@@ -16,7 +16,7 @@ _SENTENCES = {
 class Ending:
     """A name in one word, and a line for each thread of which it tells.
 
-    Of an exception `error` is the exception itself, and `place` is file and line where it was raised.
+    Of an exception `error` is the exception itself, and `place` is the line that raised it.
     """
 
     def __init__(self, name, threads=(), place=None, error=None):

@@ -15,8 +15,9 @@ class Finding:
     again, by `replay`.
     """
 
-    def __init__(self, settings, run, trial, repeats):
-        self.settings = settings
+    def __init__(self, hunter, run, trial, repeats):
+        self._line = hunter.line
+        self.settings = hunter.settings
         self.run = run
         self.trial = self.small = trial
         self.repeats = repeats
@@ -34,15 +35,16 @@ class Finding:
         self.small = small
         self.small_again = Again(self.run, small.script.names(), small.written)
 
-    def line(self, again=None):
-        """The line of code that brings the small run again, with what makes and calls the object."""
-        return f'replay({self.settings!r}, "{again or self.again}", make, call)'
+    def line(self):
+        """The code that brings the small run again, with what makes and calls the object."""
+        return self._line(self.again)
 
     def __str__(self):
         """What is wrong, how it comes again, and the small run's steps."""
         lines = [self.trial.told]
         if self.repeats:
-            lines += [f"found by run {self.run}, and again by its seed:", f"    {self.line(self.run)}"]
+            lines.append(f"found by run {self.run}, and again by its seed:")
+            lines.append(f"    {self._line(self.run)}")
         else:
             lines.append(f"found by run {self.run}; it didn't come again by its seed")
         if self.small_again:

@@ -9,7 +9,8 @@ class Unwritten(OSError):
     """Files couldn't be written. What was hunted is here all the same, as `hunted`."""
 
     def __init__(self, lost, of, error):
-        super().__init__(f"{', '.join(lost)} of {of} couldn't be written: {error.strerror or error}")
+        why = error.strerror or error
+        super().__init__(f"{', '.join(lost)} of {of} couldn't be written: {why}")
         self.lost = lost
         self.errno = error.errno
         self.hunted = None
@@ -53,8 +54,9 @@ def write(finding, folder):
 class Begun:
     """A file that has the run that has begun, in case that the process ends in it."""
 
-    def __init__(self, settings):
-        self._settings = settings
+    def __init__(self, hunter):
+        self._line = hunter.line
+        self._settings = settings = hunter.settings
         self._path = None
         if settings.folder is not None:
             name = f"{settings.kind}-{settings.seed}-begun.txt"
@@ -63,8 +65,7 @@ class Begun:
     def begins(self, run, script):
         if self._path is None:
             return
-        line = f'replay({self._settings!r}, "{run}", make, call)'
-        text = f"run {run} has begun, and hasn't ended:\n    {line}\n\n{script}"
+        text = f"run {run} has begun, and hasn't ended:\n    {self._line(run)}\n\n{script}"
         try:
             os.makedirs(self._settings.folder, exist_ok=True)
             _write(self._path, text)

@@ -33,7 +33,9 @@ def _clock(name, divisor):
 
     def clock():
         me = current()
-        return plain() if me is None else me.run.now // divisor if divisor == 1 else me.run.now / divisor
+        if me is None:
+            return plain()
+        return me.run.now if divisor == 1 else me.run.now / divisor
 
     return plain, clock
 

@@ -50,7 +50,7 @@ def operated(code, at):
 
 
 def place(code, at):
-    """File and line of the instruction at this place; a file below the current folder by its name there."""
+    """File and line of the instruction; a file below the current folder by its name there."""
     file, folder = code.co_filename, os.path.join(os.getcwd(), "")
     if file.startswith(folder):
         file = file[len(folder) :]

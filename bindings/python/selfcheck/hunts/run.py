@@ -64,7 +64,7 @@ class Member:
         return self.who
 
     def step(self, *operated):
-        """A step, at which the schedule may go elsewhere: its name, and the number of its object."""
+        """A step, at which the turn may go elsewhere: its name, and the number of its object."""
         run = self.run
         code, at = self.place = caller_place()
         if run.over:
@@ -75,7 +75,9 @@ class Member:
     def give_way(self, operated, nanoseconds=None):
         """A step before which another thread moves, where one can."""
         run = self.run
-        self.gives_way = run.now + (1000 << min(run.idle, 40) if nanoseconds is None else nanoseconds)
+        if nanoseconds is None:
+            nanoseconds = 1000 << min(run.idle, 40)
+        self.gives_way = run.now + nanoseconds
         run.chooser.lower(self.number)
         self.step(operated)
 
@@ -358,7 +360,7 @@ class Run:
             _permit(chosen.parker)
 
     def pass_turn(self, member):
-        """Gives the turn to whom the schedule chooses, and comes back when the member is chosen again."""
+        """Gives the turn to whom the schedule chooses, and comes back once it is the member."""
         if self.over:
             raise Abandon
         if self.budget > 0 and member.status is _READY and member.gives_way is None:

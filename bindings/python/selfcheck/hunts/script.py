@@ -20,7 +20,9 @@ class Values:
                 self._fresh[place], self._fresh[other] = self._fresh[other], self._fresh[place]
 
     def value(self):
-        return self._fresh.pop() if self._different is None else 1 + self.draw.below(self._different)
+        if self._different is None:
+            return self._fresh.pop()
+        return 1 + self.draw.below(self._different)
 
     def key(self):
         return 1 + self.draw.below(self._keys)
@@ -47,7 +49,8 @@ class Script:
 
     def names(self):
         """The caller and the number of each call, as they were drawn."""
-        return [(caller, number) for caller, calls in enumerate(self.callers) for number, _ in calls]
+        callers = enumerate(self.callers)
+        return [(caller, number) for caller, calls in callers for number, _ in calls]
 
     def part(self, names):
         """The calls with these names."""
@@ -60,7 +63,7 @@ class Script:
         )
 
     def removed_with(self, settings, caller, place):
-        """The names of calls that go where this one goes, by each way in which the rule still holds."""
+        """The names of calls that go with this one, by each way in which the rule still holds."""
         calls = self.callers[caller]
         own = caller, calls[place][0]
         if settings.at_most_more_puts is not None and place + 1 < len(calls):

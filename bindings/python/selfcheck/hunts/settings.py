@@ -13,7 +13,7 @@ _STEPS, _STEPS_OF_CALL = 10_000, 400
 
 
 class SettingError(ValueError):
-    """A setting is out of its bounds: its name, what it is and what it has to be. Nothing was run."""
+    """A setting is out of its bounds: its name, what it is and what it has to be."""
 
     def __init__(self, name, given, wanted):
         super().__init__(f"the setting {name} is {given}, and has to be {wanted}")
@@ -42,7 +42,7 @@ class Settings:
     change_points          at how many points at the most priorities change: 6
     most_steps             how many steps a run has at the most: 10,000, or 400 for each call
     patience               for how many seconds a thread may make no step before it is told: 5
-    after_exceptions       the hunt goes on after an exception; of several at one line the first is told
+    after_exceptions       the hunt goes on after an exception, and tells one of each line
     new_threads            each run has new threads, for objects with thread-local values
     folder                 where each finding has a folder of its own
     """
@@ -69,7 +69,8 @@ class Settings:
         new_threads=False,
         folder=None,
     ):
-        given = {name: value for name, value in locals().items() if name not in ("self", "__class__")}
+        given = dict(locals())
+        del given["self"]
         self.__dict__.update(given)
         if kind not in OPERATIONS:
             raise SettingError("kind", repr(kind), f"one of {', '.join(OPERATIONS)}")
@@ -130,7 +131,7 @@ class Settings:
     def _check_rule(self):
         if self.producers_and_consumers:
             if self.at_most_more_puts is not None:
-                raise SettingError("at_most_more_puts", self.at_most_more_puts, "unsaid beside another rule")
+                raise SettingError("at_most_more_puts", "said", "unsaid beside another rule")
             self._is_in("callers", 2, MAX_CALLERS)
             name = "producers_and_consumers"
         elif self.at_most_more_puts is not None:
@@ -147,7 +148,8 @@ class Settings:
 
     def __repr__(self):
         """As code, with what scripts and schedules are made by."""
-        words = [repr(self.kind), *(f"{it}={getattr(self, it)!r}" for it in ("callers", "calls", "seed"))]
+        always = (f"{it}={getattr(self, it)!r}" for it in ("callers", "calls", "seed"))
+        words = [repr(self.kind), *always]
         usual = Settings.__init__.__kwdefaults__
         for name in (
             "weights",

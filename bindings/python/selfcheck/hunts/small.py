@@ -14,7 +14,7 @@ _LENGTHS = 4
 
 
 def smaller(hunter, found):
-    """A run that is wrong in the same way, with fewer calls and switches as far as they are found."""
+    """A run that is wrong in the same way, with the fewest calls and switches that are found."""
     shrinking = _Shrinking(hunter, found)
     before = None
     while before != (before := (shrinking.best.script.calls(), shrinking.best.size())):

@@ -1,5 +1,7 @@
 """A run of a hunt: its script, its schedule, its book, and what is wrong with it."""
 
+import keyword
+
 from .. import Incomplete, Recorder, verify
 from . import chooser, endings, opcodes
 from .run import START, WOKEN, Run, current
@@ -30,7 +32,9 @@ class Trial:
 
     @property
     def told(self):
-        return "illegal: the calls have no legal order" if self.found == ILLEGAL else str(self.ending)
+        if self.found == ILLEGAL:
+            return "illegal: the calls have no legal order"
+        return str(self.ending)
 
     def is_like(self, other):
         """Whether the other is wrong in the same way."""
@@ -46,7 +50,7 @@ class Trial:
         return self.switches, len(self.written), len(self.steps)
 
     def steps_text(self, most=None):
-        """The steps, or so many of them, each on a line, with a blank line where another thread goes on."""
+        """The steps, or so many of them, with a blank line where another thread goes on."""
         lines, last = [], None
         steps = [it for it in self.steps if it[2] not in (START, WOKEN)]
         for number, call, operated, code, at in steps[:most]:
@@ -74,6 +78,11 @@ def _life(run, caller, calls, thing, call):
         run.ended_call()
 
 
+def by_name(thing, op, *arguments):
+    """Makes an operation by the method of its name; of `del` it is `del_`."""
+    return getattr(thing, f"{op}_" if keyword.iskeyword(op) else op)(*arguments)
+
+
 class Hunter:
     """Makes the runs of a hunt."""
 
@@ -83,6 +92,11 @@ class Hunter:
         self._call = call
         # how many turns the first run had
         self._turns = None
+
+    def line(self, again):
+        """The code that brings a run again, with what makes and calls the object."""
+        closures = "make" if self._call is by_name else "make, call"
+        return f'replay({self.settings!r}, "{again}", {closures})'
 
     def trial(self, script, how):
         settings = self.settings
