@@ -261,6 +261,24 @@ static inline uint32_t selfcheck_witness_inline(struct selfcheck_slot *holder, u
     return selfcheck_witness(holder, selfcheck_buffer(buffer, room), room, written);
 }
 
+/* A step of a schedule. Where C code is called from Rust or Python, and a hunt of the binding there runs it, the turn may
+ * go to another thread at each `selfcheck_point()`: put one before each access to what threads share. C code between two
+ * points is one step, so it mustn't wait for another thread without a point in the loop. In no hunt a point is one load
+ * of a pointer, which is null.
+ *
+ * A program in Rust sets the pointer by itself, where the C code is linked into it as a static library. In Python the
+ * shared library that has the code is named once, by `selfcheck.hunts.take_part(library)`. Each shared library has a
+ * pointer of its own. When a run is given up, its C code goes on without a schedule until it returns. */
+__attribute__((weak, visibility("default"))) void (*selfcheck_at_point)(const char *file, int line) = 0;
+
+static inline void selfcheck_point_of(const char *file, int line) {
+    void (*at_point)(const char *, int) = __atomic_load_n(&selfcheck_at_point, __ATOMIC_RELAXED);
+    if (at_point)
+        at_point(file, line);
+}
+
+#define selfcheck_point() selfcheck_point_of(__FILE__, __LINE__)
+
 #define selfcheck_announce selfcheck_announce_inline
 #define selfcheck_answered selfcheck_answered_inline
 #define selfcheck_publish selfcheck_publish_inline

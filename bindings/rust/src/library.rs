@@ -1,8 +1,11 @@
 //! The proved library `selfcheck_c`. Here alone code is unsafe.
 
 use crate::fault::{Fault, Verdict, What};
-use std::ffi::c_void;
+use crate::schedule::seat;
+use std::ffi::{CStr, c_char, c_int, c_void};
 use std::ptr;
+use std::sync::atomic::{AtomicPtr, Ordering};
+use std::sync::{Mutex, PoisonError};
 
 /// Why a text was refused, as the library tells it.
 #[repr(C)]
@@ -449,6 +452,46 @@ impl Wrong {
                 NO_MEMORY => return None,
                 status => no_such_status(status),
             }
+        }
+    }
+}
+
+/// What C code calls at its points, by `bindings/c/selfcheck.h`, which has it null where no program in Rust has it.
+#[unsafe(no_mangle)]
+#[allow(non_upper_case_globals)]
+static selfcheck_at_point: AtomicPtr<c_void> = AtomicPtr::new(ptr::null_mut());
+
+static RUNS_WITH_POINTS: Mutex<usize> = Mutex::new(0);
+
+extern "C" fn at_point(file: *const c_char, line: c_int) {
+    // SAFETY: the header gives the name of a file, a literal.
+    let file = unsafe { CStr::from_ptr::<'static>(file) };
+    seat::point_of_c(file, line);
+}
+
+/// While there is one the points of C code are steps.
+#[derive(Debug)]
+pub(crate) struct Points;
+
+impl Points {
+    pub(crate) fn of_run() -> Points {
+        let mut runs = RUNS_WITH_POINTS
+            .lock()
+            .unwrap_or_else(PoisonError::into_inner);
+        *runs += 1;
+        selfcheck_at_point.store(at_point as *mut c_void, Ordering::SeqCst);
+        Points
+    }
+}
+
+impl Drop for Points {
+    fn drop(&mut self) {
+        let mut runs = RUNS_WITH_POINTS
+            .lock()
+            .unwrap_or_else(PoisonError::into_inner);
+        *runs -= 1;
+        if *runs == 0 {
+            selfcheck_at_point.store(ptr::null_mut(), Ordering::SeqCst);
         }
     }
 }

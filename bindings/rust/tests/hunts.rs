@@ -106,6 +106,8 @@ fn a_finding_has_a_folder() {
     )
     .unwrap();
     assert_eq!(small.found(), Some(&Found::Illegal));
+    // what was said of runs that had begun is gone
+    assert_eq!(fs::read_dir(&folder).unwrap().count(), 1);
     fs::remove_dir_all(folder).unwrap();
 }
 
@@ -141,6 +143,55 @@ fn what_is_lost_is_said() {
             .unwrap()
             .ends_with("end\n")
     );
+    fs::remove_dir_all(folder).unwrap();
+}
+
+#[test]
+#[cfg(unix)]
+fn a_run_that_ends_the_process_is_on_disk() {
+    let name = "SELFCHECK_ABORTS_IN";
+    if let Some(folder) = std::env::var_os(name) {
+        let settings = Settings::<Counter>::new().seed(4).folder(folder);
+        let call = |number: &AtomicU32, _| match number.fetch_add(1, SeqCst) {
+            9 => std::process::abort(),
+            old => Reply::Value(old),
+        };
+        let _ = hunt(&settings, || AtomicU32::new(0), call);
+        return;
+    }
+    let folder = folder("aborts");
+    let status = std::process::Command::new(std::env::current_exe().unwrap())
+        .args(["--exact", "a_run_that_ends_the_process_is_on_disk"])
+        .env(name, &folder)
+        .output()
+        .unwrap()
+        .status;
+    assert!(!status.success());
+    let text = fs::read_to_string(folder.join("counter-4-begun.txt")).unwrap();
+    let settings = "Settings::<Counter>::new().callers(3).calls(6).seed(4)";
+    let wanted = format!(
+        "run 0 has begun, and hasn't ended:\n    replay(&{settings}, \"0\", make, call)\n\n\
+         caller 0: inc, inc, inc, inc, inc, inc\n"
+    );
+    assert!(text.starts_with(&wanted), "{text}");
+    fs::remove_dir_all(folder).unwrap();
+}
+
+#[test]
+#[cfg(target_os = "linux")]
+fn a_run_that_cannot_be_named_on_disk_does_not_begin() {
+    let folder = folder("full");
+    fs::create_dir_all(&folder).unwrap();
+    let file = folder.join("counter-0-begun.txt");
+    std::os::unix::fs::symlink("/dev/full", &file).unwrap();
+    let settings = Settings::<Counter>::new().folder(&folder);
+    let never = || -> () { unreachable!("nothing runs") };
+    let error = hunt(&settings, never, |(), _| Reply::Done).unwrap_err();
+    let text = format!(
+        "run 0 didn't begin, since {} couldn't be written: No space left on device",
+        file.display()
+    );
+    assert!(error.to_string().starts_with(&text), "{error}");
     fs::remove_dir_all(folder).unwrap();
 }
 

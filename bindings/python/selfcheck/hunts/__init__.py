@@ -38,6 +38,7 @@ from .again import Again, NoRun
 from .finding import Finding
 from .folder import Begun, Unwritten, write
 from .names import Names
+from .points import take_part
 from .settings import SettingError, Settings
 from .trial import ILLEGAL, Hunter, Trial, by_name
 
@@ -51,6 +52,7 @@ __all__ = [
     "Unwritten",
     "hunt",
     "replay",
+    "take_part",
 ]
 
 # As it is where no hunt has changed it.
@@ -85,25 +87,27 @@ def hunt(settings, make, call=by_name):
     hunted, hunter = Hunted(), Hunter(settings, make, call)
     begun = Begun(hunter)
     ends = None if settings.seconds is None else _now() + settings.seconds
-    with Names():
-        while hunted.runs != settings.most_runs and (ends is None or _now() < ends):
-            trial = hunter.run(hunted.runs, begun.begins)
-            run, hunted.runs = hunted.runs, hunted.runs + 1
-            hunted.turns += len(trial.steps)
-            if trial.found is None:
-                continue
-            goes_on = settings.after_exceptions and trial.found == endings.EXCEPTION
-            if goes_on and any(it.trial.is_like(trial) for it in hunted.exceptions):
-                continue
-            finding = _told(hunter, run, trial)
-            if goes_on:
-                hunted.exceptions.append(finding)
-            else:
-                hunted.finding = finding
-            _written(settings, hunted, finding)
-            if not goes_on:
-                break
-    begun.ends()
+    try:
+        with Names():
+            while hunted.runs != settings.most_runs and (ends is None or _now() < ends):
+                trial = hunter.run(hunted.runs, begun.begins)
+                run, hunted.runs = hunted.runs, hunted.runs + 1
+                hunted.turns += len(trial.steps)
+                if trial.found is None:
+                    continue
+                goes_on = settings.after_exceptions and trial.found == endings.EXCEPTION
+                if goes_on and any(it.trial.is_like(trial) for it in hunted.exceptions):
+                    continue
+                finding = _told(hunter, run, trial)
+                if goes_on:
+                    hunted.exceptions.append(finding)
+                else:
+                    hunted.finding = finding
+                _written(settings, hunted, finding)
+                if not goes_on:
+                    break
+    finally:
+        begun.ends()
     return hunted
 
 
@@ -121,7 +125,7 @@ def replay(settings, again, make, call=by_name):
 # Runs it once more, and makes it small where it came again.
 def _told(hunter, run, trial):
     finding = Finding(hunter, run, trial, hunter.run(run).is_same(trial))
-    if finding.repeats and trial.found != endings.STUCK:
+    if finding.repeats and trial.is_left:
         finding.made_small(small.smaller(hunter, trial))
     if trial.found == ILLEGAL:
         finding.small_book = smaller_book(finding.small.book)

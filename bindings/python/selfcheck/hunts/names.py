@@ -13,7 +13,7 @@ import threading
 import time
 import types
 
-from . import waits
+from . import points, waits
 from .run import current
 
 _LIBRARY = os.path.join(os.path.dirname(os.__file__), "")
@@ -101,10 +101,11 @@ _LOCKS = {_thread.LockType: waits.Lock, type(threading.RLock()): waits.RLock}
 
 
 class Names:
-    """While it is entered the names are the hunt's own. One hunt runs at a time."""
+    """While it is entered names and points are the hunt's own. One hunt runs at a time."""
 
     def __enter__(self):
         _HUNTING.acquire()
+        points.are_steps(True)
         self._undo = []
         self._owns = {id(plain): own for plain, own in _NAMES}
         self._classes = set()
@@ -120,6 +121,7 @@ class Names:
             change(*to)
         for name, (plain, _) in _METHODS.items():
             setattr(threading.Thread, name, plain)
+        points.are_steps(False)
         _HUNTING.release()
 
     def _module(self, name, module):

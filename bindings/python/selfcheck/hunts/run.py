@@ -59,6 +59,7 @@ class Member:
         self.key = self.until = self.awaits = self.gives_way = None
         self.timed_out = False
         self.place = None
+        self.points_after_end = 0
 
     def told(self, _run):
         return self.who
@@ -250,6 +251,8 @@ class Run:
         self.over = False
         self._main_ended = None
         self._inside = 0
+        # whether all threads have left it
+        self.is_left = True
         self._guard = _allocate_lock()
         self._left = _allocate_lock()
 
@@ -273,6 +276,7 @@ class Run:
         seen = -1
         while not self._left.acquire(timeout=_UNWINDING if self.over else self._patience):
             if self.over:
+                self.is_left = False
                 return
             if len(self.steps) == seen:
                 stuck = self._members[self._last]

@@ -22,6 +22,7 @@ class Trial:
         self.written = written or chooser.joined((it, turns) for it, _, turns in self.legs)
         self.threads = run.whos()
         self.switches = run.switches
+        self.is_left = run.is_left
         self.book = book
         self.found = self._found()
 

@@ -18,6 +18,15 @@ pub enum HuntError<K: Kind> {
     NoRun(NoRun),
     /// A book couldn't be judged.
     Unjudged(Fault),
+    /// The file that is to have a run before it begins couldn't be written, so it didn't begin.
+    NotBegun {
+        /// The file.
+        file: PathBuf,
+        /// The number of the run.
+        run: u64,
+        /// Why it isn't written.
+        error: io::Error,
+    },
     /// Files of a finding couldn't be written. All that was found is here all the same.
     Unwritten {
         /// The finding's folder.
@@ -37,6 +46,13 @@ impl<K: Kind> fmt::Display for HuntError<K> {
             HuntError::Setting(error) => error.fmt(f),
             HuntError::NoRun(error) => error.fmt(f),
             HuntError::Unjudged(fault) => write!(f, "a book couldn't be judged: {fault}"),
+            HuntError::NotBegun { file, run, error } => {
+                let file = file.display();
+                write!(
+                    f,
+                    "run {run} didn't begin, since {file} couldn't be written: {error}"
+                )
+            }
             HuntError::Unwritten {
                 folder,
                 lost,

@@ -71,7 +71,7 @@ impl<K: Kind> Finding<K> {
     }
 
     pub(crate) fn line_of(&self, again: &Again) -> String {
-        format!("replay(&{}, \"{again}\", make, call)", self.settings)
+        line(&self.settings, again)
     }
 
     /// Where it is written, if it is.
@@ -79,6 +79,11 @@ impl<K: Kind> Finding<K> {
     pub fn folder(&self) -> Option<&Path> {
         self.folder.as_deref()
     }
+}
+
+/// The line of code that brings a run again.
+pub(crate) fn line(settings: &str, again: &Again) -> String {
+    format!("replay(&{settings}, \"{again}\", make, call)")
 }
 
 /// What is wrong, how it comes again, and the small run's steps.

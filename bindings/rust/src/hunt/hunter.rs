@@ -58,7 +58,17 @@ impl<'a, K: Scripted> Hunter<'a, K> {
     /// A run of the hunt. The first one has to be made before all others.
     pub(crate) fn run(&mut self, run: u64) -> Result<Trial<K>, Fault> {
         let (script, draw) = Script::drawn(self.settings, run);
-        let trial = self.trial(&script, self.chooser(run, draw))?;
+        self.run_of(run, &script, draw)
+    }
+
+    /// The run with this script, and with what is drawn after it.
+    pub(crate) fn run_of(
+        &mut self,
+        run: u64,
+        script: &Script<K>,
+        draw: Draw,
+    ) -> Result<Trial<K>, Fault> {
+        let trial = self.trial(script, self.chooser(run, draw))?;
         if run == 0 {
             self.turns = trial.ran.turns.len();
         }

@@ -70,6 +70,7 @@ use crate::reply::Reply;
 use crate::schedule::Ending;
 use crate::schedule::legs::legs_of;
 use again::SmallRun;
+use folder::Begun;
 use hunter::Hunter;
 use std::sync::Arc;
 use std::time::Instant;
@@ -81,7 +82,8 @@ use trial::{Maker, Object};
 /// # Errors
 ///
 /// Where a setting is out of its bounds, by its name, before anything runs; for want of memory; and
-/// where a finding can't be written, with what is lost.
+/// where a finding can't be written, with what is lost, or the file that has each run before it
+/// begins.
 pub fn hunt<K, O>(
     settings: &Settings<K>,
     make: impl Fn() -> O + Send + Sync + 'static,
@@ -99,11 +101,16 @@ where
         finding: None,
         panics: Vec::new(),
     };
+    let begun = Begun::of(settings);
     let began = Instant::now();
     let has_time = || settings.time.is_none_or(|time| began.elapsed() < time);
     while hunted.runs < settings.most_runs() && has_time() {
         let run = hunted.runs;
-        let trial = hunter.run(run)?;
+        let (script, draw) = Script::drawn(settings, run);
+        if let Some(begun) = &begun {
+            begun.begins(run, &script)?;
+        }
+        let trial = hunter.run_of(run, &script, draw)?;
         hunted.runs += 1;
         hunted.turns += trial.ran.turns.len() as u64;
         let Some(found) = trial.found.clone() else {
@@ -163,9 +170,8 @@ fn told<K: Scripted>(
     found: Found,
 ) -> Result<Finding<K>, Fault> {
     let repeats = !hunter.settings.real_threads && hunter.run(run)?.is_same(&trial);
-    let is_stuck = matches!(found, Found::Ended(Ending::Stuck(_)));
     let (mut small, mut small_again) = (trial.clone(), None);
-    if repeats && !is_stuck {
+    if repeats && trial.ran.all_left {
         small = small::smaller(hunter, &trial)?;
         let legs = legs_of(small.ran.turns.iter().map(|it| it.thread));
         small_again = Some(Again {
@@ -198,16 +204,15 @@ fn written<K: Scripted>(
     goes_on: bool,
 ) -> Result<Hunted<K>, HuntError<K>> {
     let mut result = Ok(());
-    let picture = match &finding.small_book {
-        Some(book) => Some(book.picture()?),
-        None => None,
+    let of_small_book = match &finding.small_book {
+        Some(book) => vec![("picture.svg", book.picture()?)],
+        None => Vec::new(),
     };
     if let Some(folder) = &settings.folder {
         let name = format!("{}-{}-{}", K::NAME, settings.seed, finding.run());
         let folder = folder.join(name);
         finding.folder = Some(folder.clone());
-        result =
-            folder::write(&finding, picture.as_deref(), &folder).map_err(|lost| (lost, folder));
+        result = folder::write(&finding, &of_small_book, &folder).map_err(|lost| (lost, folder));
     }
     if goes_on {
         hunted.panics.push(finding);

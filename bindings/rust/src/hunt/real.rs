@@ -158,6 +158,7 @@ pub(crate) fn try_real<K: Kind<Op: Send + Sync + 'static>>(
         turns: Vec::new(),
         threads: Vec::new(),
         switches: 0,
+        all_left: true,
     };
     Trial::judged(script.clone(), ran, &recorder)
 }

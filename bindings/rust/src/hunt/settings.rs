@@ -224,7 +224,8 @@ impl<K: Scripted> Settings<K> {
         self
     }
 
-    /// Where each finding has a folder of its own.
+    /// Where each finding has a folder of its own, and a file has the run that has begun, with its
+    /// script. That stays where the process ends in the run, as by an abort.
     #[must_use]
     pub fn folder(mut self, folder: impl AsRef<Path>) -> Self {
         self.folder = Some(folder.as_ref().to_owned());

@@ -7,6 +7,7 @@ use super::parker::Parker;
 use super::pool::{Job, Worker};
 use super::seat::{self, Abandon, Seat};
 use super::step::{At, Operated, Step, Who};
+use crate::library::Points;
 use std::panic::{AssertUnwindSafe, catch_unwind};
 use std::sync::atomic::{AtomicBool, AtomicU32, AtomicUsize, Ordering};
 use std::sync::{Arc, Condvar, Mutex, MutexGuard, PoisonError};
@@ -32,6 +33,8 @@ pub struct Ran {
     pub(crate) turns: Vec<Turn>,
     pub(crate) threads: Vec<Who>,
     pub(crate) switches: usize,
+    // no thread stays in it, as one that waits outside of the schedule
+    pub(crate) all_left: bool,
 }
 
 impl Ran {
@@ -471,8 +474,9 @@ impl Run {
         }
     }
 
-    // Waits until all threads have left the run, and ends it where they stand still.
-    fn watch(&self, patience: Duration) {
+    // Waits until all threads have left the run, and ends it where they stand still; says whether all
+    // have.
+    fn watch(&self, patience: Duration) -> bool {
         let mut moves = 0;
         let mut inside = unpoisoned(self.inside.lock());
         while *inside > 0 {
@@ -484,7 +488,7 @@ impl Run {
                 continue;
             }
             if self.is_over() {
-                return;
+                return false;
             }
             let moved = self.moves.load(Ordering::Relaxed);
             if moved == moves {
@@ -497,12 +501,14 @@ impl Run {
             }
             moves = moved;
         }
+        true
     }
 }
 
 /// Runs the body as a plan says, on kept threads, and comes back when they have ended.
 pub(crate) fn run(plan: Plan, body: Job) -> Ran {
     seat::listen_to_panics();
+    let _points = Points::of_run();
     let patience = plan.patience;
     let run = Run::new(plan);
     run.spawn(|_| Who::Main, body);
@@ -511,7 +517,7 @@ pub(crate) fn run(plan: Plan, body: Job) -> Ran {
         let first = state.choose().expect("the first thread can go on");
         state.threads[first].parker.give();
     }
-    run.watch(patience);
+    let all_left = run.watch(patience);
     let mut state = run.state();
     Ran {
         ending: state.ending.take().unwrap_or(Ending::Finished),
@@ -519,6 +525,7 @@ pub(crate) fn run(plan: Plan, body: Job) -> Ran {
         turns: std::mem::take(&mut state.turns),
         threads: state.threads.iter().map(|it| it.who.clone()).collect(),
         switches: state.switches,
+        all_left,
     }
 }
 
@@ -677,6 +684,11 @@ impl Seat {
 
     pub(crate) fn begins_call(&self, call: usize) {
         self.run.state().threads[self.me].call = Some(call);
+    }
+
+    /// The line of its last step.
+    pub(crate) fn at(&self) -> Option<At> {
+        self.run.state().threads[self.me].at
     }
 
     pub(crate) fn who(&self) -> Who {

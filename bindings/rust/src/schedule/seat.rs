@@ -2,11 +2,13 @@
 
 use super::parker::Parker;
 use super::run::Run;
-use super::step::Operated;
+use super::step::{Operated, POINT_OF_C};
 use std::cell::{Cell, RefCell};
-use std::panic::{self, Location, resume_unwind};
+use std::collections::BTreeMap;
+use std::ffi::CStr;
+use std::panic::{self, Location, catch_unwind, resume_unwind};
 use std::sync::atomic::{AtomicU64, Ordering};
-use std::sync::{Arc, Once};
+use std::sync::{Arc, Mutex, Once, PoisonError};
 use std::thread;
 
 #[derive(Clone, Debug)]
@@ -23,6 +25,8 @@ pub(crate) struct Abandon;
 thread_local! {
     static SEAT: RefCell<Option<Seat>> = const { RefCell::new(None) };
     static HEARS: Cell<bool> = const { Cell::new(false) };
+    // points of C code that the thread came to once its run was over
+    static AFTER_END: Cell<u32> = const { Cell::new(0) };
     static PANIC: RefCell<Option<(String, String)>> = const { RefCell::new(None) };
 }
 
@@ -63,6 +67,35 @@ pub(crate) fn step(name: &'static str) {
     }
 }
 
+/// A step of C code. C code can't be unwound: where the run is over it goes on, but for a loop that
+/// waits for others, which stays there.
+pub(crate) fn point_of_c(file: &'static CStr, line: i32) {
+    const MOST_AFTER_END: u32 = 1000;
+    let stepped = catch_unwind(|| {
+        if let Some(seat) = Seat::current() {
+            let at = seat.at().unwrap_or_else(Location::caller);
+            seat.step(Operated::on_none(point_name(file, line)), at);
+            // what it does isn't seen, so it may be a change
+            seat.changes();
+        }
+    });
+    let after_end = AFTER_END.get() + u32::from(stepped.is_err());
+    AFTER_END.set(after_end);
+    while after_end > MOST_AFTER_END {
+        thread::park();
+    }
+}
+
+// A name for each point that is come to.
+fn point_name(file: &'static CStr, line: i32) -> &'static str {
+    static NAMES: Mutex<BTreeMap<(&CStr, i32), &str>> = Mutex::new(BTreeMap::new());
+    let mut names = NAMES.lock().unwrap_or_else(PoisonError::into_inner);
+    names.entry((file, line)).or_insert_with(|| {
+        let name = format!("{POINT_OF_C}{}:{line}", file.to_string_lossy());
+        Box::leak(name.into_boxed_str())
+    })
+}
+
 /// Leaves a run that is over, unless this thread unwinds already.
 pub(crate) fn abandon() {
     if !thread::panicking() {
@@ -72,6 +105,7 @@ pub(crate) fn abandon() {
 
 pub(crate) fn enter(seat: Seat) {
     HEARS.set(true);
+    AFTER_END.set(0);
     PANIC.take();
     SEAT.set(Some(seat));
 }

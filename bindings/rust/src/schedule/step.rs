@@ -5,6 +5,9 @@ use std::panic::Location;
 
 pub(crate) type At = &'static Location<'static>;
 
+// How the name of a step of C code begins, which has its line too.
+pub(crate) const POINT_OF_C: &str = "selfcheck_point of ";
+
 /// Who a thread of a run is.
 #[derive(Clone, Debug, PartialEq, Eq, Hash)]
 #[non_exhaustive]
@@ -87,7 +90,8 @@ impl Step {
         self.operated
     }
 
-    /// The line of code that does it.
+    /// The line of code that does it. Of a `selfcheck_point()` in C code that is the line of the thread's
+    /// last step in Rust, and [`operated`](Step::operated) has its own.
     #[must_use]
     pub fn at(&self) -> &'static Location<'static> {
         self.at
@@ -96,6 +100,10 @@ impl Step {
 
 impl fmt::Display for Step {
     fn fmt(&self, f: &mut fmt::Formatter<'_>) -> fmt::Result {
-        write!(f, "{}: {} at {}", self.who, self.operated, self.at)
+        write!(f, "{}: {}", self.who, self.operated)?;
+        if self.operated.name.starts_with(POINT_OF_C) {
+            return Ok(());
+        }
+        write!(f, " at {}", self.at)
     }
 }
