@@ -11,7 +11,7 @@ class CellRegister:
         self._cell.set(value)
 
     def read(self):
-        return self._cell.get()
+        return self._cell.value
 
     def cas(self, old, new):
         return self._cell.compare_and_set(old, new)
@@ -19,7 +19,7 @@ class CellRegister:
 
 class Wrong(CellRegister):
     def cas(self, old, new):
-        if self._cell.get() != old:
+        if self._cell.value != old:
             return False
         self._cell.set(new)
         return True

@@ -35,11 +35,11 @@ class ReusedNodes:
     def enq(self, value):
         node = self._take_node()
         node.value = value
-        node.next.set((None, node.next.get()[1] + 1))
+        node.next.set((None, node.next.value[1] + 1))
         while True:
-            tail = self._tail.get()
-            after = tail[0].next.get()
-            if self.looks_again and self._tail.get() is not tail:
+            tail = self._tail.value
+            after = tail[0].next.value
+            if self.looks_again and self._tail.value is not tail:
                 continue
             if after[0] is not None:
                 _swings(self._tail, tail, after[0])
@@ -49,9 +49,9 @@ class ReusedNodes:
 
     def deq(self):
         while True:
-            head, tail = self._head.get(), self._tail.get()
-            after = head[0].next.get()
-            if self._head.get() is not head:
+            head, tail = self._head.value, self._tail.value
+            after = head[0].next.value
+            if self._head.value is not head:
                 continue
             if after[0] is None:
                 return None

@@ -22,6 +22,6 @@ class Wrong:
         self._next = itertools.count().__next__
 
     def inc(self):
-        before = sum(it.get() for it in self._shards)
+        before = sum(it.value for it in self._shards)
         self._shards[self._next() % 2].next()
         return before

@@ -23,14 +23,14 @@ class WrappedRing:
     def enq(self, value):
         with self._lock:
             tail = self._tail
-            while (tail - self._head.get()) % self.numbers >= _PLACES:
+            while (tail - self._head.value) % self.numbers >= _PLACES:
                 time.sleep(0)
             self._values[tail % _PLACES] = value
             self._tail = (tail + 1) % self.numbers
 
     def deq(self):
         while True:
-            head = self._head.get()
+            head = self._head.value
             if head == self._tail:
                 return None
             value = self._values[head % _PLACES]

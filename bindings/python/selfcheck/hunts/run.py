@@ -92,6 +92,7 @@ class Member:
             raise Abandon
         code, at = self.place = caller_place()
         self.status, self.key, self.awaits = _WAITS, key, awaits
+        run._waiting += 1
         self.until = None if nanoseconds is None else run.now + nanoseconds
         run.pass_turn(self)
         run.steps.append((self.number, self.call, WOKEN, code, at))
@@ -171,7 +172,7 @@ class Worker:
         # by the code's address, since its hash is that of its constants
         of_code = self._tracers.get(id(code))
         if of_code is None:
-            of_code = self._tracers[id(code)] = code, self._tracer(code)
+            of_code = self._tracers[id(code)] = code, self._tracer(code, frame.f_globals)
         tracer = of_code[1]
         frame.f_trace_lines = False
         if tracer is _UNTRACED:
@@ -187,13 +188,13 @@ class Worker:
             self._quiet = None
         return self._silent
 
-    def _tracer(self, code):
+    def _tracer(self, code, names):
         file = code.co_filename
         if file.startswith(_OWN_FOLDER):
             return _UNTRACED
         if file.startswith(_QUIET):
             return _SILENT
-        steps = opcodes.steps_of(code)
+        steps = opcodes.steps_of(code, names)
 
         def tracer(frame, event, _argument):
             if event != "opcode":
@@ -246,7 +247,10 @@ class Run:
         self.idle = 0
         self._call_ended = 0
         self._objects = 0
-        self._held = []
+        # how many members wait
+        self._waiting = 0
+        # who holds a lock, and since which place
+        self._held = {}
         self.ending = None
         self.over = False
         self._main_ended = None
@@ -423,6 +427,7 @@ class Run:
         member = members[number]
         if member.status is _WAITS:
             member.status, member.timed_out = _READY, True
+            self._waiting -= 1
         return [number]
 
     # The number of who has the next turn; None where no thread can go on.
@@ -447,14 +452,15 @@ class Run:
 
     # What waits for what
 
-    def wake(self, key, most=None):
-        """Wakes the first that wait for this key, and says how many."""
-        woken = [it for it in self._members if it.status is _WAITS and it.key == key][:most]
-        for member in woken:
-            member.status, member.awaits = _READY, None
-        if woken:
-            self.budget = self.idle = 0
-        return len(woken)
+    def wake(self, key):
+        """Wakes those that wait for this key."""
+        if not self._waiting:
+            return
+        for member in self._members:
+            if member.status is _WAITS and member.key == key:
+                member.status, member.awaits = _READY, None
+                self._waiting -= 1
+                self.budget = self.idle = 0
 
     def has_ended(self, number):
         return self._members[number].status is _ENDED
@@ -472,13 +478,10 @@ class Run:
 
     def holds(self, thing, member):
         """The member has a lock from now on, which is told of who waits for it."""
-        self._held.append((thing, member, member.place))
+        self._held[thing] = member, member.place
 
     def gives_back(self, thing):
-        for at in range(len(self._held) - 1, -1, -1):
-            if self._held[at][0] is thing:
-                del self._held[at]
-                break
+        self._held.pop(thing, None)
         self.wake(thing)
 
     def _told(self, member):
@@ -489,11 +492,10 @@ class Run:
         doing = "is"
         if member.awaits:
             doing = "waits for " + member.awaits[0].format(member.awaits[1].told(self))
-        held = "".join(
-            f", held by {holder.who} since {opcodes.place(*since)}"
-            for thing, holder, since in self._held
-            if member.awaits and thing is member.key
-        )
+        held = ""
+        if member.awaits and member.key in self._held:
+            holder, since = self._held[member.key]
+            held = f", held by {holder.who} since {opcodes.place(*since)}"
         return f"{member.who}{call} {doing} at {opcodes.place(code, at)}{held}"
 
     # Those that haven't ended; the main one only where nobody else is left, since it waits for the

@@ -57,11 +57,12 @@ class _Waited:
         return f"{self._KIND} #{run.number_of(self)}, made at {made},"
 
     def _step(self, me, name):
-        me.step(name, me.run.number_of(self))
+        run, number = self.numbered
+        me.step(name, number if run is me.run else me.run.number_of(self))
 
 
 class Lock(_Waited):
-    _KIND = "Lock"
+    _KIND, _ACQUIRE = "Lock", "Lock.acquire"
 
     def __new__(cls):
         return super().__new__(cls) if current() else _Lock()
@@ -87,7 +88,7 @@ class Lock(_Waited):
     def acquire(self, me, blocking=True, timeout=-1):
         if me is None:
             return self._acquire_plainly(blocking, timeout)
-        self._step(me, f"{self._KIND}.acquire")
+        self._step(me, self._ACQUIRE)
         return self._take(me, blocking, nanoseconds(None if timeout < 0 else timeout))
 
     __enter__ = acquire
@@ -131,8 +132,9 @@ class Lock(_Waited):
         if owner or me:
             (owner or me).run.gives_back(self)
 
-    def __exit__(self, *_):
-        self.release()
+    @operation
+    def __exit__(self, me, *_):
+        self._release(me)
 
     @operation
     def locked(self, me):
@@ -159,7 +161,7 @@ class Lock(_Waited):
 
 
 class RLock(Lock):
-    _KIND = "RLock"
+    _KIND, _ACQUIRE = "RLock", "RLock.acquire"
 
     def __new__(cls):
         return object.__new__(cls) if current() else _RLock()
