@@ -1,7 +1,9 @@
 """Hunts of objects that are wrong on purpose, and what hunts say where they can't hunt."""
 
 import collections
+import concurrent.futures
 import dataclasses
+import functools
 import os
 import queue
 import re
@@ -123,7 +125,8 @@ class Endings(unittest.TestCase):
         finding = hunt(settings, Pipe).finding
         self.assertEqual(finding.found, "stuck")
         self.assertFalse(finding.small_again)
-        self.assertRegex(str(finding), r"caller 0, in its call 0, is at .*test_hunts\.py:\d+")
+        line = Pipe.read.__code__.co_firstlineno + 1
+        self.assertRegex(str(finding), rf"caller 0, in its call 0, is at .*test_hunts\.py:{line}\n")
         os.write(other, b"1234")
 
     def test_an_exception_has_its_line(self):
@@ -185,6 +188,29 @@ class OfClass(Locked):
         super().__init__(self.shared)
 
 
+class WithCached(Locked):
+    def __init__(self):
+        super().__init__(threading.Lock())
+
+    @functools.cached_property
+    def step(self):
+        return 1
+
+    def inc(self):
+        with self.lock:
+            self.number += self.step
+            return self.number - 1
+
+
+class WithPool(Locked):
+    def __init__(self):
+        super().__init__(threading.Lock())
+        self.pool = concurrent.futures.ThreadPoolExecutor(2)
+
+    def inc(self):
+        return self.pool.submit(super().inc).result()
+
+
 class Names(unittest.TestCase):
     def right(self, make):
         told = hunt(Settings("counter", runs=60, patience=2), make)
@@ -200,6 +226,11 @@ class Names(unittest.TestCase):
         self.right(lambda: Locked(_module_lock))
         self.right(WithFactory)
         self.right(OfClass)
+        self.right(WithCached)
+
+    def test_pools(self):
+        told = hunt(Settings("counter", callers=2, calls=2, runs=40), WithPool)
+        self.assertIsNone(told.finding, told)
 
     def test_names_are_as_they_were(self):
         def names():

@@ -6,6 +6,8 @@ the standard library's. Outside of runs the hunt's own do as the standard librar
 """
 
 import _thread
+import functools
+import logging
 import os
 import queue
 import sys
@@ -17,7 +19,8 @@ from . import points, waits
 from .run import current
 
 _LIBRARY = os.path.join(os.path.dirname(os.__file__), "")
-_OWN = __name__.rpartition(".")[0].partition(".")[0]
+# This package, and what the interpreter imports modules by.
+_LEFT_ALONE = {__name__.partition(".")[0], "_thread", "importlib", "_frozen_importlib"}
 _HUNTING = threading.Lock()
 
 
@@ -40,24 +43,14 @@ def _clock(name, divisor):
     return plain, clock
 
 
-_start, _join, _is_alive = (
-    threading.Thread.start,
-    threading.Thread.join,
-    threading.Thread.is_alive,
-)
-
-
-def _number_of(thread, me):
-    """The number of a thread in the run that has started it; None where the run hasn't."""
-    run, number = getattr(thread, "_selfcheck", (None, None))
-    return number if me and run is me.run else None
+_start = threading.Thread.start
 
 
 def _start_thread(self):
     me = current()
     if me is None:
         return _start(self)
-    if _number_of(self, me) is not None:
+    if hasattr(self, "_selfcheck"):
         raise RuntimeError("threads can only be started once")
     me.step("Thread.start")
     number = me.run.spawn(
@@ -65,28 +58,26 @@ def _start_thread(self):
         lambda: current().worker.traced(self.run),
     )
     self._selfcheck = me.run, number
+    # they outlive the hunt, since the interpreter joins threads of pools when it ends
+    self.join = functools.partial(_join_thread, me.run, number)
+    self.is_alive = functools.partial(_is_thread_alive, me.run, number)
 
 
-def _join_thread(self, timeout=None):
+def _join_thread(run, number, timeout=None):
     me = current()
-    number = _number_of(self, me)
-    if number is None:
-        return _join(self, timeout)
-    me.step("Thread.join")
-    me.run.join(number, waits.nanoseconds(timeout))
+    if me and me.run is run:
+        me.step("Thread.join")
+        run.join(number, waits.nanoseconds(timeout))
 
 
-def _is_thread_alive(self):
+def _is_thread_alive(run, number):
     me = current()
-    number = _number_of(self, me)
-    if number is None:
-        return _is_alive(self)
+    if not (me and me.run is run):
+        return False
     me.step("Thread.is_alive")
-    return not me.run.has_ended(number)
+    return not run.has_ended(number)
 
 
-_METHODS = {"start": (_start, _start_thread), "join": (_join, _join_thread)}
-_METHODS["is_alive"] = _is_alive, _is_thread_alive
 _NAMES = [
     (threading.Lock, waits.Lock),
     (threading.RLock, waits.RLock),
@@ -100,6 +91,15 @@ _NAMES = [
 _LOCKS = {_thread.LockType: waits.Lock, type(threading.RLock()): waits.RLock}
 
 
+# It tells of each thread of a pool that unwinds.
+_POOLS = logging.getLogger("concurrent.futures")
+
+
+def _is_told(_record):
+    me = current()
+    return not (me and me.run.over)
+
+
 class Names:
     """While it is entered names and points are the hunt's own. One hunt runs at a time."""
 
@@ -109,18 +109,24 @@ class Names:
         self._undo = []
         self._owns = {id(plain): own for plain, own in _NAMES}
         self._classes = set()
-        for name, (_, own) in _METHODS.items():
-            setattr(threading.Thread, name, own)
+        threading.Thread.start = _start_thread
+        _POOLS.addFilter(_is_told)
+        self._seen = set(sys.modules)
         for name, module in list(sys.modules.items()):
-            if name.partition(".")[0] != _OWN and isinstance(module, types.ModuleType):
+            if name.partition(".")[0] not in _LEFT_ALONE and isinstance(module, types.ModuleType):
                 self._module(name, module)
         return self
 
     def __exit__(self, *_):
         for change, *to in reversed(self._undo):
             change(*to)
-        for name, (plain, _) in _METHODS.items():
-            setattr(threading.Thread, name, plain)
+        plains = {id(own): plain for plain, own in _NAMES}
+        for name in set(sys.modules) - self._seen:
+            # a module that was imported meanwhile
+            names = getattr(sys.modules[name], "__dict__", {})
+            names.update({key: plains[id(it)] for key, it in names.items() if id(it) in plains})
+        threading.Thread.start = _start
+        _POOLS.removeFilter(_is_told)
         points.are_steps(False)
         _HUNTING.release()
 
@@ -148,7 +154,11 @@ class Names:
             self._classes.add(value)
             for key, its in list(vars(value).items()):
                 own = self._owns.get(id(its)) or self._lock(f"{value.__qualname__}.{key}", its)
-                if own is not None:
+                if isinstance(its, functools.cached_property) and hasattr(its, "lock"):
+                    # some versions have a lock in it
+                    self._undo.append((setattr, its, "lock", its.lock))
+                    its.lock = waits.RLock.of_module(f"{value.__qualname__}.{key}")
+                elif own is not None:
                     setattr(value, key, own)
                     self._undo.append((setattr, value, key, its))
                 else:

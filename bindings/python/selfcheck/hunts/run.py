@@ -21,7 +21,7 @@ _allocate_lock, _get_ident, _start = (
 # keep the others from going on.
 _MOST_IN_A_ROW = 500
 # How far the threads that are left may go once the main one has ended.
-_TURNS_OF_DETACHED = 1000
+_TURNS_OF_DETACHED = 200
 # How many seconds the threads of a run that is over have to unwind.
 _UNWINDING = 2
 
@@ -60,6 +60,7 @@ class Member:
         self.timed_out = False
         self.place = None
         self.points_after_end = 0
+        self.ident = None
 
     def told(self, _run):
         return self.who
@@ -103,7 +104,11 @@ class Member:
 
 def caller_place():
     """Where the code is that has called the hunt's own."""
-    frame = sys._getframe(1)
+    return place_of(sys._getframe(1))
+
+
+def place_of(frame):
+    """Where in a frame, or in those that it was called by, code is that isn't the hunt's own."""
     while frame.f_back and _is_own(frame.f_code.co_filename):
         frame = frame.f_back
     return frame.f_code, frame.f_lasti
@@ -284,6 +289,9 @@ class Run:
                 return
             if len(self.steps) == seen:
                 stuck = self._members[self._last]
+                frame = sys._current_frames().get(stuck.ident)
+                if frame:
+                    stuck.place = place_of(frame)
                 self.end(Ending(endings.STUCK, [self._told(stuck)]))
             seen = len(self.steps)
 
@@ -323,7 +331,8 @@ class Run:
         return number
 
     def _live(self, member, body):
-        _of_threads[_get_ident()] = member
+        member.ident = _get_ident()
+        _of_threads[member.ident] = member
         member.worker.member = member
         error = None
         try:

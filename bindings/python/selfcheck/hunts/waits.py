@@ -142,6 +142,9 @@ class Lock(_Waited):
             self._step(me, f"{self._KIND}.locked")
         return self._count > 0
 
+    def _at_fork_reinit(self):
+        self.begins()
+
     # What conditions ask of a lock, the standard library's among them.
 
     def _is_owned(self):

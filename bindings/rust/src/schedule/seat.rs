@@ -81,8 +81,10 @@ pub(crate) fn point_of_c(file: &'static CStr, line: i32) {
     });
     let after_end = AFTER_END.get() + u32::from(stepped.is_err());
     AFTER_END.set(after_end);
-    while after_end > MOST_AFTER_END {
-        thread::park();
+    if after_end > MOST_AFTER_END {
+        loop {
+            thread::park();
+        }
     }
 }
 
