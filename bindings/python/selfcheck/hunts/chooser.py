@@ -9,11 +9,14 @@ FAR = 2**32 - 1
 
 
 class Walk:
-    """A thread by chance, for a number of turns with a mean that the run draws."""
+    """A thread by chance, for a number of turns with a mean that the run draws.
 
-    def __init__(self, draw):
+    A run of so many turns has some 8 to 64 such legs, since the object's code may be short or long.
+    """
+
+    def __init__(self, draw, turns):
         self._draw = draw
-        self._mean = (4, 10, 25, 60)[draw.below(4)]
+        self._mean = max(3, turns // (8, 16, 32, 64)[draw.below(4)])
 
     def choose(self, candidates, _last, _turn):
         thread = candidates[self._draw.below(len(candidates))]

@@ -9,6 +9,9 @@ from .script import Script, text_of
 
 ILLEGAL = "illegal"
 
+# How many turns the first run is taken to have.
+_TURNS = 200
+
 
 class Trial:
     """`found` names what is wrong: None, "illegal", or the name of an ending. `told` tells it."""
@@ -129,7 +132,7 @@ class Hunter:
         strategy = self.settings.strategy
         by_priorities = draw.below(2) == 0 if strategy == "both" else strategy == "priorities"
         if run == 0 or not by_priorities:
-            return chooser.Walk(draw)
+            return chooser.Walk(draw, self._turns or _TURNS)
         points = 1 + draw.below(self.settings.change_points)
         return chooser.Priorities(draw, points, self._turns)
 
