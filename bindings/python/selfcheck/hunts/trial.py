@@ -132,7 +132,7 @@ class Hunter:
         strategy = self.settings.strategy
         by_priorities = draw.below(2) == 0 if strategy == "both" else strategy == "priorities"
         if run == 0 or not by_priorities:
-            return chooser.Walk(draw, self._turns or _TURNS)
+            return chooser.Walk(draw, self._turns if run else _TURNS)
         points = 1 + draw.below(self.settings.change_points)
         return chooser.Priorities(draw, points, self._turns)
 
