@@ -5,7 +5,7 @@ from .draw import Draw
 
 # How many runs, and how many turns in all, are spent on one finding.
 _RUNS = 800
-_TURNS = 400_000
+_TURNS = 200_000
 # Further schedules for a script with fewer calls, and for one schedule with fewer switches.
 _OTHERS = 4
 _FEWER = 100
