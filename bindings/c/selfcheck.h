@@ -1,7 +1,7 @@
 /* Verdicts on the texts of books and certificates, smaller books and pictures, and calls that check themselves or that
  * monitors judge, by a proved library. docs/FORMATS.md has the texts.
  *
- * Link libselfcheck_c.a, and behind it liblibc_c.a, by which it takes memory from malloc.
+ * Link libselfcheck.a or libselfcheck.so, which takes memory from malloc.
  *
  * Each call keeps no pointer to anything it is given. Any number of threads may call at once. What
  * is asked of a caller, and nothing checks: no pointer is null but that of a text, a kind or a
@@ -21,6 +21,10 @@
 #ifdef __cplusplus
 extern "C" {
 #endif
+
+/* The version of this header: 65536 times the major number, 256 times the minor one, and the
+ * patch. */
+#define SELFCHECK_VERSION 0x000100
 
 /* An export takes no null pointer. */
 #define SELFCHECK_EXPORT __attribute__((nonnull))
@@ -49,6 +53,9 @@ struct selfcheck_refusal {
     uint64_t line;
     uint32_t what;
 };
+
+/* The version of the library, as SELFCHECK_VERSION has that of the header. */
+uint32_t selfcheck_version(void);
 
 /* Whether the book with this text has a legal order. */
 SELFCHECK_EXPORT uint32_t selfcheck_verify(const uint8_t *text, size_t length,

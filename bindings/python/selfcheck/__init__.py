@@ -22,6 +22,8 @@ import threading
 
 __all__ = ["Caller", "Incomplete", "Recorder", "Refused", "certify", "order", "picture", "smaller", "verify"]
 
+__version__ = "0.1.0"
+
 MAX_CALLERS = 16
 MAX_CALLS = 256
 
@@ -58,9 +60,9 @@ try:
     _library = ctypes.CDLL(os.environ.get("SELFCHECK_SO", _HERE))
 except OSError as error:
     raise ImportError(
-        f"{error}\n"
-        "bindings/try proves and builds the library, and then pip install puts it beside this module;\n"
-        "or SELFCHECK_SO names the shared library, where it is elsewhere"
+        f"the library is missing: {error}\n"
+        "three ways to it: pip install a release's wheel; bindings/try in a clone, with the Rattle kit, and then pip "
+        "install, where SELFCHECK_LIB names the folder of another archive; or SELFCHECK_SO names a shared library"
     ) from error
 for _name, _more in [
     ("selfcheck_verify", []),
@@ -71,6 +73,19 @@ for _name, _more in [
 ]:
     getattr(_library, _name).restype = ctypes.c_uint32
     getattr(_library, _name).argtypes = [*_TEXT, *_more, ctypes.POINTER(_Refusal)]
+
+
+def _check_version():
+    try:
+        number = _library.selfcheck_version()
+    except AttributeError:
+        number = 0
+    found = f"{number >> 16}.{number >> 8 & 255}.{number & 255}"
+    if found != __version__:
+        raise ImportError(f"the library {_library._name} has the version {found}, and this module {__version__}")
+
+
+_check_version()
 
 
 def _bytes(text):

@@ -5,7 +5,7 @@ use crate::schedule::seat;
 use std::ffi::{CStr, c_char, c_int, c_void};
 use std::ptr;
 use std::sync::atomic::{AtomicPtr, Ordering};
-use std::sync::{Mutex, PoisonError};
+use std::sync::{Mutex, Once, PoisonError};
 
 /// Why a text was refused, as the library tells it.
 #[repr(C)]
@@ -28,6 +28,7 @@ struct Slot {
 // nothing. They require nothing but what the types say, and keep no pointer to what they are given. Many threads may
 // call at once, with a slot in one call at a time.
 unsafe extern "C" {
+    fn selfcheck_version() -> u32;
     fn selfcheck_verify(text: *const u8, length: usize, refusal: &mut Refusal) -> u32;
     fn selfcheck_order(text: *const u8, length: usize, refusal: &mut Refusal) -> u32;
     fn selfcheck_certify(
@@ -80,6 +81,35 @@ const NO_MEMORY: u32 = 6;
 const NO_ROOM: u32 = 8;
 const UNFIT: u32 = 9;
 
+const fn number(text: &str) -> u32 {
+    match u32::from_str_radix(text, 10) {
+        Ok(number) => number,
+        Err(_) => panic!("a version has three numbers"),
+    }
+}
+
+// The version of this crate, as the library tells its own.
+const VERSION: u32 = (number(env!("CARGO_PKG_VERSION_MAJOR")) << 16)
+    | (number(env!("CARGO_PKG_VERSION_MINOR")) << 8)
+    | number(env!("CARGO_PKG_VERSION_PATCH"));
+
+// Compares the versions once in a process: the functions that need no slot begin with it.
+fn check_version() {
+    static CHECKED: Once = Once::new();
+    CHECKED.call_once(|| {
+        // SAFETY: the export takes nothing, and touches no memory.
+        let found = unsafe { selfcheck_version() };
+        assert!(
+            found == VERSION,
+            "the linked library has the version {}.{}.{}, and the crate selfcheck {}",
+            found >> 16,
+            (found >> 8) & 255,
+            found & 255,
+            env!("CARGO_PKG_VERSION")
+        );
+    });
+}
+
 fn no_such_status(status: u32) -> ! {
     unreachable!("the library has no status {status} here")
 }
@@ -118,6 +148,7 @@ fn verdict(status: u32, refusal: &Refusal) -> Result<Verdict, Fault> {
 ///
 /// Where the bytes are no book's text of version 2, and for want of memory.
 pub fn verify(text: impl AsRef<[u8]>) -> Result<Verdict, Fault> {
+    check_version();
     let text = text.as_ref();
     let mut refusal = Refusal::default();
     // SAFETY: the pointer and the length are those of a slice that is borrowed for the call, and the refusal is this
@@ -132,6 +163,7 @@ pub fn verify(text: impl AsRef<[u8]>) -> Result<Verdict, Fault> {
 ///
 /// Where the bytes are no certificate's text, and for want of memory.
 pub fn order(text: impl AsRef<[u8]>) -> Result<Verdict, Fault> {
+    check_version();
     let text = text.as_ref();
     let mut refusal = Refusal::default();
     // SAFETY: as in `verify`.
@@ -151,6 +183,7 @@ type Writer = unsafe extern "C" fn(
 
 // What an export writes of a text, with its status. The buffer has so many bytes at first, and then as many as are wanted.
 fn written_by(writer: Writer, text: &[u8], room: usize) -> (u32, Refusal, String) {
+    check_version();
     let mut buffer = vec![0; room];
     loop {
         let (mut written, mut refusal) = (0, Refusal::default());
@@ -364,6 +397,7 @@ fn filled(status: u32, slot: Slot) -> Result<Slot, Lack> {
 
 impl Table {
     pub(crate) fn open(kind: &str, callers: u32, calls: u64) -> Result<Table, Lack> {
+        check_version();
         let mut slot = Slot::empty();
         // SAFETY: the pointer and the length are those of a string that is borrowed for the call; the slot is this
         // function's own, and new.

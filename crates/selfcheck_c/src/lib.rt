@@ -34,6 +34,17 @@ pub const REFUSED: u32 = 3;
 pub const NO_MEMORY: u32 = 6;
 /// The buffer is too short for the text that the call would write.
 pub const NO_ROOM: u32 = 8;
+/// The version: 65536 times the major number, 256 times the minor one, and the patch.
+pub const VERSION: u32 = 0x00_01_00;
+
+/// The version of the library, 0.1.0: 65536 times the major number, 256 times the minor one, and
+/// the patch.
+#[unsafe(no_mangle)]
+pub extern "C" fn selfcheck_version() -> u32
+    ensures { result ≡ 256 }
+{
+    VERSION
+}
 
 /// Judges the book that the bytes are the text of. Where the text is refused, `refusal` says why;
 /// otherwise it stays as it was.

@@ -1,0 +1,15 @@
+# Completions of selfcheck for fish.
+complete -c selfcheck -n __fish_use_subcommand -a verify -d 'whether a book has a legal order'
+complete -c selfcheck -n __fish_use_subcommand -a sketch -d 'the history that views determine'
+complete -c selfcheck -n __fish_use_subcommand -a run -d 'a run of a script, on threads'
+complete -c selfcheck -n __fish_use_subcommand -a replay -d 'a run of a script, by its turns'
+complete -c selfcheck -n __fish_use_subcommand -a certify -d 'what a run delivered, with an order'
+complete -c selfcheck -n __fish_use_subcommand -a monitor -d 'a run that monitors judge'
+complete -c selfcheck -n __fish_use_subcommand -a order -d 'whether a certificate holds'
+complete -c selfcheck -n __fish_use_subcommand -a soak -d 'the counts of a run made from a number'
+complete -c selfcheck -n __fish_use_subcommand -a sets -d 'whether a set book has a set order'
+complete -c selfcheck -n __fish_use_subcommand -a upgrade -d 'a text of version 1 in version 2'
+complete -c selfcheck -n '__fish_seen_subcommand_from run replay certify monitor' -f \
+    -a 'lawful tally cell lossy twice late invent split onepass'
+complete -c selfcheck -l help -d 'the words'
+complete -c selfcheck -l version -d 'the version and what is proved'
