@@ -9,7 +9,7 @@
 
 self=$(readlink -f -- "$0") || exit 7
 top=${self%/*/*}
-script=${self##*/}
+script=${0##*/}
 
 fail() {
     echo "$script: $1" >&2

@@ -64,6 +64,10 @@ except OSError as error:
         "three ways to it: pip install a release's wheel; bindings/try in a clone, with the Rattle kit, and then pip "
         "install, where SELFCHECK_LIB names the folder of another archive; or SELFCHECK_SO names a shared library"
     ) from error
+_number = getattr(_library, "selfcheck_version", int)()
+_found = f"{_number >> 16}.{_number >> 8 & 255}.{_number & 255}"
+if _found != __version__:
+    raise ImportError(f"the library {_library._name} has the version {_found}, and this module {__version__}")
 for _name, _more in [
     ("selfcheck_verify", []),
     ("selfcheck_order", []),
@@ -73,19 +77,6 @@ for _name, _more in [
 ]:
     getattr(_library, _name).restype = ctypes.c_uint32
     getattr(_library, _name).argtypes = [*_TEXT, *_more, ctypes.POINTER(_Refusal)]
-
-
-def _check_version():
-    try:
-        number = _library.selfcheck_version()
-    except AttributeError:
-        number = 0
-    found = f"{number >> 16}.{number >> 8 & 255}.{number & 255}"
-    if found != __version__:
-        raise ImportError(f"the library {_library._name} has the version {found}, and this module {__version__}")
-
-
-_check_version()
 
 
 def _bytes(text):
