@@ -1,5 +1,3 @@
-//! A hunt for what is wrong with a queue that looks at its first value and takes it under two locks.
-
 use selfcheck::hunt::{Settings, hunt};
 use selfcheck::schedule::sync::Mutex;
 use selfcheck::{Queue, QueueObject};
