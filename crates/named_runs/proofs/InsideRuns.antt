@@ -1,35 +1,115 @@
 -- Runs over objects inside the world, and the behaviours that are run over them.
-use Rattle.std.proofs.Common.{◌≡◌, ◌∙◌, sym, ap, List, None, is_some, true≢false, false, length}
-use Rattle.std.specs.List.{list_any}
+use Rattle.std.proofs.Common.{◌≡◌, ◌∙◌, sym, ap, subst, ℕ, ◌<◌, List, Option, None, is_some, true≢false, false, length, arith}
+use Rattle.std.proofs.lemmas.Option.{slice_get_within, get_or_from_slice_get}
+use Rattle.book_base.specs.SeqSpec.{SeqSpec}
 use Rattle.seq_objects.specs.declared.kind.Kind.{Kind}
 use Rattle.seq_objects.specs.Objects.{kind_spec}
-use Rattle.world_core.specs.Local.{Local}
-use Rattle.report_lines.specs.Lines.{any_error}
+use Rattle.world_core.specs.Shape.{Shape, Meaning}
+use Rattle.world_core.specs.Local.{Local, Object_step}
+use Rattle.world_core.specs.CallSteps.{all_steps_of}
+use Rattle.world_core.specs.Calls.{local_at}
 use Rattle.client_scripts.specs.Plans.{Plan}
 use Rattle.reports.specs.Findings.{Findings}
-use Rattle.run_report.specs.Reporting.{outside_shape, IsReportOf}
-use Rattle.faulty_objects.specs.declared.behaviour.Behaviour.{Behaviour}
+use Rattle.row_table.specs.declared.rows.Rows.{Rows}
+use Rattle.row_table.specs.declared.bench.Bench.{Bench}
+use Rattle.row_table.specs.Callers.{shape_of, locals_on}
+use Rattle.core_objects.specs.CoreObjects.{shape_with, AreOpenedWith, ArePassesFor}
+use Rattle.script_workers.specs.Returns.{IsBackOn}
 use Rattle.script_workers.specs.Starts.{run_allotments}
+use Rattle.run_report.specs.Reporting.{outside_shape, IsReportOf}
+use Rattle.run_report.proofs.Workers.{the_local}
+use Rattle.faulty_objects.specs.declared.behaviour.Behaviour.{Behaviour}
+use Rattle.byte_streams.specs.declared.status.Status.{Status}
+use Rattle.run_writer.specs.declared.form.Form.{Form}
+use Rattle.run_writer.specs.Runs.{RunEnds}
+use Rattle.run_writer.specs.Running.{IsCoreReport}
+use Rattle.core_runs.specs.Inside.{fits_inside}
 use Rattle.core_runs.specs.LoggedReports.{phases_in, calls_of_lines}
 use Rattle.named_runs.specs.NamedObjects.{IsOfBehaviour}
 use Rattle.named_runs.specs.Worlds.{inside_of, world_of}
-use Rattle.named_runs.specs.BehaviourRuns.{IsNamedReport, IsNamedRunReport}
+use Rattle.named_runs.specs.BehaviourRuns.{IsNamedReport, IsNamedRunReport, IsInsideReport}
+use Rattle.named_runs.proofs.FreshRuns.{RunEnds-weaker}
+
+module _ {P : Type 0} (r : Rows P) (n cap : ℕ) (callers : r.callers ≡ n) (most : r.cap ≡ cap) where
+  -- rows that were opened with a program were opened with the object's, where the two are equal
+  pub opened_with : (meaning : P → ℕ → ℕ → Meaning) (p q : P) → r.program ≡ p
+      → r.objects ≡ (meaning p n cap).objects → p ≡ q → AreOpenedWith meaning q r
+  opened_with meaning p q program objects same = record {
+    program_is = program ∙ same;
+    objects = objects ∙ ap (λ (x : P). (meaning x n cap).objects) same
+        ∙ ap (λ (k : ℕ). (meaning q k cap).objects) (sym callers)
+        ∙ ap (λ (k : ℕ). (meaning q r.callers k).objects) (sym most);
+  }
+
+  -- passes for as many callers and this cap are passes for these rows
+  pub passes_for_rows : {T : Type 0} (fits : T → ℕ → ℕ → ℕ → List Object_step → Type 0)
+      (passes : List T) → ArePassesFor fits n cap passes → ArePassesFor fits r.callers r.cap passes
+  passes_for_rows fits passes h =
+      subst (λ (k : ℕ). ArePassesFor fits k r.cap passes) (sym callers)
+      (subst (λ (k : ℕ). ArePassesFor fits n k passes) (sym most) h)
+
+  -- a report of the locals on their bench is one of the world of the program that they were opened
+  -- with, and the passes fit those locals
+  pub inside_report : {T : Type 0} (meaning : P → ℕ → ℕ → Meaning) (program : P)
+      → r.program ≡ program → (object : SeqSpec)
+      (fits : T → ℕ → ℕ → ℕ → List Object_step → Type 0) (b : Bench P) (passes : List T)
+      (plan : Plan) → length passes ≡ length plan.operations
+      → ((i : ℕ) → i < length plan.operations → IsBackOn meaning r (fits_inside fits)
+      (λ pass. None) plan.operations (run_allotments plan) b passes i) → (findings : Findings)
+      → IsCoreReport object meaning r b plan (run_allotments plan) findings
+      → IsInsideReport object (shape_with (meaning program) n cap) fits passes plan findings
+  inside_report meaning program own object fits b passes plan count back findings is =
+      let same : shape_of meaning r ≡ shape_with (meaning program) n cap = λ i.
+      record { callers = callers i; cap = most i; program = meaning (own i) (callers i) (most i) }
+      in
+      subst (λ (s : Shape). IsInsideReport object s fits passes plan findings) same
+      (record {
+        locals = locals_on b;
+        report = is.report;
+        no_error = is.no_error;
+        fit = λ i pass there.
+            let on = back i (omega (arith, count, slice_get_within passes i pass there)) in
+            let mine = sym (get_or_from_slice_get passes i on.pass pass on.pass_here)
+            ∙ get_or_from_slice_get passes i pass pass there in
+            subst (λ (p : _). fits p i r.callers r.cap (all_steps_of (local_at (locals_on b) i)))
+            mine
+            (subst (λ (l : Local). fits on.pass i r.callers r.cap (all_steps_of l))
+            (sym (the_local b.seat.me.0 i on.local on.here)) on.back.fits_caller);
+      })
 
 -- the report of a run over an object inside the world, by other names for the behaviour and the
 -- kind
-pub named_inside : (behaviour known : Behaviour) → behaviour ≡ known → (plan : Plan) (kind : Kind)
-    → kind ≡ plan.kind → (findings : Findings) → (locals : List Local) × IsReportOf (kind_spec kind)
+pub named_inside : {T : Type 0} (behaviour known : Behaviour) → behaviour ≡ known → (plan : Plan)
+    (kind : Kind) → kind ≡ plan.kind → (fits : T → ℕ → ℕ → ℕ → List Object_step → Type 0)
+    (passes : List T) → ((locals : List Local) (findings : Findings) → IsReportOf (kind_spec kind)
     (world_of known kind (length plan.operations)) locals plan (run_allotments plan) findings
-    → list_any any_error findings.lines ≡ false → IsOfBehaviour known kind (length findings.lines)
-    (phases_in (run_allotments plan) findings) (calls_of_lines findings)
+    → IsOfBehaviour known kind (length findings.lines) (phases_in (run_allotments plan) findings)
+    (calls_of_lines findings)) → (findings : Findings) → IsInsideReport (kind_spec kind)
+    (world_of known kind (length plan.operations)) fits passes plan findings
     → IsNamedRunReport behaviour plan findings
-named_inside behaviour known is plan kind same findings of none answered = record {
+named_inside behaviour known is plan kind same fits passes answered findings of = record {
   named = record {
-    report = record { kind = of.1.kind; lawful = rw (is, ← same) of.1.lawful };
-    object = rw (is, ← same) answered;
+    report = record { kind = of.report.kind; lawful = rw (is, ← same) of.report.lawful };
+    object = rw (is, ← same) (answered of.locals findings of.report);
   };
-  no_error = λ some. none;
+  no_error = λ some. of.no_error;
 }
+
+-- what is written of a run over an object inside the world is written of a run of its behaviour
+pub inside_ends : {T : Type 0} (behaviour known : Behaviour) → behaviour ≡ known → (plan : Plan)
+    (kind : Kind) → kind ≡ plan.kind → (fits : T → ℕ → ℕ → ℕ → List Object_step → Type 0)
+    (passes : List T) (form : Form) (result : Status) (taken taken' : Option (List ℕ))
+    → ((locals : List Local) (findings : Findings) → IsReportOf (kind_spec kind)
+    (world_of known kind (length plan.operations)) locals plan (run_allotments plan) findings
+    → IsOfBehaviour known kind (length findings.lines) (phases_in (run_allotments plan) findings)
+    (calls_of_lines findings)) → RunEnds (kind_spec kind) (IsInsideReport (kind_spec kind)
+    (world_of known kind (length plan.operations)) fits passes plan) form result taken taken'
+    → RunEnds (kind_spec plan.kind) (IsNamedRunReport behaviour plan) form result taken taken'
+inside_ends behaviour known is plan kind same fits passes form result taken taken' answered ends =
+    subst (λ (k : Kind).
+    RunEnds (kind_spec k) (IsNamedRunReport behaviour plan) form result taken taken') same
+    (RunEnds-weaker _ _ _ _ _ _ _
+    (named_inside behaviour known is plan kind same fits passes answered) ends)
 
 -- a report of a behaviour whose object is outside the world is one of a run of this behaviour
 pub named_outside : (behaviour : Behaviour) (plan : Plan) → inside_of behaviour plan.kind ≡ None

@@ -1,15 +1,19 @@
 -- What holds of the report of a run that opens its own table of rows.
 use Rattle.std.specs.Prelude.{◌≡◌, ℕ, false, List, Option, IsSome, length}
 use Rattle.std.specs.List.{list_any}
+use Rattle.book_base.specs.SeqSpec.{SeqSpec}
 use Rattle.seq_objects.specs.Objects.{kind_spec}
 use Rattle.world_core.specs.Shape.{Shape}
+use Rattle.world_core.specs.Local.{Local, Object_step}
+use Rattle.world_core.specs.CallSteps.{all_steps_of}
+use Rattle.world_core.specs.Calls.{local_at}
 use Rattle.report_lines.specs.Lawful.{IsLawful}
 use Rattle.report_lines.specs.Lines.{any_error}
 use Rattle.client_scripts.specs.Plans.{Plan}
 use Rattle.script_workers.specs.Places.{AreInOrder}
 use Rattle.script_workers.specs.Starts.{run_allotments, replay_allotments}
 use Rattle.reports.specs.Findings.{Findings}
-use Rattle.run_report.specs.Reporting.{outside_shape, IsToldIn}
+use Rattle.run_report.specs.Reporting.{outside_shape, IsReportOf, IsToldIn}
 use Rattle.faulty_objects.specs.declared.behaviour.Behaviour.{Behaviour}
 use Rattle.core_runs.specs.LoggedReports.{phases_in, calls_of_lines}
 use Rattle.named_runs.specs.NamedObjects.{IsOfBehaviour}
@@ -29,6 +33,18 @@ pub record IsToldReport {T : Type 0} (made : T → ℕ) (told : T → Option (Li
     (passes : List T) (plan : Plan) (allotments : List ℕ) (findings : Findings) : Type 0 where
   pub report : IsLawfulReport (outside_shape (length plan.operations)) plan allotments findings
   pub told_in : AreInOrder (IsToldIn made told allotments findings) passes
+
+-- A lawful report of a run over an object inside the world, in a world of this shape, judged by a
+-- sequential object. No line of it is an error. Its lines are those of some locals, and pass i fits
+-- caller i with the object steps that its local among them has.
+pub record IsInsideReport {T : Type 0} (object : SeqSpec) (s : Shape)
+    (fits : T → ℕ → ℕ → ℕ → List Object_step → Type 0) (passes : List T) (plan : Plan)
+    (findings : Findings) : Type 0 where
+  pub locals : List Local
+  pub report : IsReportOf object s locals plan (run_allotments plan) findings
+  pub no_error : list_any any_error findings.lines ≡ false
+  pub fit : AreInOrder
+      (λ i pass. fits pass i s.callers s.cap (all_steps_of (local_at locals i))) passes
 
 -- A lawful report of callers in a world of this shape, whose calls the object of a behaviour
 -- answered.

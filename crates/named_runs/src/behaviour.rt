@@ -14,13 +14,11 @@ ghost use Rattle.named_runs.specs.Monitored.{AreNamedMonitored, IsMonitorOutput}
 
 use crate::inside_run::run_inside;
 use crate::named::{monitor_named, replay_named, run_named};
-use book_base::NoMemory;
 use byte_streams::{Sink, Status};
 use client_scripts::Script;
 use faulty_objects::{Behaviour, Invent, Late, Lossy, OnePass, SplitTally, Twice};
-use kind_search::SearchedKind;
 use lawful_objects::{LogBox, Plain, Tally, WordCell};
-use run_writer::{Form, write_report};
+use run_writer::Form;
 use seq_objects::Kind;
 use std::alloc::Global;
 use std::thread::Threads;
@@ -92,11 +90,9 @@ pub fn run_behaviour<R: Threads + Sync, K: Sink>(
     // status the count stayed as it was. With `NoMemory` the whole sink stayed as it was.
     ensures faults { LeavesSink K.faults result sink.old sink.new }
 {
-    let kind = script.kind();
-    match run_inside(rt, alloc, behaviour, kind, script) {
-        Ok(Some(report)) => write_report(alloc, form, &SearchedKind { kind }, &report, sink),
-        Ok(None) => run_outside(rt, alloc, behaviour, script, form, sink),
-        Err(NoMemory) => Status::NoMemory,
+    match run_inside(rt, alloc, behaviour, script, form, sink) {
+        Some(status) => status,
+        None => run_outside(rt, alloc, behaviour, script, form, sink),
     }
 }
 

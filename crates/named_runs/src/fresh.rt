@@ -1,25 +1,30 @@
 //! Whole runs of a script that open their own table of rows: with each caller in a thread of its
-//! own, by turns in one thread, and with monitors.
+//! own, over an object outside the world or inside it, by turns in one thread, and with monitors.
 
-ghost use Rattle.std.specs.Prelude.{◌≡◌, ◌≤◌, ◌+◌, length, vec_len, vec_capacity};
-ghost use Rattle.book_base.specs.declared.TheConstants.{MAX_CALLERS};
+ghost use Rattle.std.specs.Prelude.{◌≡◌, ◌⊎◌, ◌≤◌, ◌+◌, length, vec_len, vec_capacity};
+ghost use Rattle.book_base.specs.declared.TheConstants.{MAX_CALLERS, MAX_CALLS};
 ghost use Rattle.seq_objects.specs.Objects.{kind_spec};
+ghost use Rattle.text_fields.specs.Counts.{AreAtMost};
+ghost use Rattle.client_scripts.specs.Plans.{sizes};
+ghost use Rattle.core_objects.specs.CoreObjects.{shape_with, ArePassesFor};
 ghost use Rattle.script_workers.specs.Places.{AreInOrder};
 ghost use Rattle.script_workers.specs.Starts.{run_allotments, replay_allotments};
 ghost use Rattle.run_report.specs.Passes.{IsOwnPass, AreUnusedPasses};
 ghost use Rattle.byte_streams.specs.Fault.{LeavesSink};
 ghost use Rattle.byte_streams.specs.Writing.{EndsWriting};
 ghost use Rattle.run_writer.specs.Runs.{RunEnds};
-ghost use Rattle.named_runs.specs.BehaviourRuns.{IsToldReport};
+ghost use Rattle.named_runs.specs.BehaviourRuns.{IsToldReport, IsInsideReport};
 ghost use Rattle.named_runs.specs.Monitored.{AreToldMonitored, IsMonitorOutput};
 
 use book_base::MAX_CALLS;
 use byte_streams::{Sink, Status};
 use client_scripts::Script;
+use core_objects::CoreObject;
 use drv_wrapper::{BlackBox, ObjectPass};
 use monitor_writer::monitor_and_write;
 use row_table::Rows;
-use run_writer::{Form, replay_and_write, run_and_write};
+use run_writer::{Form, core_and_write, replay_and_write, run_and_write};
+use search_hints::SearchHints;
 use std::alloc::Global;
 use std::thread::Threads;
 use world_core::Outside;
@@ -66,6 +71,69 @@ where
         return Status::NoMemory;
     };
     let status = run_and_write(
+        rt, alloc, &rows, &mut bench, object, passes, script, form, sink,
+    );
+    // The status is returned even where no memory is left for the words of the closed table.
+    let _world = rows.close(alloc, bench);
+    status
+}
+
+/// Runs all callers of a script over an object inside the world, each in a thread of its own where
+/// one can be had, and writes what the form shows of their report, which is lawful and has no error
+/// line. The table of rows is opened for the run, with the object's program and this cap: how many
+/// calls each caller may make. It is closed after the run.
+///
+/// Each caller has its pass, with which the object wasn't asked yet. Afterwards there is a pass for
+/// each caller, whatever the answer.
+pub fn core_fresh<R: Threads + Sync, O: CoreObject + Sync, K: Sink>(
+    rt: &R,
+    alloc: Global,
+    script: &Script,
+    object: &O,
+    passes: &mut Vec<O::Pass>,
+    cap: u64,
+    form: Form,
+    sink: &mut K,
+) -> Status
+where
+    O::S: SearchHints + Sync,
+    O::P: Send + Sync,
+    O::Pass: Send,
+    // Each caller may make at least one call.
+    requires some_calls { 1 ≤ cap }
+    // The cap is at most `MAX_CALLS`.
+    requires few_calls { cap ≤ MAX_CALLS }
+    // No caller of the script has more operations than the cap.
+    requires calls { AreAtMost cap (sizes script.now.operations) }
+    // There is one pass for each caller of the script, in order. It fits the caller before its
+    // first object step, with this number of callers and this cap.
+    requires passes { ArePassesFor (O.fits object.now)
+        (length script.now.operations) cap passes.old.items }
+
+    // Whatever the answer, there is one pass for each caller of the script.
+    ensures all_passes { vec_len passes.new ≡ length script.now.operations }
+
+    // The returned status and the text written are those of a lawful report without an error line,
+    // of locals whose object steps the passes fit. After a failed write only a part of the text is
+    // written, and without memory nothing is.
+    ensures ends { RunEnds (O.S.spec (O.sequential_of object.now))
+        (IsInsideReport (O.S.spec (O.sequential_of object.now))
+        (shape_with (O.P.meaning (O.program_of object.now)) (length script.now.operations) cap)
+        (O.fits object.now) passes.new.items script.now) form result
+        (K.taken sink.old) (K.taken sink.new) }
+
+    // The status is `Fine`, `WriteFault` or `NoMemory`.
+    ensures fine { (result ≡ Status.Fine) ⊎ (result ≡ Status.WriteFault)
+        ⊎ (result ≡ Status.NoMemory) }
+
+    // With the status `WriteFault` the sink's count of faults rose in this call; with any other
+    // status the count stayed as it was. With `NoMemory` the whole sink stayed as it was.
+    ensures faults { LeavesSink K.faults result sink.old sink.new }
+{
+    let Ok((rows, mut bench)) = Rows::open(alloc, object.program(), script.callers(), cap) else {
+        return Status::NoMemory;
+    };
+    let status = core_and_write(
         rt, alloc, &rows, &mut bench, object, passes, script, form, sink,
     );
     // The status is returned even where no memory is left for the words of the closed table.

@@ -9,4 +9,4 @@ mod named_machine;
 mod named_object;
 
 pub use behaviour::{monitor_behaviour, replay_behaviour, run_behaviour};
-pub use fresh::{monitor_fresh, replay_fresh, run_fresh};
+pub use fresh::{core_fresh, monitor_fresh, replay_fresh, run_fresh};

@@ -33,7 +33,8 @@ pub use laws::{
 };
 pub use monitor_writer::monitor_and_write;
 pub use named_runs::{
-    monitor_behaviour, monitor_fresh, replay_behaviour, replay_fresh, run_behaviour, run_fresh,
+    core_fresh, monitor_behaviour, monitor_fresh, replay_behaviour, replay_fresh, run_behaviour,
+    run_fresh,
 };
 pub use run_writer::{
     Form, a_report_and_its_counts_have_one_text, certificates_are_legal_and_tell_one_book,
