@@ -1,3 +1,4 @@
 pub mod Passes
 pub mod Silence
 pub mod Calls
+pub mod Listing

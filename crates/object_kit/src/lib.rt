@@ -1,10 +1,12 @@
 //! What one writes an object of one's own with: its calls as values, a pass that serves most
-//! objects, and a lock that no call waits for without end.
+//! objects, a list of what an object answered, and a lock that no call waits for without end.
 #![tactic(auto)]
 
 mod cas_call;
 mod counter_call;
 mod counting_pass;
+mod listed;
+mod listing_pass;
 mod map_call;
 mod parts;
 mod pqueue_call;
@@ -17,6 +19,8 @@ mod stack_call;
 pub use cas_call::CasCall;
 pub use counter_call::CounterCall;
 pub use counting_pass::CountingPass;
+pub use listed::Listed;
+pub use listing_pass::ListingPass;
 pub use map_call::MapCall;
 pub use pqueue_call::PqueueCall;
 pub use queue_call::QueueCall;
