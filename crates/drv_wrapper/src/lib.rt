@@ -8,6 +8,7 @@ mod answered;
 mod applying;
 mod asking;
 mod black_box;
+pub mod laws;
 mod object_pass;
 mod object_steps;
 mod viewed;

@@ -98,3 +98,14 @@ pub record AreLinesOf (spec : SeqSpec) (locals : List Local)
   pub calls : calls_of lines ≡ map calls_in locals
   pub judged : (call : Call) (line : Line) → line_at lines call ≡ Some line
       → IsJudged spec (book_of_lines lines) line.end
+
+-- In lines that have the right verdicts by the book of all of them, the book at the seen cut of an
+-- error has no legal order, and the book at the seen cut of a delivered call has one.
+abbrev pub VerdictsAreAtSeenCuts : Type 0
+VerdictsAreAtSeenCuts =
+    (spec : SeqSpec) (locals : List Local) (lines : List (List Line))
+    (call : Call) (cut : List ℕ) → AreLinesOf spec locals lines
+    → (error_at lines call ≡ Some cut → (seen_at lines call ≡ Some cut)
+    × ¬ HasLegalOrder spec (book_at cut (book_of_lines lines)))
+    × (delivered_at lines call ≡ Some cut → (seen_at lines call ≡ Some cut)
+    × HasLegalOrder spec (book_at cut (book_of_lines lines)))

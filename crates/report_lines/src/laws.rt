@@ -1,6 +1,10 @@
-//! The progress of a caller, as the parts of its local determine it. Each law is the contract of a
-//! function with nothing in it.
+//! The progress of a caller, as the parts of its local determine it, and the cuts of verdicts. Each
+//! law is the contract of a function with nothing in it.
 
+ghost use Rattle.std.specs.Prelude.{◌≡◌, ℕ, List, Some, None};
+ghost use Rattle.book_base.specs.declared.call.Record.{Record};
+ghost use Rattle.report_lines.specs.declared.line.LineEnd.TheVariants.{Pending, Unchecked, Delivered, Error};
+ghost use Rattle.report_lines.specs.Lines.{seen_in, delivered_in, error_in, VerdictsAreAtSeenCuts};
 ghost use Rattle.report_lines.specs.Progress.{TheLastCallGoesOn};
 ghost use Rattle.report_lines.specs.Account.{NothingGrows, OperationsAreCalls, ObjectStepsAreOfTheLastCall, RepliesAreNoRecords, ViewsMakeRecords, PublicationsCount, SeenCutsAreOfTheLastCall, AnnouncementsAreCalls, ObjectStepsCount, PublishesCount};
 
@@ -43,4 +47,21 @@ pub fn events_take_callers_on()
 /// Where only the last call of a list gets further, all calls before it stay as they are.
 pub fn the_last_call_goes_on()
     ensures { TheLastCallGoesOn }
+{}
+
+/// The verdict of a line is on the book at the line's seen cut: an error has its own seen cut, and no
+/// other line has one of an error.
+#[tactic(auto, using(crate::proofs::Verdicts::verdicts_are_at_seen_cuts))]
+pub fn verdicts_are_at_seen_cuts()
+    // The seen cut of an error line is the cut that it ends with, and it is the cut of an error.
+    ensures error { (r : Record) (cut : List ℕ) → (seen_in (Error r cut) ≡ Some cut)
+        × (error_in (Error r cut) ≡ Some cut) × (delivered_in (Error r cut) ≡ None) }
+    // The seen cut of a delivered line is the cut that it ends with, and it is no cut of an error.
+    ensures delivered { (r : Record) (cut : List ℕ) → (seen_in (Delivered r cut) ≡ Some cut)
+        × (delivered_in (Delivered r cut) ≡ Some cut) × (error_in (Delivered r cut) ≡ None) }
+    // A pending line and an unchecked one have no seen cut.
+    ensures none { (seen_in Pending ≡ None) × ((r : Record) → seen_in (Unchecked r) ≡ None) }
+    // In lines that have the right verdicts, the book at the seen cut of an error has no legal
+    // order, and the book at the seen cut of a delivered call has one.
+    ensures judged { VerdictsAreAtSeenCuts }
 {}
