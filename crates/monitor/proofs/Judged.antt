@@ -1,5 +1,5 @@
 -- What the rounds of monitors say of a reachable world.
-use Rattle.std.proofs.Common.{◌≡◌, ◌∙◌, refl, sym, ap, subst, ℕ, ◌+◌, ◌-◌, ◌<◌, inl, inr, List, [], ◌∷◌, ◌++◌, length, Option, None, Some, slice_get, length-append, append_assoc, arith}
+use Rattle.std.proofs.Common.{◌≡◌, ◌∙◌, refl, sym, ap, subst, ℕ, ◌+◌, ◌-◌, ◌<◌, ◌≤◌, inl, inr, List, [], ◌∷◌, ◌++◌, length, Option, None, Some, slice_get, length-append, append_assoc, arith}
 use Rattle.std.proofs.lemmas.Bool.{cases_lt}
 use Rattle.std.proofs.lemmas.List.{get_or_past, get_or-map}
 use Rattle.list_laws.proofs.Places.{slice_get-push_last, slice_get-push_cases}
@@ -19,8 +19,8 @@ use Rattle.world_books.proofs.Validity.{books_are_valid}
 use Rattle.collect_scan.specs.Given.{given_with}
 use Rattle.monitor.specs.declared.witness.Witness.{Witness}
 use Rattle.monitor.specs.declared.round.Round.TheVariants.{Legal, Illegal}
-use Rattle.monitor.specs.Rounds.{HasScannedOnce, IsLegalAt, IsIllegalAt, AreRounds}
-use Rattle.monitor.specs.Worlds.{published_of, IsWitnessOf, AreJudgedRounds, RoundsAreRight, RoundsAreJudged, OwnIsAWitness, WitnessesAreFinal}
+use Rattle.monitor.specs.Rounds.{HasScannedOnce, IsLegalAt, AreLegal, IsIllegalAt, AreRounds}
+use Rattle.monitor.specs.Worlds.{published_of, IsWitnessOf, AreRoundsOver, AreJudgedRounds, RoundsAreRight, RoundsAreJudged, ShortRoundsAreRounds, OwnIsAWitness, WitnessesAreFinal}
 use Rattle.monitor.proofs.Resting.{given_last}
 use Rattle.monitor.proofs.Rounds.{legal_stays, illegal_stays}
 
@@ -71,32 +71,42 @@ module _ (spec : SeqSpec) (s : Shape) (locals : List Local) (i : ℕ) (t : AreTo
         none = h.none;
       }
 
+  -- legal rounds and one more are rounds over the book of all calls
+  over : (most : ℕ) (rounds before : List Given) (last : Given) → rounds ≡ before ++ last ∷ []
+      → length rounds ≤ most → last.region ≡ M → AreLegal spec s.callers mine before
+      → AreRoundsOver spec (book_in locals) most rounds
+  over most rounds before last is few region all = record {
+    few = few;
+    regions = λ k other there.
+        elim (slice_get-push_cases before last k other
+        (ap (λ (xs : List Given). slice_get xs k) (sym is) ∙ there)) [
+          | inl old ↦ (all k other old).region
+          | inr new ↦ ap (λ (g : Given). g.region) new.1 ∙ region
+        ];
+    legal = λ k other there past.
+        let at : slice_get before k ≡ Some other =
+        get_before before last other k
+        (ap (λ (xs : List Given). slice_get xs k) (sym is) ∙ there)
+        (subst (λ (xs : List Given). k + 1 < length xs) is past) in
+        legal other.cut (all k other at).legal;
+  }
+
   judged : (most : ℕ) (rounds : List Given) (own : Option Witness)
       → AreRounds spec s.callers most mine rounds own
       → AreJudgedRounds spec (book_in locals) most rounds
   judged most rounds None h = record {
-    few = omega (arith, h.0);
-    regions = λ k given there. (h.1 k given there).region;
-    legal = λ k given there past. legal given.cut (h.1 k given there).legal;
+    over = record {
+      few = omega (arith, h.0);
+      regions = λ k given there. (h.1 k given there).region;
+      legal = λ k given there past. legal given.cut (h.1 k given there).legal;
+    };
     ends = inl h.0;
   }
   judged most rounds (Some w) h =
       let ends = h.1 in
       let given : Given = record { region = M; cut = w.cut; since = ends.since } in
       record {
-        few = h.0;
-        regions = λ k other there.
-            elim (slice_get-push_cases ends.before given k other
-            (ap (λ (xs : List Given). slice_get xs k) (sym ends.is) ∙ there)) [
-              | inl old ↦ (ends.legal k other old).region
-              | inr new ↦ ap (λ (g : Given). g.region) new.1
-            ];
-        legal = λ k other there past.
-            let at : slice_get ends.before k ≡ Some other =
-            get_before ends.before given other k
-            (ap (λ (xs : List Given). slice_get xs k) (sym ends.is) ∙ there)
-            (subst (λ (xs : List Given). k + 1 < length xs) ends.is past) in
-            legal other.cut (ends.legal k other at).legal;
+        over = over most rounds ends.before given ends.is h.0 refl ends.legal;
         ends = inr (
           given,
           ap (λ (xs : List Given). slice_get xs (length xs - 1)) ends.is
@@ -131,6 +141,15 @@ rounds_are_right spec s locals i l m own (Illegal cut) t low more found =
 pub rounds_are_judged : RoundsAreJudged
 rounds_are_judged spec s locals i most before own t low h =
     (h.rounds, h.cuts, judged spec s locals i t low most h.rounds own h.are)
+
+pub short_rounds_are_rounds : ShortRoundsAreRounds
+short_rounds_are_rounds spec s locals i most before t low h =
+    let rounds : List Given = h.before ++ h.last ∷ [] in (
+      rounds,
+      h.cuts,
+      over spec s locals i t low most rounds h.before h.last refl
+          (omega (arith, h.few, length-append h.before (h.last ∷ []))) h.region h.legal,
+    )
 
 pub own_is_a_witness : OwnIsAWitness
 own_is_a_witness spec s locals i most before w t low h =

@@ -10,7 +10,7 @@ use Rattle.world_books.specs.Gathering.{HasPeekedAll}
 use Rattle.world_books.proofs.Gathered.{gathered_stays}
 use Rattle.collect_scan.specs.Given.{given_with}
 use Rattle.monitor.specs.declared.witness.Witness.{Witness}
-use Rattle.monitor.specs.Rounds.{HasScannedOnce, IsLegalAt, IsLegalRound, AreLegal, IsIllegalAt, HasMadeRounds}
+use Rattle.monitor.specs.Rounds.{HasScannedOnce, IsLegalAt, IsLegalRound, AreLegal, IsIllegalAt, HasMadeRounds, WasCutShort}
 use Rattle.monitor.proofs.Resting.{grows_once}
 
 module _ (spec : SeqSpec) (n : ℕ) where
@@ -93,5 +93,20 @@ module _ (spec : SeqSpec) (n : ℕ) where
             illegal = illegal;
           },
         );
+        progress = once.progress ∙ made.progress;
+      }
+
+  -- want of memory in a round after legal ones
+  pub the_short : (i most : ℕ) (cut : List ℕ) (l m k : Local) → i < most
+      → HasMadeRounds spec n i l m None → HasScannedOnce cut m k → WasCutShort spec n most l k
+  the_short i most cut l m k low made once =
+      let given : Given = given_with m M cut in
+      record {
+        before = made.rounds;
+        last = given;
+        cuts = cuts_after l m k made.rounds given made.cuts once.adds.cuts;
+        few = omega (arith, low, made.are.0);
+        legal = all_stay m k made.rounds (grows_once cut m k once).peeked made.are.1;
+        region = refl;
         progress = once.progress ∙ made.progress;
       }

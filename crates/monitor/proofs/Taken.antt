@@ -1,5 +1,5 @@
 -- Watches before and after their rounds.
-use Rattle.std.proofs.Common.{◌≡◌, ◌∙◌, sym, ap, subst, ℕ, Option}
+use Rattle.std.proofs.Common.{◌≡◌, ◌∙◌, sym, ap, subst, ℕ, Bool, Option}
 use Rattle.std.specs.Prelude.{◌≢◌, None}
 use Rattle.std.proofs.lemmas.Option.{same_Some}
 use Rattle.book_base.specs.SeqSpec.{SeqSpec}
@@ -14,7 +14,7 @@ use Rattle.monitor.specs.declared.monitor.Monitor.{Monitor}
 use Rattle.monitor.specs.declared.watch.Watch.{Watch}
 use Rattle.monitor.specs.declared.witness.Witness.{Witness}
 use Rattle.monitor.specs.declared.beside.Left.{Left}
-use Rattle.monitor.specs.Rounds.{HasMadeRounds}
+use Rattle.monitor.specs.Rounds.{HasRounds}
 use Rattle.monitor.specs.Monitors.{caller_of, local_of, own_of}
 use Rattle.monitor.specs.Watching.{IsReady, HasWatched}
 use Rattle.monitor.specs.Beside.{IsFreeOn, IsUnmoved, IsWatchOf, HasWatchedAs, IsAtHand, ComesBack, IsBackFrom}
@@ -38,11 +38,10 @@ module _ {P : Type 0} {spec : SeqSpec} {meaning : P → ℕ → ℕ → Meaning}
         of = done.round.later.monitor;
         who = done.round.later.who ∙ ap (λ (m : Monitor P). who_of (caller_of m)) same ∙ h.who;
         progress = done.round.progress ∙ ap progress_of was;
-        rounds = λ none.
-            subst (λ (k : ℕ). HasMadeRounds spec r.callers k l (local_of done.after)
-            (own_of done.after)) h.rounds
-            (subst (λ (x : Local). HasMadeRounds spec r.callers w.rounds x
-            (local_of done.after) (own_of done.after)) was (done.round.rounds none));
+        rounds = subst (λ (k : ℕ). HasRounds spec r.callers d.wants_memory k l
+            (local_of done.after) (own_of done.after)) h.rounds
+            (subst (λ (x : Local). HasRounds spec r.callers d.wants_memory w.rounds x
+            (local_of done.after) (own_of done.after)) was done.round.rounds);
       }
 
   -- the monitor of a watch is at hand, and off the bench
@@ -71,12 +70,12 @@ module _ {P : Type 0} {spec : SeqSpec} {meaning : P → ℕ → ℕ → Meaning}
         local = local_of h.monitor;
         here = subst (λ (k : ℕ). IsFreeOn d k (local_of h.monitor)) (whose watched h) h.back;
         progress = ap (λ (m : Monitor P). progress_of (local_of m)) same ∙ watched.progress;
-        rounds = λ none.
-            subst (λ (o : Option Witness).
-            HasMadeRounds spec r.callers most l (local_of h.monitor) o) (sym h.found)
-            (subst
-            (λ (m : Monitor P). HasMadeRounds spec r.callers most l (local_of m) (own_of m))
-            (sym same) (watched.rounds (sym h.wanted ∙ none)));
+        rounds = subst (λ (o : Option Witness).
+            HasRounds spec r.callers left.wants_memory most l (local_of h.monitor) o) (sym h.found)
+            (subst (λ (wanted : Bool). HasRounds spec r.callers wanted most l
+            (local_of h.monitor) (own_of h.monitor)) (sym h.wanted)
+            (subst (λ (m : Monitor P). HasRounds spec r.callers w.wants_memory most l
+            (local_of m) (own_of m)) (sym same) watched.rounds));
       }
 
   -- the other callers stay

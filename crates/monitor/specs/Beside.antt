@@ -1,5 +1,5 @@
 -- Callers of a bench that watch: as they leave the bench, after their rounds, and back on it.
-use Rattle.std.specs.Prelude.{◌≡◌, ◌≢◌, ℕ, false, None, Some}
+use Rattle.std.specs.Prelude.{◌≡◌, ◌≢◌, ℕ, None, Some}
 use Rattle.book_base.specs.SeqSpec.{SeqSpec}
 use Rattle.world_core.specs.Shape.{Meaning}
 use Rattle.world_core.specs.Local.{Local, IsIdle}
@@ -12,7 +12,7 @@ use Rattle.monitor.specs.declared.board.Board.{Board}
 use Rattle.monitor.specs.declared.monitor.Monitor.{Monitor}
 use Rattle.monitor.specs.declared.watch.Watch.{Watch}
 use Rattle.monitor.specs.declared.beside.Left.{Left}
-use Rattle.monitor.specs.Rounds.{HasMadeRounds}
+use Rattle.monitor.specs.Rounds.{HasRounds}
 use Rattle.monitor.specs.Monitors.{caller_of, local_of, own_of, IsMonitorOf}
 use Rattle.monitor.specs.Watching.{IsFresh}
 
@@ -41,8 +41,8 @@ module _ {P : Type 0} where
     pub rounds : w.rounds ≡ most
 
   -- The watch `w` has made its rounds: its monitor is caller i of the rows `r`, with the progress
-  -- of local `l`. Unless the monitor lacked memory, it made `most` legal rounds, or at most `most`
-  -- of which the last one alone is illegal.
+  -- of local `l`. It made `most` legal rounds, or at most `most` of which the last one alone is
+  -- illegal; or it was cut short for want of memory.
   pub record HasWatchedAs (spec : SeqSpec) (meaning : P → ℕ → ℕ → Meaning) (r : Rows P) (i : ℕ)
       (l : Local) (most : ℕ) (w : Watch P) : Type 0 where
     pub monitor : Monitor P
@@ -50,8 +50,8 @@ module _ {P : Type 0} where
     pub of : IsMonitorOf meaning r monitor
     pub who : who_of (caller_of monitor) ≡ i
     pub progress : progress_of (local_of monitor) ≡ progress_of l
-    pub rounds : w.wants_memory ≡ false
-        → HasMadeRounds spec r.callers most l (local_of monitor) (own_of monitor)
+    pub rounds : HasRounds spec r.callers w.wants_memory most l (local_of monitor)
+        (own_of monitor)
 
   -- The watch `w` has its monitor, whose caller belongs to the rows `r` and isn't on the bench `b`.
   pub record IsAtHand (meaning : P → ℕ → ℕ → Meaning) (r : Rows P) (b : Bench P)
@@ -73,11 +73,11 @@ module _ {P : Type 0} where
     pub others : (i : ℕ) → i ≢ who_of (caller_of monitor) → IsUnmoved b c i
 
   -- Caller i, which left the bench with local `l`, is back on it, live and idle, with its progress
-  -- unchanged. Unless it lacked memory, it made its rounds, at most `most`, with the own witness
-  -- that `left` has.
+  -- unchanged. It made its rounds, at most `most`, with the own witness that `left` has; or it was
+  -- cut short for want of memory, and left no witness.
   pub record IsBackFrom (spec : SeqSpec) (n : ℕ) (b : Bench P) (i : ℕ) (l : Local) (most : ℕ)
       (left : Left) : Type 0 where
     pub local : Local
     pub here : IsFreeOn b i local
     pub progress : progress_of local ≡ progress_of l
-    pub rounds : left.wants_memory ≡ false → HasMadeRounds spec n most l local left.own
+    pub rounds : HasRounds spec n left.wants_memory most l local left.own

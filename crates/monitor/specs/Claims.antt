@@ -1,5 +1,5 @@
 -- What a monitor has found, and what it knows of its board.
-use Rattle.std.specs.Prelude.{◌≡◌, Bool, Option, Some}
+use Rattle.std.specs.Prelude.{◌≡◌, ◌⊎◌, Bool, Option, Some}
 use Rattle.once_cell.specs.Once.{cell_name, Agrees}
 use Rattle.monitor.specs.declared.witness.Witness.{Witness}
 use Rattle.monitor.specs.declared.board.Board.{Board}
@@ -33,6 +33,11 @@ pub record HasSameFindings (c d : Claim) : Type 0 where
 -- Afterwards a monitor knows a witness on the board: the one that it knew before, if it knew one.
 abbrev pub Knows : Option Witness → Option Witness → Type 0
 Knows before after = (w : Witness) × (after ≡ Some w) × Agrees before w
+
+-- Afterwards a monitor knows a witness on the board: the one that it knew before, if it knew one. Or
+-- memory for a copy of its own witness was lacking, and its knowledge is as before.
+abbrev pub KnowsOrLacked : Option Witness → Option Witness → Type 0
+KnowsOrLacked before after = Knows before after ⊎ (after ≡ before)
 
 -- Two monitors agree on the witness on their board: where both know one, they know the same one.
 abbrev pub Agree : Option Witness → Option Witness → Type 0

@@ -1,6 +1,6 @@
 -- What the rounds of a monitor leave in its caller's local: for each round a cut, and a verdict on
 -- the book that was gathered at it.
-use Rattle.std.specs.Prelude.{◌≡◌, ℕ, ◌≤◌, List, [], ◌∷◌, ◌++◌, Option, None, Some, length, slice_get}
+use Rattle.std.specs.Prelude.{◌≡◌, ℕ, ◌<◌, ◌≤◌, Bool, true, false, List, [], ◌∷◌, ◌++◌, Option, None, Some, length, slice_get}
 use Rattle.book_base.specs.SeqSpec.{SeqSpec}
 use Rattle.book_base.specs.Book.{Page}
 use Rattle.book_base.specs.Order.{HasLegalOrder}
@@ -63,3 +63,21 @@ module _ (spec : SeqSpec) (n : ℕ) where
     pub cuts : m.cuts ≡ l.cuts ++ rounds
     pub are : AreRounds most m rounds own
     pub progress : progress_of m ≡ progress_of l
+
+  -- From local `l` to local `m` a monitor that may make `most` rounds was cut short for want of
+  -- memory: it made legal rounds, and its scan of M for the next one gave the last cut. Its progress
+  -- is unchanged. Nothing is said of the book at the last cut.
+  pub record WasCutShort (most : ℕ) (l m : Local) : Type 0 where
+    pub before : List Given
+    pub last : Given
+    pub cuts : m.cuts ≡ l.cuts ++ (before ++ last ∷ [])
+    pub few : length before < most
+    pub legal : AreLegal m before
+    pub region : last.region ≡ M
+    pub progress : progress_of m ≡ progress_of l
+
+  -- From local `l` to local `m` a monitor made its rounds, at most `most`. Or it lacked memory in
+  -- one of them, was cut short there, and has no own witness.
+  abbrev pub HasRounds : Bool → ℕ → Local → Local → Option Witness → Type 0
+  HasRounds false most l m own = HasMadeRounds most l m own
+  HasRounds true most l m own = WasCutShort most l m × (own ≡ None)

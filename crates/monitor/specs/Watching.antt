@@ -1,5 +1,5 @@
 -- A monitor at work: before its rounds, and after them.
-use Rattle.std.specs.Prelude.{◌≡◌, ℕ, Bool, false, None, Some}
+use Rattle.std.specs.Prelude.{◌≡◌, ℕ, Bool, None, Some}
 use Rattle.book_base.specs.SeqSpec.{SeqSpec}
 use Rattle.world_core.specs.Shape.{Meaning}
 use Rattle.report_lines.specs.Phases.{progress_of}
@@ -7,7 +7,7 @@ use Rattle.row_table.specs.declared.rows.Rows.{Rows}
 use Rattle.monitor.specs.declared.board.Board.{Board}
 use Rattle.monitor.specs.declared.monitor.Monitor.{Monitor}
 use Rattle.monitor.specs.declared.watch.Watch.{Watch}
-use Rattle.monitor.specs.Rounds.{HasMadeRounds}
+use Rattle.monitor.specs.Rounds.{HasRounds}
 use Rattle.monitor.specs.Monitors.{local_of, own_of, IsOn, IsMonitorOf, IsLater}
 
 module _ {P : Type 0} where
@@ -25,16 +25,16 @@ module _ {P : Type 0} where
     pub here : w.monitor ≡ Some monitor
     pub fresh : IsFresh meaning r b monitor
 
-  -- The monitor m has become k: its progress is unchanged, and it made its rounds, at most `most`,
-  -- unless it lacked memory (`wanted`).
+  -- The monitor m has become k: its progress is unchanged, and it made its rounds, at most `most`.
+  -- Where it lacked memory (`wanted`), it was cut short, and has no own witness.
   pub record HasGoneRound (spec : SeqSpec) (meaning : P → ℕ → ℕ → Meaning) (r : Rows P) (b : Board)
       (most : ℕ) (m k : Monitor P) (wanted : Bool) : Type 0 where
     pub later : IsLater meaning r b m k
     pub progress : progress_of (local_of k) ≡ progress_of (local_of m)
-    pub rounds : wanted ≡ false
-        → HasMadeRounds spec r.callers most (local_of m) (local_of k) (own_of k)
+    pub rounds : HasRounds spec r.callers wanted most (local_of m) (local_of k) (own_of k)
 
-  -- The watch `w` has become `d`: its monitor has made its rounds, unless it lacked memory.
+  -- The watch `w` has become `d`: its monitor has made its rounds, or was cut short for want of
+  -- memory.
   pub record HasWatched (spec : SeqSpec) (meaning : P → ℕ → ℕ → Meaning) (r : Rows P) (b : Board)
       (w d : Watch P) : Type 0 where
     pub before : Monitor P

@@ -12,7 +12,7 @@ use Rattle.drv_wrapper.specs.Growth.{Grows}
 use Rattle.monitor.specs.declared.witness.Witness.{Witness}
 use Rattle.monitor.specs.declared.round.Round.{Round}
 use Rattle.monitor.specs.declared.round.Round.TheVariants.{Legal, Illegal}
-use Rattle.monitor.specs.Rounds.{HasMadeRounds}
+use Rattle.monitor.specs.Rounds.{HasMadeRounds, WasCutShort}
 use Rattle.monitor.specs.Monitors.{HasFound}
 
 -- How many records each caller has published.
@@ -47,15 +47,20 @@ RoundsAreRight =
     → AreTogether s locals → i < s.callers → Grows m (local_at locals i)
     → HasFound spec s.callers l m own round → IsRightRound spec locals own round
 
--- The cuts are those of at most `most` rounds over the calls of this book. A scan of M gave each;
--- at each cut but the last the book has a legal order; and either there are `most` cuts, or the
--- book at the last one has no legal order.
-pub record AreJudgedRounds (spec : SeqSpec) (book : List Page) (most : ℕ)
+-- The cuts are those of at most `most` rounds over the calls of this book. A scan of M gave each,
+-- and at each cut but the last the book has a legal order.
+pub record AreRoundsOver (spec : SeqSpec) (book : List Page) (most : ℕ)
     (rounds : List Given) : Type 0 where
   pub few : length rounds ≤ most
   pub regions : (k : ℕ) (given : Given) → slice_get rounds k ≡ Some given → given.region ≡ M
   pub legal : (k : ℕ) (given : Given) → slice_get rounds k ≡ Some given → k + 1 < length rounds
       → HasLegalOrder spec (book_at given.cut book)
+
+-- The cuts are those of rounds over the calls of this book, up to the end: there are `most` cuts, or
+-- the book at the last one has no legal order.
+pub record AreJudgedRounds (spec : SeqSpec) (book : List Page) (most : ℕ)
+    (rounds : List Given) : Type 0 where
+  pub over : AreRoundsOver spec book most rounds
   pub ends : (length rounds ≡ most)
       ⊎ ((last : Given) × (slice_get rounds (length rounds - 1) ≡ Some last)
       × ¬ HasLegalOrder spec (book_at last.cut book))
@@ -70,6 +75,17 @@ RoundsAreJudged =
     → HasMadeRounds spec s.callers most before (local_at locals i) own
     → (rounds : List Given) × ((local_at locals i).cuts ≡ before.cuts ++ rounds)
     × AreJudgedRounds spec (book_in locals) most rounds
+
+-- Where caller i was cut short for want of memory, the cuts that it was given, after those that it
+-- had before, are those of rounds over the book of all callers' calls. Nothing is said of the book
+-- at the last one.
+abbrev pub ShortRoundsAreRounds : Type 0
+ShortRoundsAreRounds =
+    (spec : SeqSpec) (s : Shape) (locals : List Local) (i most : ℕ) (before : Local)
+    → AreTogether s locals → i < s.callers
+    → WasCutShort spec s.callers most before (local_at locals i)
+    → (rounds : List Given) × ((local_at locals i).cuts ≡ before.cuts ++ rounds)
+    × AreRoundsOver spec (book_in locals) most rounds
 
 -- The own witness that rounds of caller i found is right for the calls of all callers.
 abbrev pub OwnIsAWitness : Type 0

@@ -135,14 +135,14 @@ pub fn watch_beside<
     ensures done { AllZip (λ w d. W.done w shared.now d) all.old all.new }
     // The bench has the local and the stance of each caller but `one` and `other` as before.
     ensures others { (i : ℕ) → i ≢ one → i ≢ other → IsUnmoved bench.old bench.new i }
-    // Caller `one` is back on the bench, live and idle, with its progress as before. Unless it
-    // lacked memory, it made `rounds` legal rounds, or at most `rounds` of which the last one
-    // alone is illegal.
+    // Caller `one` is back on the bench, live and idle, with its progress as before. It made
+    // `rounds` legal rounds, or at most `rounds` of which the last one alone is illegal. Or it
+    // lacked memory after legal rounds, in a further one, and has no own witness.
     ensures one { (l : Local) → on_bench bench.old one ≡ Some l
         → IsBackFrom (S.spec sequential.now) rows.now.callers bench.new one l rounds result.0 }
-    // Caller `other` is back on the bench, live and idle, with its progress as before. Unless it
-    // lacked memory, it made `rounds` legal rounds, or at most `rounds` of which the last one
-    // alone is illegal.
+    // Caller `other` is back on the bench, live and idle, with its progress as before. It made
+    // `rounds` legal rounds, or at most `rounds` of which the last one alone is illegal. Or it
+    // lacked memory after legal rounds, in a further one, and has no own witness.
     ensures other { (l : Local) → on_bench bench.old other ≡ Some l
         → IsBackFrom (S.spec sequential.now) rows.now.callers bench.new other l rounds result.1 }
     // Where the board took a copy of a monitor's own witness, this monitor has an own witness.

@@ -1,4 +1,4 @@
-ghost use Rattle.std.specs.Prelude.{◌≡◌, true, is_some, None};
+ghost use Rattle.std.specs.Prelude.{◌≡◌, true, is_some, None, IfOk};
 
 use crate::board::Board;
 use crate::witness::Witness;
@@ -17,11 +17,18 @@ pub(crate) struct Claim {
     ghost found: { placed ≡ true → is_some own ≡ true },
 }
 
+// A copy of a witness, in a box of its own.
+fn boxed_copy(alloc: Global, witness: &Witness) -> Result<Box<Witness>, NoMemory>
+    ensures { IfOk result (λ copy. copy.value ≡ witness.now) }
+{
+    Ok(Box::new(alloc, witness.copy(alloc)?)?)
+}
+
 impl Claim {
-    ghost use Rattle.std.specs.Prelude.{false, Some, IfSome, IfNone, IsSomeAnd, OnOk, OnErr};
+    ghost use Rattle.std.specs.Prelude.{false, Some, IfSome, IfNone, IsSomeAnd};
     ghost use Rattle.std.specs.Option.{MatchOption};
     ghost use Rattle.once_cell.specs.Once.{Agrees};
-    ghost use Rattle.monitor.specs.Claims.{own_in, placed_in, known_in, IsClaimOn, AreOnOne, HasSameFindings, Knows, Agree};
+    ghost use Rattle.monitor.specs.Claims.{own_in, placed_in, known_in, IsClaimOn, AreOnOne, HasSameFindings, KnowsOrLacked, Agree};
 
     /// The claim of a monitor that has found nothing yet, and knows nothing of the board. It takes
     /// no memory.
@@ -37,22 +44,20 @@ impl Claim {
         }
     }
 
-    /// Keeps a witness as the monitor's own, and tries once to put a copy of it on the board.
-    ///
-    /// Where memory for the copy is lacking, the witness isn't kept, and the board isn't tried.
-    pub fn keep(&mut self, alloc: Global, board: &Board, witness: Witness) -> Result<(), NoMemory>
+    /// Keeps a witness as the monitor's own, and tries once to put a copy of it on the board. Where
+    /// memory for the copy is lacking, the board isn't tried.
+    pub fn keep(&mut self, alloc: Global, board: &Board, witness: Witness)
         requires board { IsClaimOn board.now self.old }
         requires nothing { own_in self.old ≡ None }
         ensures board { IsClaimOn board.now self.new }
-        ensures own { OnOk result (own_in self.new ≡ Some witness) }
-        ensures known { OnOk result (Knows (known_in self.old) (known_in self.new)) }
+        ensures own { own_in self.new ≡ Some witness }
+        ensures known { KnowsOrLacked (known_in self.old) (known_in self.new) }
         ensures first { placed_in self.new ≡ true → known_in self.old ≡ None }
-        ensures err { OnErr result (self.new ≡ self.old) }
     {
-        let copy = Box::new(alloc, witness.copy(alloc)?)?;
-        self.placed = board.cell.set_as(copy, &mut self.note).is_ok();
+        if let Ok(copy) = boxed_copy(alloc, &witness) {
+            self.placed = board.cell.set_as(copy, &mut self.note).is_ok();
+        }
         self.own = Some(witness);
-        Ok(())
     }
 
     /// The own witness of a monitor, where it has found one.

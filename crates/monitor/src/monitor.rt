@@ -36,7 +36,7 @@ impl<P: Program> Monitor<P> {
     ghost use Rattle.drv_wrapper.specs.Stands.{ready};
     ghost use Rattle.frontier_check.specs.Standing.{IsStandingFor};
     ghost use Rattle.enforcer.specs.Lines.{OrderStandsIn};
-    ghost use Rattle.monitor.specs.Claims.{Knows, Agree};
+    ghost use Rattle.monitor.specs.Claims.{KnowsOrLacked, Agree};
     ghost use Rattle.monitor.specs.Monitors.{caller_of, local_of, own_of, placed_by, known_by, kept_by, IsOn, AreOfOne, IsMonitorOf, Becomes, IsLater, HasFound, HasScannedSome, HasGathered, IsKeptAfter, TicksForBook, TicksForRound};
 
     /// A monitor that has made no round. It takes no memory.
@@ -98,7 +98,8 @@ impl<P: Program> Monitor<P> {
     /// Scans M, gathers the book at the scan's cut, and judges it (Castañeda and Rodríguez 2023).
     ///
     /// A book without a legal order becomes the monitor's own witness, and the monitor tries once
-    /// to put a copy of it on the board. Where memory is lacking, the board isn't tried.
+    /// to put a copy of it on the board. Where memory for the copy is lacking, the board isn't
+    /// tried, and the round is told all the same.
     pub fn round<S: SearchHints, L: Ledger>(
         &mut self,
         alloc: Global,
@@ -123,9 +124,10 @@ impl<P: Program> Monitor<P> {
         ensures found { IfOk result (HasFound (S.spec object.now) rows.now.callers
             (local_of self.old) (local_of self.new) (own_of self.new)) }
         // A monitor that has an own witness afterwards knows a witness on the board: the one that
-        // it knew before, if it knew one.
+        // it knew before, if it knew one. Or memory for a copy of the own witness was lacking, and
+        // what the monitor knows of the board is as before.
         ensures known { IfSome (own_of self.new)
-            (λ w. Knows (known_by self.old) (known_by self.new)) }
+            (λ w. KnowsOrLacked (known_by self.old) (known_by self.new)) }
         // The board took a copy of the own witness only where the monitor knew no witness before.
         ensures first { placed_by self.new ≡ true → known_by self.old ≡ None }
         // After a legal round the monitor keeps the book at the cut of the round's scan, and after
@@ -180,9 +182,10 @@ impl<P: Program> Monitor<P> {
         ensures found { IfOk result (HasFound (S.spec object.now) rows.now.callers
             (local_of self.old) (local_of self.new) (own_of self.new)) }
         // A monitor that has an own witness afterwards knows a witness on the board: the one that
-        // it knew before, if it knew one.
+        // it knew before, if it knew one. Or memory for a copy of the own witness was lacking, and
+        // what the monitor knows of the board is as before.
         ensures known { IfSome (own_of self.new)
-            (λ w. Knows (known_by self.old) (known_by self.new)) }
+            (λ w. KnowsOrLacked (known_by self.old) (known_by self.new)) }
         // The board took a copy of the own witness only where the monitor knew no witness before.
         ensures first { placed_by self.new ≡ true → known_by self.old ≡ None }
         // After a legal round the monitor keeps the book at the cut of the round's scan, and after
@@ -215,7 +218,7 @@ impl<P: Program> Monitor<P> {
             }
             None => {
                 let Gathered { book, cut } = found;
-                self.claim.keep(alloc, board, Witness { cut, book })?;
+                self.claim.keep(alloc, board, Witness { cut, book });
                 Ok(Round::Illegal(cut))
             }
         }

@@ -2,8 +2,7 @@
 
 ghost use Rattle.std.specs.Prelude.{◌≡◌, ◌⊎◌, ◌≤◌, ◌<◌, ◌+◌, ℕ, Some, length, vec_len, vec_capacity};
 ghost use Rattle.seq_objects.specs.Objects.{kind_spec};
-ghost use Rattle.world_core.specs.Local.{Local};
-ghost use Rattle.row_table.specs.Callers.{locals_on, on_bench, IsBenchOf, HoldsAll};
+ghost use Rattle.row_table.specs.Callers.{locals_on, IsBenchOf, HoldsAll};
 ghost use Rattle.client_calls.specs.Asking.{fits_own, own_count};
 ghost use Rattle.script_workers.specs.Places.{AreInOrder};
 ghost use Rattle.script_workers.specs.Starts.{run_allotments, IsUnused, MayBegin};
@@ -11,7 +10,7 @@ ghost use Rattle.script_workers.specs.Returns.{IsBackOn};
 ghost use Rattle.run_report.specs.Passes.{IsOwnPass, AreUnusedPasses};
 ghost use Rattle.byte_streams.specs.Fault.{LeavesSink};
 ghost use Rattle.byte_streams.specs.Writing.{EndsWriting};
-ghost use Rattle.monitored_runs.specs.Monitoring.{IsMonitor, HaveMadeAll, AreFreeAgain, IsToldAll, HasMonitored};
+ghost use Rattle.monitored_runs.specs.Monitoring.{IsMonitor, HaveMadeAll, AreFreeAgain, IsToldAll, HaveMonitored};
 ghost use Rattle.monitor_writer.specs.MonitorTexts.{HasLegalRecords, IsMonitorText};
 
 use crate::answer_output::write_answer;
@@ -89,12 +88,12 @@ where
         (IsToldAll B.Pass.made B.Pass.told script.now (locals_on bench.new)) passes.new.items }
     // Unless the status is `NoMemory`, the cuts that each monitor was given in this run are those
     // of its rounds over the calls of all callers. Their number is at most the number of the
-    // script's calls plus 1. At each cut but the last the book has a legal order. Where there are
-    // fewer cuts than the number of the script's calls plus 1, the book at the last cut has no
-    // legal order.
-    ensures rounds { ¬ (result ≡ Status.NoMemory) → (i : ℕ) (l : Local) → IsMonitor script.now i
-        → on_bench bench.old i ≡ Some l
-        → HasMonitored (kind_spec script.now.kind) script.now (locals_on bench.new) i l }
+    // script's calls plus 1. At each cut but the last the book has a legal order. Of one monitor at
+    // least, and of both where the book of all published records has a legal order, it also holds
+    // that where there are fewer cuts than the number of the script's calls plus 1, the book at the
+    // last cut has no legal order.
+    ensures rounds { ¬ (result ≡ Status.NoMemory) → HaveMonitored (kind_spec script.now.kind)
+        script.now bench.old (locals_on bench.new) }
 
     // The returned status and the text written are right for the records that the locals on the
     // bench have published. After a failed write only a part of the text is written, and without

@@ -1,9 +1,9 @@
 -- What the callers of a plan leave whose calls nobody judged, and what the two monitors leave.
-use Rattle.std.proofs.Common.{◌≡◌, ◌∙◌, refl, sym, ap, ap₂, subst, inl, inr, ℕ, zero, suc, ◌+◌, ◌<◌, ◌≤◌, ◌⊎◌, ◌%◌, ◌/◌, false, List, [], ◌∷◌, ◌++◌, length, map, take, drop, replicate, slice_get, slice_index, sum_by, ◌*◌, Some, arith}
+use Rattle.std.proofs.Common.{◌≡◌, ◌∙◌, refl, sym, ap, ap₂, subst, inl, inr, ℕ, zero, suc, ◌+◌, ◌<◌, ◌≤◌, ◌⊎◌, ◌%◌, ◌/◌, Bool, true, false, List, [], ◌∷◌, ◌++◌, length, map, take, drop, replicate, slice_get, slice_index, sum_by, ◌*◌, Some, arith}
 use Rattle.std.specs.Prelude.{Option, IfSome, IsSome}
 use Rattle.std.specs.List.{range_with_len}
 use Rattle.std.proofs.lemmas.List.FromFn.{length-range_with_len}
-use Rattle.std.proofs.lemmas.Bool.{cases_lt}
+use Rattle.std.proofs.lemmas.Bool.{cases_lt, false≢true}
 use Rattle.std.proofs.lemmas.List.{length-map, length-take, length-append, get_or-map}
 use Rattle.std.proofs.lemmas.List.Sums.{sum_by-cons, sum_by-take-le}
 use Rattle.std.proofs.lemmas.Option.{none-some, same_Some, slice_get_within}
@@ -11,6 +11,7 @@ use Rattle.book_base.specs.declared.TheConstants.{MAX_CALLS}
 use Rattle.book_base.specs.SeqSpec.{SeqSpec}
 use Rattle.book_base.specs.Cut.{IsWithin}
 use Rattle.book_base.specs.Book.{Page, IsValid, answered}
+use Rattle.book_base.specs.Order.{HasLegalOrder}
 use Rattle.world_core.specs.Shape.{Meaning}
 use Rattle.world_core.specs.Local.{Local, fresh}
 use Rattle.world_core.specs.Calls.{Reached, Is_announced, Has_record, Has_seen, Made, AreTogether, page_with, calls_in, book_in, local_at}
@@ -42,12 +43,13 @@ use Rattle.std.proofs.lemmas.Slice.Zip.{AllZip-long}
 use Rattle.run_report.proofs.Workers.{the_local, lines_here}
 use Rattle.run_report.proofs.Reports.{at_most, none_after}
 use Rattle.monitor.specs.declared.witness.Witness.{Witness}
-use Rattle.monitor.specs.Rounds.{HasMadeRounds}
-use Rattle.monitor.specs.Worlds.{published_of}
-use Rattle.monitor.proofs.Judged.{rounds_are_judged, own_is_a_witness}
+use Rattle.monitor.specs.declared.beside.Left.{Left}
+use Rattle.monitor.specs.Rounds.{HasMadeRounds, HasRounds}
+use Rattle.monitor.specs.Worlds.{published_of, published_book}
+use Rattle.monitor.proofs.Judged.{rounds_are_judged, short_rounds_are_rounds, own_is_a_witness}
 use Rattle.monitored_runs.specs.Deferred.{HavePage, HasDeferred, HavePages}
 use Rattle.monitored_runs.specs.Published.{IsJudgedAt, IsExactAnswer}
-use Rattle.monitored_runs.specs.Monitoring.{published_for, with_monitors, most_rounds, IsMonitor, HaveMadeAll, AreFreeAgain, IsCountedAll, IsToldAll, HasMonitored, HasWatched}
+use Rattle.monitored_runs.specs.Monitoring.{published_for, with_monitors, most_rounds, IsMonitor, HaveMadeAll, AreFreeAgain, IsCountedAll, IsToldAll, HasMonitored, HasMadeSome, HaveMonitored, HasWatched}
 use Rattle.monitored_runs.proofs.Deferred.{no_errors, deferring_clients_make_all, lines_are_the_book}
 use Rattle.monitored_runs.proofs.Returning.{each_monitor, begins_unused}
 use Rattle.monitored_runs.proofs.AllPublished.{published_records_are_in_the_book, answers_are_exact}
@@ -183,6 +185,18 @@ calls_fit plan i calls valid so_far = omega (
   few_calls plan.operations valid.calls,
   valid.callers,
 )
+
+-- a monitor that lacked no memory has made its rounds, and so has one with an own witness
+all_rounds : (spec : SeqSpec) (n : ℕ) (wanted : Bool) (most : ℕ) (l m : Local)
+    (own : Option Witness) → wanted ≡ false → HasRounds spec n wanted most l m own
+    → HasMadeRounds spec n most l m own
+all_rounds spec n false most l m own none h = h
+all_rounds spec n true most l m own none h = absurd (false≢true (sym none))
+
+found_rounds : (spec : SeqSpec) (n : ℕ) (wanted : Bool) (most : ℕ) (l m : Local) (w : Witness)
+    → HasRounds spec n wanted most l m (Some w) → HasMadeRounds spec n most l m (Some w)
+found_rounds spec n false most l m w h = h
+found_rounds spec n true most l m w h = absurd (none-some w (sym h.1))
 
 -- the bench of a run with monitors holds all callers after the run
 pub holds_beside : {P T : Type 0} (meaning : P → ℕ → ℕ → Meaning) (r : Rows P) (fit : Fits T)
@@ -414,58 +428,146 @@ module _ {P T : Type 0} (meaning : P → ℕ → ℕ → Meaning) (r : Rows P) (
         (subst (λ (book : List Page). IsJudgedAt spec book (published_for plan) answer)
         is_the_book h))
 
-    rounds_on : (i most : ℕ) (before : Local) (own : Option Witness)
-        → HasWatched spec r.callers b i before most own
-        → HasMadeRounds spec r.callers most before (local_at locals i) own
-    rounds_on i most before own h =
-        subst (λ (l : Local). HasMadeRounds spec r.callers most before l own)
+    rounds_on : (i most : ℕ) (before : Local) (left : Left)
+        → HasWatched spec r.callers b i before most left
+        → HasRounds spec r.callers left.wants_memory most before (local_at locals i) left.own
+    rounds_on i most before left h =
+        subst (λ (l : Local). HasRounds spec r.callers left.wants_memory most before l left.own)
         (sym (local_is i h.local h.here)) h.rounds
 
     monitored : (i : ℕ) (before : Local) (own : Option Witness) → IsMonitor plan i
-        → HasWatched spec r.callers b i before (most_rounds plan) own
+        → HasMadeRounds spec r.callers (most_rounds plan) before (local_at locals i) own
         → HasMonitored spec plan locals i before
     monitored i before own one h =
         rounds_are_judged spec (shape_of meaning r) locals i
-        (most_rounds plan) before own together (omega (arith, one.before, begins.callers))
-        (rounds_on i (most_rounds plan) before own h)
+        (most_rounds plan) before own together (omega (arith, one.before, begins.callers)) h
+
+    made_some : (i : ℕ) (before : Local) (wanted : Bool) (own : Option Witness) → IsMonitor plan i
+        → HasRounds spec r.callers wanted (most_rounds plan) before (local_at locals i) own
+        → HasMadeSome spec plan locals i before
+    made_some i before false own one h =
+        let (rounds, cuts, judged) = monitored i before own one h in (rounds, cuts, judged.over)
+    made_some i before true own one h =
+        short_rounds_are_rounds spec (shape_of meaning r) locals i
+        (most_rounds plan) before together (omega (arith, one.before, begins.callers)) h.0
 
     found : (i most : ℕ) (before : Local) (w : Witness) → IsMonitor plan i
-        → HasWatched spec r.callers b i before most (Some w) → IsExactAnswer spec locals (Some w)
+        → HasMadeRounds spec r.callers most before (local_at locals i) (Some w)
+        → IsExactAnswer spec locals (Some w)
     found i most before w one h =
         (answers_are_exact spec (shape_of meaning r) locals (Some w) together).0
         (own_is_a_witness spec (shape_of meaning r) locals i most before w together
-        (omega (arith, one.before, begins.callers)) (rounds_on i most before (Some w) h))
+        (omega (arith, one.before, begins.callers)) h)
+
+    first_monitor : IsMonitor plan n
+    first_monitor = record { after = omega arith; before = omega arith }
+
+    second_monitor : IsMonitor plan (n + 1)
+    second_monitor = record { after = omega arith; before = omega arith }
 
     -- What the two monitors leave, which were on the first bench and then watched.
-    module _ (most : ℕ) (one other : Option Witness) (watched : (l : Local) → on_bench first n
-        ≡ Some l → HasWatched spec r.callers b n l most one) (watched_too : (l : Local)
-        → on_bench first (n + 1) ≡ Some l → HasWatched spec r.callers b (n + 1) l most other) where
-      pub all_monitored : most ≡ most_rounds plan → (i : ℕ) (l : Local) → IsMonitor plan i
-          → on_bench first i ≡ Some l → HasMonitored spec plan locals i l
-      all_monitored same i before monitor there =
+    module _ (most : ℕ) (same : most ≡ most_rounds plan) (one other : Left)
+        (back_one : (l : Local) → on_bench first n ≡ Some l
+        → HasWatched spec r.callers b n l most one)
+        (back_other : (l : Local) → on_bench first (n + 1) ≡ Some l
+        → HasWatched spec r.callers b (n + 1) l most other) where
+      watched : (l : Local) → on_bench first n ≡ Some l
+          → HasWatched spec r.callers b n l (most_rounds plan) one
+      watched l here =
+          subst (λ (m : ℕ). HasWatched spec r.callers b n l m one) same (back_one l here)
+
+      watched_too : (l : Local) → on_bench first (n + 1) ≡ Some l
+          → HasWatched spec r.callers b (n + 1) l (most_rounds plan) other
+      watched_too l here =
+          subst (λ (m : ℕ). HasWatched spec r.callers b (n + 1) l m other) same (back_other l here)
+
+      each_made : (i : ℕ) (l : Local) → IsMonitor plan i → on_bench first i ≡ Some l
+          → HasMadeSome spec plan locals i l
+      each_made i before monitor there =
           each_monitor (λ k. (l : Local) → on_bench first k ≡ Some l
-          → HasMonitored spec plan locals k l) plan
-          (λ l here. monitored n l one (record { after = omega arith; before = omega arith })
-          (subst (λ (m : ℕ). HasWatched spec r.callers b n l m one) same (watched l here)))
-          (λ l here.
-          monitored (n + 1) l other (record { after = omega arith; before = omega arith })
-          (subst (λ (m : ℕ). HasWatched spec r.callers b (n + 1) l m other) same
-          (watched_too l here)))
+          → HasMadeSome spec plan locals k l) plan
+          (λ l here. made_some n l one.wants_memory one.own first_monitor
+          (rounds_on n (most_rounds plan) l one (watched l here)))
+          (λ l here. made_some (n + 1) l other.wants_memory other.own second_monitor
+          (rounds_on (n + 1) (most_rounds plan) l other (watched_too l here)))
           i monitor before there
 
-      pub found_by : (w : Witness) → (one ≡ Some w) ⊎ (other ≡ Some w)
+      -- neither monitor lacked memory
+      pub all_monitored : one.wants_memory ≡ false → other.wants_memory ≡ false
+          → HaveMonitored spec plan first locals
+      all_monitored none none_too =
+          let ends : (l : Local) → on_bench first n ≡ Some l → HasMonitored spec plan locals n l =
+          λ l here. monitored n l one.own first_monitor
+          (all_rounds spec r.callers one.wants_memory (most_rounds plan) l (local_at locals n)
+          one.own none (rounds_on n (most_rounds plan) l one (watched l here))) in
+          record {
+            each = each_made;
+            ended = n;
+            one = first_monitor;
+            ends = ends;
+            legal = λ legal i before monitor there.
+                each_monitor (λ k. (l : Local) → on_bench first k ≡ Some l
+                → HasMonitored spec plan locals k l) plan ends
+                (λ l here. monitored (n + 1) l other.own second_monitor
+                (all_rounds spec r.callers other.wants_memory (most_rounds plan) l
+                (local_at locals (n + 1)) other.own none_too
+                (rounds_on (n + 1) (most_rounds plan) l other (watched_too l here))))
+                i monitor before there;
+          }
+
+      -- the rounds of the first monitor, and of the second, where it found this witness
+      found_first : (w : Witness) → one.own ≡ Some w → (l : Local) → on_bench first n ≡ Some l
+          → HasMadeRounds spec r.callers (most_rounds plan) l (local_at locals n) (Some w)
+      found_first w is l here =
+          found_rounds spec r.callers one.wants_memory (most_rounds plan) l (local_at locals n) w
+          (subst (λ (own : Option Witness). HasRounds spec r.callers one.wants_memory
+          (most_rounds plan) l (local_at locals n) own) is
+          (rounds_on n (most_rounds plan) l one (watched l here)))
+
+      found_second : (w : Witness) → other.own ≡ Some w → (l : Local)
+          → on_bench first (n + 1) ≡ Some l
+          → HasMadeRounds spec r.callers (most_rounds plan) l (local_at locals (n + 1)) (Some w)
+      found_second w is l here =
+          found_rounds spec r.callers other.wants_memory (most_rounds plan) l
+          (local_at locals (n + 1)) w
+          (subst (λ (own : Option Witness). HasRounds spec r.callers other.wants_memory
+          (most_rounds plan) l (local_at locals (n + 1)) own) is
+          (rounds_on (n + 1) (most_rounds plan) l other (watched_too l here)))
+
+      pub found_by : (w : Witness) → (one.own ≡ Some w) ⊎ (other.own ≡ Some w)
           → IsExactAnswer spec locals (Some w)
       found_by w by =
           elim by [
             | inl is ↦
-                let me : IsMonitor plan n = record { after = omega arith; before = omega arith } in
-                let was = begins_unused meaning plan r first begins n me in
-                found n most was.local w me (subst (λ (own : Option Witness). HasWatched spec
-                r.callers b n was.local most own) is (watched was.local was.here))
+                let was = begins_unused meaning plan r first begins n first_monitor in
+                found n (most_rounds plan) was.local w first_monitor
+                (found_first w is was.local was.here)
             | inr is ↦
-                let me : IsMonitor plan (n + 1) =
-                record { after = omega arith; before = omega arith } in
-                let was = begins_unused meaning plan r first begins (n + 1) me in
-                found (n + 1) most was.local w me (subst (λ (own : Option Witness). HasWatched spec
-                r.callers b (n + 1) was.local most own) is (watched_too was.local was.here))
+                let was = begins_unused meaning plan r first begins (n + 1) second_monitor in
+                found (n + 1) (most_rounds plan) was.local w second_monitor
+                (found_second w is was.local was.here)
+          ]
+
+      -- a monitor has a witness, and the other one may have lacked memory
+      pub found_monitored : (w : Witness) → (one.own ≡ Some w) ⊎ (other.own ≡ Some w)
+          → HaveMonitored spec plan first locals
+      found_monitored w by =
+          let never : HasLegalOrder spec (published_book locals) → ⊥ =
+          λ legal. none-some w (sym ((found_by w by).exact.1 legal)) in
+          elim by [
+            | inl is ↦ record {
+              each = each_made;
+              ended = n;
+              one = first_monitor;
+              ends = λ l here. monitored n l (Some w) first_monitor (found_first w is l here);
+              legal = λ legal. absurd (never legal);
+            }
+            | inr is ↦ record {
+              each = each_made;
+              ended = n + 1;
+              one = second_monitor;
+              ends = λ l here.
+                  monitored (n + 1) l (Some w) second_monitor (found_second w is l here);
+              legal = λ legal. absurd (never legal);
+            }
           ]

@@ -1,6 +1,6 @@
 -- The two monitors of a bench, from before the run to after it.
-use Rattle.std.proofs.Common.{◌≡◌, ◌∙◌, refl, sym, subst, inl, inr, ℕ, ◌+◌, ◌≤◌, Bool, true, false, ◌||◌, Some, length, arith}
-use Rattle.std.proofs.lemmas.Bool.{cases_lt, false≢true}
+use Rattle.std.proofs.Common.{◌≡◌, ◌∙◌, refl, sym, subst, inl, inr, ℕ, ◌+◌, ◌≤◌, Some, length, arith}
+use Rattle.std.proofs.lemmas.Bool.{cases_lt}
 use Rattle.book_base.specs.SeqSpec.{SeqSpec}
 use Rattle.world_core.specs.Shape.{Meaning}
 use Rattle.world_core.specs.Local.{Local}
@@ -29,13 +29,6 @@ pub begins_unused : {P : Type 0} (meaning : P → ℕ → ℕ → Meaning) (plan
     (b : Bench P) → MayBegin meaning plan 2 r b → (i : ℕ) → IsMonitor plan i → IsUnused b i
 begins_unused meaning plan r b begins i monitor =
     begins.others i monitor.after (omega (arith, monitor.before, begins.callers))
-
--- no caller wanted memory
-pub none_wanted : (a b c : Bool) → (a || (b || c)) ≡ false → (a ≡ false)
-    × ((b ≡ false) × (c ≡ false))
-none_wanted true b c none = absurd (false≢true (sym none))
-none_wanted false true c none = absurd (false≢true (sym none))
-none_wanted false false c none = (refl, (refl, none))
 
 -- once the script's callers have begun, a monitor is still free on the bench
 pub free_on : {P : Type 0} (n : ℕ) (b s : Bench P) → AreAlikeFrom n b s → (i : ℕ) → n ≤ i
@@ -67,12 +60,11 @@ module _ {P : Type 0} (spec : SeqSpec) (callers n most : ℕ) (b s w e : Bench P
         none = h.progress ∙ unused.none;
       }
 
-  -- a monitor that comes back has made its rounds
-  pub back_watched : left.wants_memory ≡ false → (l : Local) → on_bench b i ≡ Some l
-      → HasWatched spec callers e i l most left.own
-  back_watched none l here =
+  -- a monitor that comes back has made its rounds, or was cut short in one
+  pub back_watched : (l : Local) → on_bench b i ≡ Some l → HasWatched spec callers e i l most left
+  back_watched l here =
       let h = here_back l ((started i high).0 ∙ here) in
-      record { local = h.local; here = (ended i high).0 ∙ h.here.here; rounds = h.rounds none }
+      record { local = h.local; here = (ended i high).0 ∙ h.here.here; rounds = h.rounds }
 
 -- both monitors come back as they were, without calls
 pub monitors_back : {P : Type 0} (spec : SeqSpec) (callers most : ℕ) (plan : Plan)

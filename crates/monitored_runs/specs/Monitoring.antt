@@ -1,7 +1,8 @@
 -- Runs whose callers judge nothing, while two monitors watch them: what they begin with, and what
 -- they leave.
-use Rattle.std.specs.Prelude.{◌≡◌, ℕ, ◌+◌, ◌%◌, ◌<◌, ◌≤◌, List, [], ◌∷◌, ◌++◌, Option, Some, IfSome, length, map, sum_by, slice_index}
+use Rattle.std.specs.Prelude.{◌≡◌, ℕ, ◌+◌, ◌%◌, ◌<◌, ◌≤◌, List, [], ◌∷◌, ◌++◌, Some, Option, IfSome, length, map, sum_by, slice_index}
 use Rattle.book_base.specs.SeqSpec.{SeqSpec}
+use Rattle.book_base.specs.Order.{HasLegalOrder}
 use Rattle.world_core.specs.Local.{Local, Given}
 use Rattle.world_core.specs.Calls.{calls_in, book_in, local_at}
 use Rattle.report_lines.specs.declared.line.Line.{Line}
@@ -14,9 +15,9 @@ use Rattle.client_scripts.specs.Plans.{Plan}
 use Rattle.client_calls.specs.Asking.{PassCount}
 use Rattle.script_workers.specs.Starts.{run_allotments}
 use Rattle.script_workers.specs.Returns.{IsCountOf}
-use Rattle.monitor.specs.declared.witness.Witness.{Witness}
-use Rattle.monitor.specs.Rounds.{HasMadeRounds}
-use Rattle.monitor.specs.Worlds.{AreJudgedRounds}
+use Rattle.monitor.specs.declared.beside.Left.{Left}
+use Rattle.monitor.specs.Rounds.{HasRounds}
+use Rattle.monitor.specs.Worlds.{published_book, AreRoundsOver, AreJudgedRounds}
 
 -- How many rounds a monitor makes at the most: one for each call of a plan, and one more.
 abbrev pub most_rounds : Plan → ℕ
@@ -68,6 +69,26 @@ module _ (spec : SeqSpec) where
       (rounds : List Given) × ((local_at locals i).cuts ≡ before.cuts ++ rounds)
       × AreJudgedRounds spec (book_in locals) (most_rounds plan) rounds
 
+  -- The cuts that monitor i was given, after those of its local `before`, are those of its rounds
+  -- over the calls of all callers; nothing is said of the book at the last one.
+  abbrev pub HasMadeSome : Plan → List Local → ℕ → Local → Type 0
+  HasMadeSome plan locals i before =
+      (rounds : List Given) × ((local_at locals i).cuts ≡ before.cuts ++ rounds)
+      × AreRoundsOver spec (book_in locals) (most_rounds plan) rounds
+
+  -- Both monitors have made rounds over the calls of all callers, after their locals on the bench
+  -- `b`. One of them at least has made its rounds to the end, and both have where the book of all
+  -- published records has a legal order. The other one may have lacked memory.
+  pub record HaveMonitored {P : Type 0} (plan : Plan) (b : Bench P) (locals : List Local) : Type 0
+    where
+      pub each : (i : ℕ) (l : Local) → IsMonitor plan i → on_bench b i ≡ Some l
+          → HasMadeSome plan locals i l
+      pub ended : ℕ
+      pub one : IsMonitor plan ended
+      pub ends : (l : Local) → on_bench b ended ≡ Some l → HasMonitored plan locals ended l
+      pub legal : HasLegalOrder spec (published_book locals) → (i : ℕ) (l : Local)
+          → IsMonitor plan i → on_bench b i ≡ Some l → HasMonitored plan locals i l
+
 module _ {P : Type 0} where
   -- Each of a plan's callers whose allotment ends between two calls, or after all of them, is on
   -- the bench, free for its next call.
@@ -76,10 +97,11 @@ module _ {P : Type 0} where
       (i : ℕ) → i < length plan.operations → slice_index (run_allotments plan) i % 5 ≡ 0
       → stance_on b i ≡ Some fresh_stance
 
-  -- Caller i is back on the bench after rounds, at most `most`, that began with the local `before`
-  -- and found this own witness, or none.
+  -- Caller i is back on the bench after rounds, at most `most`, that began with the local `before`.
+  -- It found the own witness that `left` has, or none; or it was cut short for want of memory, and
+  -- left no witness.
   pub record HasWatched (spec : SeqSpec) (n : ℕ) (b : Bench P) (i : ℕ) (before : Local) (most : ℕ)
-      (own : Option Witness) : Type 0 where
+      (left : Left) : Type 0 where
     pub local : Local
     pub here : on_bench b i ≡ Some local
-    pub rounds : HasMadeRounds spec n most before local own
+    pub rounds : HasRounds spec n left.wants_memory most before local left.own

@@ -1,10 +1,9 @@
-ghost use Rattle.std.specs.Prelude.{◌≡◌, ℕ, ◌+◌, ◌<◌, ◌≤◌, ◌⊎◌, Some, length, vec_len, vec_capacity, IfOk, IfSome, OnOk};
+ghost use Rattle.std.specs.Prelude.{◌≡◌, ℕ, ◌+◌, ◌<◌, ◌≤◌, ◌⊎◌, true, false, None, Some, length, vec_len, vec_capacity, IfOk, IfSome, IfNone, OnOk, OnErr};
 ghost use Rattle.book_base.specs.declared.TheConstants.{MAX_CALLERS};
 ghost use Rattle.book_base.specs.Book.{answered};
 ghost use Rattle.book_base.specs.Cut.{IsWithin};
-ghost use Rattle.world_core.specs.Local.{Local};
 ghost use Rattle.report_lines.specs.Lines.{book_of_lines};
-ghost use Rattle.row_table.specs.Callers.{locals_on, on_bench, IsBenchOf, HoldsAll};
+ghost use Rattle.row_table.specs.Callers.{locals_on, IsBenchOf, HoldsAll};
 ghost use Rattle.client_calls.specs.Asking.{fits_own, own_count};
 ghost use Rattle.reports.specs.Filling.{AreOfABook};
 ghost use Rattle.reports.specs.ReportLayout.{lines_in};
@@ -13,7 +12,7 @@ ghost use Rattle.script_workers.specs.Starts.{run_allotments, IsUnused, MayBegin
 ghost use Rattle.script_workers.specs.Returns.{IsBackOn};
 ghost use Rattle.run_report.specs.Passes.{IsOwnPass, AreUnusedPasses};
 ghost use Rattle.monitored_runs.specs.Published.{IsJudgedAt, IsExactAnswer};
-ghost use Rattle.monitored_runs.specs.Monitoring.{published_for, with_monitors, IsMonitor, HaveMadeAll, AreFreeAgain, IsCountedAll, IsToldAll, HasMonitored};
+ghost use Rattle.monitored_runs.specs.Monitoring.{published_for, with_monitors, IsMonitor, HaveMadeAll, AreFreeAgain, IsCountedAll, IsToldAll, HaveMonitored};
 
 use crate::counts::{most_rounds, published_counts};
 use crate::published::judge_at;
@@ -31,18 +30,31 @@ use std::alloc::Global;
 use std::thread::Threads;
 use world_core::{Outside, Program};
 
-// A witness that one of two monitors left, if one did. Where the board took a copy of a monitor's
-// witness, it is that one.
-fn found_by(one: Left, other: Left) -> Option<Witness>
-    ensures { IfSome result (λ w. (one.own ≡ Some w) ⊎ (other.own ≡ Some w)) }
+// A witness that one of two monitors left, if one did, even where the other lacked memory. Where the
+// board took a copy of a monitor's witness, it is that one.
+fn found_by(one: Left, other: Left) -> Result<Option<Witness>, NoMemory>
+    ensures found { IfOk result
+        (λ found. IfSome found (λ w. (one.own ≡ Some w) ⊎ (other.own ≡ Some w))) }
+    ensures none { IfOk result (λ found. IfNone found ((one.own ≡ None) × (other.own ≡ None))) }
+    ensures ends { IfOk result (λ found. IfNone found
+        ((one.wants_memory ≡ false) × (other.wants_memory ≡ false))) }
+    ensures lacked { OnErr result ((one.own ≡ None) × (other.own ≡ None)
+        × ((one.wants_memory ≡ true) ⊎ (other.wants_memory ≡ true))) }
 {
-    if other.placed {
-        return other.own;
-    }
-    match one.own {
+    let wants_memory = one.wants_memory || other.wants_memory;
+    let (first, second) = if other.placed {
+        (other.own, one.own)
+    } else {
+        (one.own, other.own)
+    };
+    let found = match first {
         Some(witness) => Some(witness),
-        None => other.own,
+        None => second,
+    };
+    if found.is_none() && wants_memory {
+        return Err(NoMemory);
     }
+    Ok(found)
 }
 
 // Puts an empty list of lines for each of the two monitors after those of the other callers.
@@ -87,7 +99,8 @@ fn judge_lines<S: SearchHints>(
 /// The answer is a witness exactly where the book of all published records has no legal order.
 /// With an answer each caller whose allotment ends between two calls, or after all of them, is free
 /// for its next call. Whatever the answer, the bench holds all callers again, and the passes are in
-/// their order. `NoMemory` is answered before the first call, or where a judgement lacked memory.
+/// their order. `NoMemory` is answered before the first call, or where a judgement lacked memory and
+/// no monitor has a witness.
 pub fn monitor_asked<
     R: Threads + Sync,
     P: Program + Send + Sync,
@@ -141,11 +154,11 @@ pub fn monitor_asked<
         (λ _. AreInOrder (IsCountedAll A.count script.now (locals_on bench.new)) passes.new.items) }
     // With an answer the cuts that each monitor was given in this run are those of its rounds over
     // the calls of all callers: at most one more than the script has calls. At each cut but the
-    // last the book has a legal order. Where there are no more cuts than the script has calls, the
-    // book at the last one has no legal order.
+    // last the book has a legal order. Of one monitor at least, and of both where the book of all
+    // published records has a legal order, it also holds that where there are no more cuts than the
+    // script has calls, the book at the last one has no legal order.
     ensures rounds { IfOk result
-        (λ _. (i : ℕ) (l : Local) → IsMonitor script.now i → on_bench bench.old i ≡ Some l
-        → HasMonitored (S.spec sequential.now) script.now (locals_on bench.new) i l) }
+        (λ _. HaveMonitored (S.spec sequential.now) script.now bench.old (locals_on bench.new)) }
     // An answer is a witness exactly where the book of all published records has no legal order. A
     // witness is the book of all callers' calls at a cut that counts published records alone, and
     // has no legal order.
@@ -155,7 +168,8 @@ pub fn monitor_asked<
     let (lines, one, other) = watch_all(
         rt, alloc, shared, bench, sequential, passes, script, most,
     )?;
-    match found_by(one, other) {
+    let found = found_by(one, other)?;
+    match found {
         Some(witness) => Ok(Some(witness)),
         None => judge_lines(alloc, sequential, script, lines),
     }
@@ -169,7 +183,8 @@ pub fn monitor_asked<
 ///
 /// The answer is a witness exactly where the book of all published records has no legal order.
 /// Whatever the answer, the bench holds all callers again, and the passes are in their order.
-/// `NoMemory` is answered before the first call, or where a judgement lacked memory.
+/// `NoMemory` is answered before the first call, or where a judgement lacked memory and no monitor
+/// has a witness.
 pub fn monitor_over<R: Threads + Sync, S: SearchHints + Sync, B: BlackBox + Sync>(
     rt: &R,
     alloc: Global,
@@ -222,11 +237,11 @@ where
         (IsToldAll B.Pass.made B.Pass.told script.now (locals_on bench.new)) passes.new.items) }
     // With an answer the cuts that each monitor was given in this run are those of its rounds over
     // the calls of all callers: at most one more than the script has calls. At each cut but the
-    // last the book has a legal order. Where there are no more cuts than the script has calls, the
-    // book at the last one has no legal order.
+    // last the book has a legal order. Of one monitor at least, and of both where the book of all
+    // published records has a legal order, it also holds that where there are no more cuts than the
+    // script has calls, the book at the last one has no legal order.
     ensures rounds { IfOk result
-        (λ _. (i : ℕ) (l : Local) → IsMonitor script.now i → on_bench bench.old i ≡ Some l
-        → HasMonitored (S.spec sequential.now) script.now (locals_on bench.new) i l) }
+        (λ _. HaveMonitored (S.spec sequential.now) script.now bench.old (locals_on bench.new)) }
     // An answer is a witness exactly where the book of all published records has no legal order. A
     // witness is the book of all callers' calls at a cut that counts published records alone, and
     // has no legal order.

@@ -78,7 +78,7 @@ fn watch_in<
 /// their list, in order.
 ///
 /// The answer is the lines of each of the script's callers, in order, and what the two monitors
-/// left. `NoMemory` is answered before anything is done, or where a round lacked memory.
+/// left, also where one lacked memory. `NoMemory` is answered before anything is done.
 pub(crate) fn watch_all<
     'a,
     R: Threads + Sync,
@@ -116,11 +116,11 @@ pub(crate) fn watch_all<
         bench.new passes.new.items (lines_in left.0.items) false) }
     ensures one { IfOk result (λ left. (l : Local) → on_bench bench.old
         (length script.now.operations) ≡ Some l → HasWatched (S.spec sequential.now)
-        shared.now.rows.now.callers bench.new (length script.now.operations) l rounds left.1.own) }
+        shared.now.rows.now.callers bench.new (length script.now.operations) l rounds left.1) }
     ensures other { IfOk result
         (λ left. (l : Local) → on_bench bench.old (length script.now.operations + 1) ≡ Some l
         → HasWatched (S.spec sequential.now) shared.now.rows.now.callers bench.new
-        (length script.now.operations + 1) l rounds left.2.own) }
+        (length script.now.operations + 1) l rounds left.2) }
 {
     let callers = script.callers();
     let ending = Deferring;
@@ -137,8 +137,5 @@ pub(crate) fn watch_all<
     );
     let pace = Pace::Alone;
     let lines = end_all(shared, script, &ending, pace, workers, lines, bench, passes)?;
-    if one.wants_memory || other.wants_memory {
-        return Err(NoMemory);
-    }
     Ok((lines, one, other))
 }

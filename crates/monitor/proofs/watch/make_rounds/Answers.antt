@@ -3,7 +3,7 @@ use Rattle.monitor.specs.declared.witness.Witness.{Witness}
 use Rattle.monitor.specs.declared.round.Round.{Round}
 use Rattle.monitor.specs.Rounds.{HasScannedOnce, HasMadeRounds}
 use Rattle.monitor.specs.Monitors.{local_of, own_of, HasFound}
-use Rattle.monitor.proofs.Rounds.{no_round, one_more_legal, the_illegal}
+use Rattle.monitor.proofs.Rounds.{no_round, one_more_legal, the_illegal, the_short}
 use Rattle.monitor.proofs.watch.make_rounds.Goals as goal
 
 pub loop-i-init : goal.loop-i-init
@@ -32,10 +32,27 @@ returns-in-Ok-Illegal g c =
     record {
       later = record { monitor = later.monitor; who = later.who ∙ made.who; on = later.on };
       progress = once.progress ∙ made.rounds.progress;
-      rounds = λ _.
-          subst (λ (o : Option Witness). HasMadeRounds spec n c.args.rounds l k o) (sym own)
+      rounds = subst (λ (o : Option Witness). HasMadeRounds spec n c.args.rounds l k o) (sym own)
           (the_illegal spec n c.loop-i._i c.args.rounds w l m k
           (omega (arith, c.loop-i-test.true)) made.rounds mine illegal);
+    }
+
+pub returns-in-Err : goal.returns-in-Err
+returns-in-Err g c =
+    let spec = g.S.SeqObject.spec c.args.shared.now.sequential.now in
+    let n = c.args.shared.now.rows.now.callers in
+    let made = c.loop-i.invariant in
+    let later = c.round_after.ensures.later in
+    let (cut, once) = c.round_after.ensures.scanned in
+    record {
+      later = record { monitor = later.monitor; who = later.who ∙ made.who; on = later.on };
+      progress = once.progress ∙ made.rounds.progress;
+      rounds = (
+        the_short spec n c.loop-i._i c.args.rounds cut (local_of c.args.monitor)
+            (local_of c.loop-i.monitor) (local_of c.round_after.new.self)
+            (omega (arith, c.loop-i-test.true)) made.rounds once,
+        c.in-Err.ensures.err,
+      );
     }
 
 pub loop-i-preserved : goal.loop-i-preserved

@@ -2,15 +2,14 @@ use Rattle.std.proofs.Common.{subst}
 use Rattle.seq_objects.specs.declared.kind.Kind.{Kind}
 use Rattle.seq_objects.specs.Objects.{kind_spec}
 use Rattle.row_table.specs.Callers.{locals_on}
-use Rattle.monitored_runs.specs.Monitoring.{HasMonitored}
+use Rattle.monitored_runs.specs.Monitoring.{HaveMonitored}
 use Rattle.monitor_writer.proofs.AnswerLemmas.{ends_of_run, found_of_run, fine_of_run}
 use Rattle.monitor_writer.proofs.run.monitor_and_write.Goals as goal
 
 pub returns-in-Ok-clause-rounds : goal.returns-in-Ok-clause-rounds
-returns-in-Ok-clause-rounds g c some i before monitor there =
-    subst (λ (kind : Kind). HasMonitored (kind_spec kind) c.args.script.now
-    (locals_on c.monitor_over.new.bench) i before) c.kind.ensures
-    (c.in-Ok.ensures.rounds i before monitor there)
+returns-in-Ok-clause-rounds g c some =
+    subst (λ (kind : Kind). HaveMonitored (kind_spec kind) c.args.script.now c.args.bench.now
+    (locals_on c.monitor_over.new.bench)) c.kind.ensures c.in-Ok.ensures.rounds
 
 pub returns-in-Ok-clause-ends : goal.returns-in-Ok-clause-ends
 returns-in-Ok-clause-ends g c =

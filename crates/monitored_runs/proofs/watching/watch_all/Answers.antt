@@ -78,14 +78,6 @@ returns-in_err-lines-clause-monitors g c =
     c.end_all.ensures.others _ _ c.callers-callers.result c.callers-callers.ensures.count
     watched.one watched.other
 
-pub returns-then-one-clause-monitors : goal.returns-then-one-clause-monitors
-returns-then-one-clause-monitors g c =
-    let watched = c.watch_in-one.ensures in
-    monitors_back _ _ _ c.args.script.now _ _ c.args.bench.now c.start_all.new.bench
-    c.watch_in-one.new.bench c.end_all.new.bench c.requires.begins c.start_all.ensures.others
-    c.end_all.ensures.others _ _ c.callers-callers.result c.callers-callers.ensures.count
-    watched.one watched.other
-
 pub returns-clause-monitors : goal.returns-clause-monitors
 returns-clause-monitors g c =
     let watched = c.watch_in-one.ensures in
@@ -103,7 +95,7 @@ returns-clause-one g c l here =
     c.args.bench.now c.start_all.new.bench c.watch_in-one.new.bench c.end_all.new.bench
     c.start_all.ensures.others c.end_all.ensures.others c.watch_in-one.result.0 n
     c.callers-callers.result (omega (arith, count))
-    (omega arith) c.watch_in-one.ensures.one c.if-one.false l here
+    (omega arith) c.watch_in-one.ensures.one l here
 
 pub returns-clause-other : goal.returns-clause-other
 returns-clause-other g c l here =
@@ -114,4 +106,4 @@ returns-clause-other g c l here =
     c.args.bench.now c.start_all.new.bench c.watch_in-one.new.bench c.end_all.new.bench
     c.start_all.ensures.others c.end_all.ensures.others c.watch_in-one.result.1 (n + 1)
     (c.callers-callers.result + 1) (omega (arith, count))
-    (omega arith) c.watch_in-one.ensures.other c.if-other.false l here
+    (omega arith) c.watch_in-one.ensures.other l here
