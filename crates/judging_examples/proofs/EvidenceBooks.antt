@@ -1,10 +1,19 @@
 -- The books of the cases of evidence are valid.
-use Rattle.std.proofs.Common.{◌≡◌, ℕ, zero, suc, ◌+◌, ◌≤◌, List, [], ◌∷◌, length, get_or, Some, refl, subst, inl, inr, arith}
+use Rattle.std.proofs.Common.{◌≡◌, ℕ, zero, suc, ◌+◌, ◌<◌, ◌≤◌, List, [], ◌∷◌, length, get_or, Some, IsSomeAnd, refl, sym, subst, inl, inr, arith}
 use Rattle.std.proofs.lemmas.Option.{same_Some, none-some}
 use Rattle.book_base.specs.declared.call.Record.{Record}
 use Rattle.book_base.specs.Cut.{IsWithin, AreComparable}
-use Rattle.book_base.specs.Book.{calls_of, answers_of, record_of, IsValid}
-use Rattle.judging_examples.specs.EvidenceBooks.{three_increments, misread}
+use Rattle.book_base.specs.Book.{Page, calls_of, answers_of, operation_of, record_of, IsValid}
+use Rattle.book_base.specs.Pruning.{HasOneOpen}
+use Rattle.seq_objects.specs.declared.kind.Kind.TheVariants as kinds
+use Rattle.seq_objects.specs.Words.{is_known_word, entry_of, entries}
+use Rattle.seq_objects.specs.Objects.{kind_next}
+use Rattle.smaller_book.specs.Part.{numbers_of, original, count_below, AreRising, IsRenumbered, IsPart, KeepsAnswers}
+use Rattle.smaller_book.specs.ReadOnly.{IsReadOnly}
+use Rattle.smaller_book.specs.Keys.{keys_from_to, all_without}
+use Rattle.smaller_book.proofs.LoneCalls.{first_call, CountItself, lone_caller, lone_view, lone_caller_is_valid}
+use Rattle.judging_examples.specs.Books.{answer}
+use Rattle.judging_examples.specs.EvidenceBooks.{three_increments, misread, needless_read, needless_put}
 
 -- What holds of the view of all three calls holds of the view of each record of
 -- `three_increments`.
@@ -90,3 +99,118 @@ misread_is_valid = record {
       (inr write_within) (inl (within_itself (1 ∷ 1 ∷ []))))
       a.caller a.number r x b.caller b.number s y;
 }
+
+-- ---- books of one caller with two calls
+
+-- The first and the second record of a caller, with these replies.
+abbrev pub first_record : ℕ → Record
+first_record reply = answer reply (1 ∷ [])
+
+abbrev pub second_record : ℕ → Record
+second_record reply = answer reply (2 ∷ [])
+
+pub two_count_themselves : (a b : ℕ) → CountItself (first_record a ∷ second_record b ∷ [])
+two_count_themselves a b zero r e =
+    subst (λ (s : Record). s.view ≡ 1 ∷ []) (same_Some (first_record a) r e) refl
+two_count_themselves a b (suc zero) r e =
+    subst (λ (s : Record). s.view ≡ 2 ∷ []) (same_Some (second_record b) r e) refl
+two_count_themselves a b (suc (suc k)) r e = absurd (none-some r e)
+
+-- The book of one caller with two answered calls.
+abbrev pub two_calls : ℕ → ℕ → ℕ → ℕ → List Page
+two_calls v w a b = lone_caller (v ∷ w ∷ []) (first_record a ∷ second_record b ∷ [])
+
+few_open : (v w a b k i : ℕ) → k < 2 → get_or ((k + 1) ∷ []) i 0 ≤ answers_of (two_calls v w a b) i + 1
+few_open v w a b k zero less = omega (arith, less)
+few_open v w a b k (suc i) less = omega arith
+
+pub two_have_one_open : (v w a b : ℕ) → HasOneOpen (two_calls v w a b)
+two_have_one_open v w a b call r i known =
+    let it = lone_view (v ∷ w ∷ []) (first_record a ∷ second_record b ∷ [])
+    (two_count_themselves a b) call.caller call.number r known in
+    subst (λ (view : List ℕ). get_or view i 0 ≤ answers_of (two_calls v w a b) i + 1) (sym it.1)
+    (few_open v w a b call.number i it.2)
+
+-- The second call of such a book alone.
+abbrev pub later_call : ℕ → ℕ → List Page
+later_call w b = lone_caller (w ∷ []) (first_record b ∷ [])
+
+one_counts_itself : (b : ℕ) → CountItself (first_record b ∷ [])
+one_counts_itself b zero r e =
+    subst (λ (s : Record). s.view ≡ 1 ∷ []) (same_Some (first_record b) r e) refl
+one_counts_itself b (suc k) r e = absurd (none-some r e)
+
+pub two_are_valid : (v w a b : ℕ) → IsValid (two_calls v w a b)
+two_are_valid v w a b = lone_caller_is_valid (v ∷ w ∷ []) (first_record a ∷ second_record b ∷ [])
+    (omega arith) (two_count_themselves a b)
+
+pub later_is_valid : (w b : ℕ) → IsValid (later_call w b)
+later_is_valid w b =
+    lone_caller_is_valid (w ∷ []) (first_record b ∷ []) (omega arith) (one_counts_itself b)
+
+-- The list of numbers that has the second call alone.
+abbrev pub second_alone : List (List ℕ)
+second_alone = (1 ∷ []) ∷ []
+
+later_calls : (w b i : ℕ) → calls_of (later_call w b) i ≡ length (numbers_of second_alone i)
+later_calls w b zero = refl
+later_calls w b (suc i) = refl
+
+later_rises : (i : ℕ) → AreRising (numbers_of second_alone i)
+later_rises zero j k less room = absurd (omega (arith, less, room))
+later_rises (suc i) j k less room = absurd (omega (arith, room))
+
+later_operations : (v w a b i k : ℕ) → k < calls_of (later_call w b) i
+    → operation_of (later_call w b) (record { caller = i; number = k })
+    ≡ operation_of (two_calls v w a b) (original second_alone (record { caller = i; number = k }))
+later_operations v w a b zero zero less = refl
+later_operations v w a b zero (suc k) less = absurd (omega (arith, less))
+later_operations v w a b (suc i) k less = absurd (omega (arith, less))
+
+later_answers : (w b i : ℕ) → answers_of (later_call w b) i ≤ calls_of (later_call w b) i
+later_answers w b zero = omega arith
+later_answers w b (suc i) = omega arith
+
+later_view : (i : ℕ) → get_or (1 ∷ []) i 0
+    ≡ count_below (numbers_of second_alone i) (get_or (2 ∷ []) i 0)
+later_view zero = refl
+later_view (suc i) = refl
+
+later_records : (v w a b i k : ℕ) (small : Record)
+    → record_of (later_call w b) (record { caller = i; number = k }) ≡ Some small
+    → IsSomeAnd (record_of (two_calls v w a b)
+    (original second_alone (record { caller = i; number = k })))
+    (λ whole. IsRenumbered second_alone whole small)
+later_records v w a b zero zero small e =
+    subst (IsRenumbered second_alone (second_record b)) (same_Some (first_record b) small e)
+    (record { reply = refl; view = later_view })
+later_records v w a b zero (suc k) small e = absurd (none-some small e)
+later_records v w a b (suc i) k small e = absurd (none-some small e)
+
+-- The second call alone is the part of the book that has it.
+pub later_is_part : (v w a b : ℕ) → IsPart (two_calls v w a b) second_alone (later_call w b)
+later_is_part v w a b = record {
+  callers = refl;
+  calls = later_calls w b;
+  rising = later_rises;
+  operations = λ call inside. later_operations v w a b call.caller call.number inside;
+  answers = later_answers w b;
+  records = λ call small e. later_records v w a b call.caller call.number small e;
+}
+
+later_answered : (w b i k : ℕ) → k < calls_of (later_call w b) i → k < answers_of (later_call w b) i
+later_answered w b zero k less = less
+later_answered w b (suc i) k less = less
+
+pub later_keeps_answers : (v w a b : ℕ)
+    → KeepsAnswers (two_calls v w a b) second_alone (later_call w b)
+later_keeps_answers v w a b call inside answered =
+    later_answered w b call.caller call.number inside
+
+pub read_leaves : IsReadOnly (kind_next kinds.Register) needless_read first_call
+unfolding kind_next
+read_leaves = λ list replied. refl
+
+pub take_stays : all_without kinds.Queue (keys_from_to 5 5) needless_put ≡ (1 ∷ []) ∷ []
+unfolding is_known_word entry_of entries
+take_stays = refl

@@ -3,3 +3,4 @@ pub mod SmallObjects
 pub mod BagBooks
 pub mod ClosedTables
 pub mod EvidenceBooks
+pub mod RuleBooks

@@ -82,3 +82,11 @@ needless_put =
     caller_page (operation enq 5 ∷ operation deq 0 ∷ [])
     (answer reply_done (1 ∷ []) ∷ answer (reply_value 6) (2 ∷ []) ∷ [])
     ∷ []
+
+-- The second read of `needless_read` alone.
+abbrev pub later_read : List Page
+later_read = caller_page (operation read 0 ∷ []) (answer (reply_value 6) (1 ∷ []) ∷ []) ∷ []
+
+-- The take of `needless_put` alone.
+abbrev pub later_take : List Page
+later_take = caller_page (operation deq 0 ∷ []) (answer (reply_value 6) (1 ∷ []) ∷ []) ∷ []

@@ -8,3 +8,5 @@ pub mod KeyedCalls
 pub mod Joins
 pub mod SmallerBooks
 pub mod EvidenceBooks
+pub mod RuleBooks
+pub mod Standings

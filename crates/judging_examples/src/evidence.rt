@@ -9,7 +9,7 @@ ghost use Rattle.smaller_book.specs.Minimal.{IsMinimal};
 ghost use Rattle.judging_examples.specs.EvidenceBooks.{three_increments, last_increment, two_zeros};
 ghost use Rattle.judging_examples.specs.EvidenceBooks.{misread, read_alone, read_beside_write};
 ghost use Rattle.judging_examples.specs.EvidenceBooks.{one_miscount, unanswered_increment, miscount_and_more, two_miscounts};
-ghost use Rattle.judging_examples.specs.EvidenceBooks.{needless_read, needless_put};
+ghost use Rattle.judging_examples.specs.EvidenceBooks.{needless_read, needless_put, later_read, later_take};
 
 /// Parts to which no steps lead from a book without a legal order: one lacks increments and one a
 /// write that the view of an answered call held, and one lacks an answer but not its call.
@@ -35,12 +35,24 @@ pub fn parts_by_a_cut()
     ensures read { IsEvidence kinds.Register misread ((0 ∷ []) ∷ (0 ∷ []) ∷ []) read_beside_write }
 {}
 
+/// Parts to which one step leads, without a read-only call or without the calls of a key.
+pub fn parts_by_fewer_calls()
+    // Of two reads, the second one alone is evidence.
+    ensures read { IsEvidence kinds.Register needless_read ((1 ∷ []) ∷ []) later_read }
+    // Of a put of 5 and a take of 6, the take alone is evidence.
+    ensures take { IsEvidence kinds.Queue needless_put ((1 ∷ []) ∷ []) later_take }
+    // The take has the number 1 in the book: with the number 0 it is no evidence.
+    ensures numbers { ¬ IsEvidence kinds.Queue needless_put ((0 ∷ []) ∷ []) later_take }
+{}
+
 /// Which books are earliest, which are minimal, and which aren't.
 pub fn minimal_books()
     // A lone wrong reply is minimal.
     ensures wrong_reply { IsMinimal kinds.Counter one_miscount }
-    // Of two wrong replies the first one alone has no legal order: the book isn't earliest.
-    ensures later_reply { ¬ IsEarliest (kind_spec kinds.Counter) two_miscounts }
+    // Of two wrong replies the first one alone has no legal order: the book is neither earliest nor
+    // minimal.
+    ensures later_reply { ¬ IsEarliest (kind_spec kinds.Counter) two_miscounts
+        × ¬ IsMinimal kinds.Counter two_miscounts }
     // A book with a call that no view holds isn't earliest.
     ensures unheld { ¬ IsEarliest (kind_spec kinds.Counter) miscount_and_more }
     // A book without whose first read it has no legal order either is earliest, and isn't minimal.

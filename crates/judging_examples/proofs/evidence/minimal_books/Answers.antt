@@ -1,13 +1,12 @@
-use Rattle.std.proofs.Common.{◌≡◌, ℕ, zero, suc, ◌+◌, ◌<◌, ◌≤◌, Bool, true, false, List, [], ◌∷◌, get_or, Some, None, refl, sym, ap, subst, inl, arith}
+use Rattle.std.proofs.Common.{◌≡◌, ℕ, zero, suc, ◌<◌, Bool, true, false, List, [], ◌∷◌, get_or, Some, None, refl, sym, ap, subst, inl, arith}
 use Rattle.std.specs.Prelude.{if◌then◌else◌}
 use Rattle.std.proofs.lemmas.Option.{same_Some, none-some}
 use Rattle.book_base.specs.declared.call.Call.{Call}
 use Rattle.book_base.specs.declared.call.Record.{Record}
 use Rattle.book_base.specs.SeqSpec.{SeqSpec}
 use Rattle.book_base.specs.Cut.{IsWithin}
-use Rattle.book_base.specs.Book.{calls_of, answers_of, answered, record_of}
+use Rattle.book_base.specs.Book.{calls_of, answered, record_of}
 use Rattle.book_base.specs.Order.{HasLegalOrder}
-use Rattle.book_base.specs.Pruning.{HasOneOpen}
 use Rattle.book_base.proofs.ViewLemmas.{same_call}
 use Rattle.judging_examples.specs.Books.{answer}
 use Rattle.seq_objects.specs.declared.kind.Kind.TheVariants as kinds
@@ -17,10 +16,11 @@ use Rattle.seq_objects.specs.Objects.{kind_next, kind_spec}
 use Rattle.judging_examples.specs.Runs.{operation}
 use Rattle.smaller_book.specs.ReadOnly.{IsReadOnly}
 use Rattle.smaller_book.specs.Earliest.{IsEarliest}
-use Rattle.smaller_book.specs.Keys.{key_of_call, keys_from_to, all_without}
+use Rattle.smaller_book.specs.Keys.{key_of_call}
 use Rattle.smaller_book.specs.Minimal.{HasOneWith, IsKeyNeeded}
 use Rattle.judging_examples.specs.EvidenceBooks.{one_miscount, two_miscounts, needless_read, needless_put}
 use Rattle.smaller_book.proofs.LoneCalls.{first_call, HasNoOther, CountItself, lone_caller, lone_view, lone_reply, empty_is_legal, lone_is_legal, lone_caller_is_earliest, lone_without_first}
+use Rattle.judging_examples.proofs.EvidenceBooks.{first_record, second_record, two_count_themselves, two_have_one_open, read_leaves, take_stays}
 use Rattle.judging_examples.proofs.evidence.minimal_books.Goals as goal
 
 -- ---- one wrong reply
@@ -98,9 +98,12 @@ first_of_two : IsWithin (1 ∷ []) (answered two_miscounts)
 first_of_two zero = omega arith
 first_of_two (suc i) = omega arith
 
-pub returns-clause-later_reply : goal.returns-clause-later_reply
-returns-clause-later_reply c early =
+two_are_late : ¬ IsEarliest (kind_spec kinds.Counter) two_miscounts
+two_are_late early =
     one_is_illegal (early.earlier (1 ∷ []) 0 first_of_two (omega arith) (inl (omega arith)))
+
+pub returns-clause-later_reply : goal.returns-clause-later_reply
+returns-clause-later_reply c = (two_are_late, λ minimal. two_are_late minimal.earliest)
 
 pub returns-clause-unheld : goal.returns-clause-unheld
 returns-clause-unheld c early =
@@ -110,20 +113,6 @@ returns-clause-unheld c early =
     omega (arith, held.3, ap (λ (v : List ℕ). get_or v 0 0) it.1, it.2)
 
 -- ---- a read and a put that aren't needed
-
--- The first and the second record of a caller, with these replies.
-abbrev first_record : ℕ → Record
-first_record reply = answer reply (1 ∷ [])
-
-abbrev second_record : ℕ → Record
-second_record reply = answer reply (2 ∷ [])
-
-two_count_themselves : (a b : ℕ) → CountItself (first_record a ∷ second_record b ∷ [])
-two_count_themselves a b zero r e =
-    subst (λ (s : Record). s.view ≡ 1 ∷ []) (same_Some (first_record a) r e) refl
-two_count_themselves a b (suc zero) r e =
-    subst (λ (s : Record). s.view ≡ 2 ∷ []) (same_Some (second_record b) r e) refl
-two_count_themselves a b (suc (suc k)) r e = absurd (none-some r e)
 
 held_by_second : (v w : ℕ) (records : List Record) (i k : ℕ)
     → k < calls_of (lone_caller (v ∷ w ∷ []) records) i → k < get_or (2 ∷ []) i 0
@@ -157,10 +146,6 @@ read_replies : (kind_next kinds.Register (0 ∷ []) (operation read 0)).1 ≡ re
 unfolding kind_next
 read_replies = refl
 
-read_leaves : IsReadOnly (kind_next kinds.Register) needless_read first_call
-unfolding kind_next
-read_leaves = λ list replied. refl
-
 six_is_unread : (kind_next kinds.Register (0 ∷ []) (operation read 0)).1 ≡ reply_value 6 → ⊥
 unfolding kind_next
 six_is_unread same = omega (arith, same)
@@ -181,25 +166,9 @@ six_is_untaken : (kind_next kinds.Queue [] (operation deq 0)).1 ≡ reply_value 
 unfolding kind_next
 six_is_untaken same = omega (arith, same)
 
-few_open : (k i : ℕ) → k < 2 → get_or ((k + 1) ∷ []) i 0 ≤ answers_of needless_put i + 1
-few_open k zero less = omega (arith, less)
-few_open k (suc i) less = omega arith
-
-put_has_one_open : HasOneOpen needless_put
-put_has_one_open call r i known =
-    let it = lone_view (operation enq 5 ∷ operation deq 0 ∷ [])
-    (first_record reply_done ∷ second_record (reply_value 6) ∷ [])
-    (two_count_themselves reply_done (reply_value 6)) call.caller call.number r known in
-    subst (λ (v : List ℕ). get_or v i 0 ≤ answers_of needless_put i + 1) (sym it.1)
-    (few_open call.number i it.2)
-
 put_has_key : key_of_call kinds.Queue needless_put first_call ≡ Some 5
 unfolding is_known_word entry_of entries
 put_has_key = refl
-
-take_stays : all_without kinds.Queue (keys_from_to 5 5) needless_put ≡ (1 ∷ []) ∷ []
-unfolding is_known_word entry_of entries
-take_stays = refl
 
 pub returns-clause-needless_put : goal.returns-clause-needless_put
 returns-clause-needless_put c = (
@@ -207,7 +176,8 @@ returns-clause-needless_put c = (
       (reply_value 6) put_replies,
   λ minimal.
       let needed : IsKeyNeeded kinds.Queue needless_put 5 =
-      minimal.keys put_has_one_open first_call 5 (omega arith) put_has_key in
+      minimal.keys (two_have_one_open (operation enq 5) (operation deq 0)
+      reply_done (reply_value 6)) first_call 5 (omega arith) put_has_key in
       six_is_untaken (lone_without_first kinds.Queue needless_put (second_record (reply_value 6))
       refl (subst (HasOneWith kinds.Queue needless_put) take_stays needed)),
 )
