@@ -190,7 +190,11 @@ def _clock():
 
 
 class Recorder:
-    """Records the calls that up to 16 threads make to one object of a kind, which is at first as its kind is."""
+    """Records the calls that up to 16 threads make to one object of a kind, which is at first as its kind is.
+
+    A reply of a form that the kind never gives to the operation, such as a value to a put of a queue, is found before
+    an order is looked for, and makes the book illegal, whatever the other calls are.
+    """
 
     def __init__(self, kind):
         if kind not in _KINDS:

@@ -18,8 +18,8 @@ pub const MAX_CALLS: usize = 256;
 /// The object is to be as its kind is at first. One that isn't is filled before: by calls of a caller that is
 /// dropped before the threads start, with closures that do nothing.
 ///
-/// A reply of a form that the kind never gives to the operation, such as `None` to a read of a register, makes the
-/// book illegal at once, whatever the other calls are.
+/// A reply of a form that the kind never gives to the operation, such as `None` to a read of a register, is found
+/// before an order is looked for, and makes the book illegal, whatever the other calls are.
 #[derive(Debug)]
 pub struct Recorder<K: Kind> {
     shared: Arc<Shared<K>>,
