@@ -11,4 +11,6 @@ pub mod Writes
 pub mod Codes
 pub mod KeyedObjects
 pub mod Keys
+pub mod Replied
+pub mod Replies
 pub mod Refuting

@@ -24,6 +24,7 @@ use Rattle.broken_rules.specs.declared.rule.Rule.{Rule}
 use Rattle.broken_rules.specs.declared.rule.Rule.TheVariants as named
 use Rattle.broken_rules.specs.Deeds.{is_keyed, reading_of, deal_by_key, did, value_by, is_put, is_take, is_nothing}
 use Rattle.broken_rules.specs.Rules.{holds_values, is_queue, is_stack, is_pqueue, is_counter, is_register, Breaks, WhatBreaksIsIllegal}
+use Rattle.broken_rules.proofs.Replies.{never_replied}
 use Rattle.broken_rules.proofs.Acts.{put_of, take_is, nothing_is}
 use Rattle.broken_rules.proofs.Holding.{taken_unput, taken_twice, found_nothing}
 use Rattle.broken_rules.proofs.Queues.{passed_over}
@@ -122,6 +123,8 @@ module _ (book : List Page) (small : IsSmall book) (first second : Call) where
   refuted : (rule : Rule) (kind : Kind)
       → Breaks kind book (record { rule = rule; first = first; second = second })
       → ¬ HasLegalOrder (kind_spec kind) book
+  refuted named.NeverReplied kind breaks =
+      never_replied kind book first breaks.first breaks.related.1
   refuted named.TakenUnput kind breaks =
       let holds = containers kind breaks.kept in
       let read = did_by_reading kind book breaks.kept in

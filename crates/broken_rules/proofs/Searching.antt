@@ -51,23 +51,25 @@ with_rule kind book broken rule same breaks =
 
 -- each rule is among those that are tried
 pub all_listed : (rule : Rule) → (k : ℕ) × (slice_get all_rules k ≡ Some rule)
-all_listed named.TakenUnput = (0, refl)
-all_listed named.CountedUnseen = (1, refl)
-all_listed named.ReadUnwritten = (2, refl)
-all_listed named.FoundUnput = (3, refl)
-all_listed named.TakenTwice = (4, refl)
-all_listed named.PassedOver = (5, refl)
-all_listed named.TakenFromUnder = (6, refl)
-all_listed named.LesserLeft = (7, refl)
-all_listed named.FoundNothing = (8, refl)
-all_listed named.CountedTwice = (9, refl)
-all_listed named.CountedDown = (10, refl)
-all_listed named.ReadOverwritten = (11, refl)
+all_listed named.NeverReplied = (0, refl)
+all_listed named.TakenUnput = (1, refl)
+all_listed named.CountedUnseen = (2, refl)
+all_listed named.ReadUnwritten = (3, refl)
+all_listed named.FoundUnput = (4, refl)
+all_listed named.TakenTwice = (5, refl)
+all_listed named.PassedOver = (6, refl)
+all_listed named.TakenFromUnder = (7, refl)
+all_listed named.LesserLeft = (8, refl)
+all_listed named.FoundNothing = (9, refl)
+all_listed named.CountedTwice = (10, refl)
+all_listed named.CountedDown = (11, refl)
+all_listed named.ReadOverwritten = (12, refl)
 
 -- the two calls that break a rule of one call are the same call
 pub of_one_call : (rule : Rule) (kind : Kind) (book : List Page) (first second : Call)
     → is_of_one_call rule ≡ true → Related kind book (relation_of rule) first second
     → first ≡ second
+of_one_call named.NeverReplied kind book first second is related = related.0
 of_one_call named.TakenUnput kind book first second is related = related
 of_one_call named.CountedUnseen kind book first second is related = related.0
 of_one_call named.ReadUnwritten kind book first second is related = related

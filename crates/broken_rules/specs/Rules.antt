@@ -1,12 +1,13 @@
 -- The rules that objects keep, and how two calls of a book break them.
-use Rattle.std.specs.Prelude.{◌≡◌, ◌≢◌, ℕ, ◌≤◌, ◌==◌, ◌&&◌, nat_lt, not, Bool, true, false, List, [], ◌∷◌, sum, IsSomeAnd}
+use Rattle.std.specs.Prelude.{◌≡◌, ◌≢◌, ℕ, ◌≤◌, ◌==◌, ◌&&◌, nat_lt, not, Bool, true, false, List, [], ◌∷◌, sum, IsSomeAnd, unwrap_or}
 use Rattle.book_base.specs.declared.call.Call.{Call}
-use Rattle.book_base.specs.Book.{Page, record_of, IsCall, IsSmall, Precedes}
+use Rattle.book_base.specs.Book.{Page, operation_of, record_of, IsCall, IsSmall, Precedes}
 use Rattle.book_base.specs.Order.{HasLegalOrder}
+use Rattle.book_base.specs.Reaching.{MayReply}
 use Rattle.container_pruning.specs.declared.deal.Deal.{Deal}
 use Rattle.seq_objects.specs.declared.kind.Kind.{Kind}
 use Rattle.seq_objects.specs.declared.kind.Kind.TheVariants as kinds
-use Rattle.seq_objects.specs.Objects.{kind_spec}
+use Rattle.seq_objects.specs.Objects.{kind_next, kind_spec}
 use Rattle.broken_rules.specs.declared.demand.Demand.{Demand}
 use Rattle.broken_rules.specs.declared.demand.Demand.TheVariants as demands
 use Rattle.broken_rules.specs.declared.rule.Relation.{Relation}
@@ -51,6 +52,7 @@ is_register _ = false
 
 -- Whether the objects of a kind keep a rule.
 abbrev pub keeps : Kind → Rule → Bool
+keeps kind rules.NeverReplied = true
 keeps kind rules.TakenUnput = holds_values kind
 keeps kind rules.TakenTwice = holds_values kind
 keeps kind rules.FoundNothing = holds_values kind
@@ -66,6 +68,8 @@ keeps kind rules.FoundUnput = is_keyed kind
 
 -- Whether two calls whose deals are `first` and `second` may break a rule.
 abbrev pub fits : Rule → Deal → Deal → Bool
+-- the two calls may have done anything
+fits rules.NeverReplied first second = true
 -- the first call takes a value
 fits rules.TakenUnput first second = is_take first
 -- the second call takes the value that the first one puts in
@@ -96,6 +100,7 @@ fits rules.FoundUnput first second = is_take first
 
 -- Whether a rule is broken by one call, which then stands as both of its calls.
 abbrev pub is_of_one_call : Rule → Bool
+is_of_one_call rules.NeverReplied = true
 is_of_one_call rules.TakenUnput = true
 is_of_one_call rules.CountedUnseen = true
 is_of_one_call rules.ReadUnwritten = true
@@ -123,6 +128,7 @@ takes_demand _ = demands.Nothing
 
 -- How two calls that break a rule are related.
 abbrev pub relation_of : Rule → Relation
+relation_of rules.NeverReplied = relations.NeverReplied
 relation_of rules.TakenUnput = relations.Same
 relation_of rules.TakenTwice = relations.TakenByAnother
 relation_of rules.FoundNothing = relations.Before
@@ -140,10 +146,18 @@ relation_of rules.FoundUnput = relations.Same
 abbrev pub SeesAtMost : List Page → Call → ℕ → Type 0
 SeesAtMost book call most = IsSomeAnd (record_of book call) (λ r. sum r.view ≤ most)
 
+-- A call is answered, and the object gives its reply to its operation at no list.
+abbrev pub HasImpossibleReply : Kind → List Page → Call → Type 0
+HasImpossibleReply kind book call = IsSomeAnd (record_of book call)
+    (λ r. ¬ MayReply (kind_next kind) (unwrap_or (operation_of book call) 0) r.reply)
+
 -- Two calls of a book are related as a relation of rules says.
 abbrev pub Related : Kind → List Page → Relation → Call → Call → Type 0
 -- the two calls are the same call
 Related kind book relations.Same first second = first ≡ second
+-- the two calls are the same call, whose reply the object gives to its operation at no list
+Related kind book relations.NeverReplied first second =
+    (first ≡ second) × HasImpossibleReply kind book first
 -- the two calls are the same call, whose view holds no more calls than the count that it replies
 Related kind book relations.Unseen first second =
     (first ≡ second) × SeesAtMost book first (value_at kind book first)
@@ -182,6 +196,7 @@ WhatBreaksIsIllegal = (kind : Kind) (book : List Page) (broken : BrokenRule) →
 -- All rules, in the order in which they are tried.
 abbrev pub all_rules : List Rule
 all_rules =
-    rules.TakenUnput ∷ rules.CountedUnseen ∷ rules.ReadUnwritten ∷ rules.FoundUnput
-    ∷ rules.TakenTwice ∷ rules.PassedOver ∷ rules.TakenFromUnder ∷ rules.LesserLeft
-    ∷ rules.FoundNothing ∷ rules.CountedTwice ∷ rules.CountedDown ∷ rules.ReadOverwritten ∷ []
+    rules.NeverReplied ∷ rules.TakenUnput ∷ rules.CountedUnseen ∷ rules.ReadUnwritten
+    ∷ rules.FoundUnput ∷ rules.TakenTwice ∷ rules.PassedOver ∷ rules.TakenFromUnder
+    ∷ rules.LesserLeft ∷ rules.FoundNothing ∷ rules.CountedTwice ∷ rules.CountedDown
+    ∷ rules.ReadOverwritten ∷ []

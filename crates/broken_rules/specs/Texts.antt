@@ -12,6 +12,10 @@ use Rattle.broken_rules.specs.Deeds.{value_at}
 abbrev pub call_text : Call → List ℕ
 call_text call = codes "call " ++ decimal call.caller ++ codes " " ++ decimal call.number
 
+-- the text of what is said of one call
+abbrev pub plain_text : Call → List ℕ → List ℕ
+plain_text first end = call_text first ++ end
+
 -- the text of what one call did with a value, and what is said of that
 abbrev pub one_text : Call → List ℕ → ℕ → List ℕ → List ℕ
 one_text first deed value end = call_text first ++ deed ++ decimal value ++ end
@@ -29,6 +33,8 @@ both_text first deed value middle second verb other end =
 -- the line that says that two calls, with a value each, break a rule; of a rule of one call it
 -- names the first call alone
 unfoldable pub rule_text : Rule → Call → ℕ → Call → ℕ → List ℕ
+rule_text rules.NeverReplied first value second other =
+    plain_text first (codes " has a reply that the object never gives to its operation\n")
 rule_text rules.TakenUnput first value second other =
     one_text first (codes " took ") value (codes ", which no call had put in before\n")
 rule_text rules.TakenTwice first value second other =

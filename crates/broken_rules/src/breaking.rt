@@ -3,12 +3,12 @@
 ghost use Rattle.std.specs.Prelude.{◌≡◌, ◌≤◌, ◌↔◌, sum, IsTrue};
 ghost use Rattle.book_base.specs.Book.{IsCall};
 ghost use Rattle.broken_rules.specs.Deeds.{value_at};
-ghost use Rattle.broken_rules.specs.Rules.{SeesAtMost, Related, Breaks};
+ghost use Rattle.broken_rules.specs.Rules.{HasImpossibleReply, SeesAtMost, Related, Breaks};
 
 use crate::act::act_of;
 use crate::demand::{Demand, all_meet, is_same};
 use crate::rule::{BrokenRule, Relation};
-use book_base::{Book, Call, Cut};
+use book_base::{Book, Call, Cut, SeqObject};
 use seq_objects::Kind;
 
 /// Whether a book breaks the rule of `broken` by the two calls of `broken`.
@@ -43,11 +43,37 @@ fn are_related(kind: Kind, book: &Book, relation: Relation, first: Call, second:
 {
     match relation {
         Relation::Same => is_same(first, second),
+        Relation::NeverReplied => is_never_replied(kind, book, first, second),
         Relation::Unseen => is_unseen(kind, book, first, second),
         Relation::Apart => !is_same(first, second),
         Relation::Before => book.precedes(first, second),
         Relation::TakenByAnother => !all_meet(kind, book, Demand::OnlyTake, first, second),
         Relation::Any => true,
+    }
+}
+
+// Whether two calls are the same call, whose reply the object gives to its operation at no list.
+fn is_never_replied(kind: Kind, book: &Book, first: Call, second: Call) -> bool
+    requires first { IsCall book.now first }
+    requires second { IsCall book.now second }
+    ensures { IsTrue result ↔ ((first ≡ second) × HasImpossibleReply kind book.now first) }
+{
+    if is_same(first, second) {
+        has_impossible_reply(kind, book, first)
+    } else {
+        false
+    }
+}
+
+// Whether a call is answered, and the object gives its reply to its operation at no list.
+fn has_impossible_reply(kind: Kind, book: &Book, call: Call) -> bool
+    requires { IsCall book.now call }
+    ensures { IsTrue result ↔ HasImpossibleReply kind book.now call }
+{
+    if call.number < book.answers(call.caller) {
+        !kind.may_reply(book.op(call), book.reply(call))
+    } else {
+        false
     }
 }
 

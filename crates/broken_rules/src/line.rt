@@ -3,7 +3,7 @@
 ghost use Rattle.std.specs.Prelude.{◌≡◌, ℕ, ◌++◌, IfOk, OnOk};
 ghost use Rattle.book_base.specs.Book.{IsCall};
 ghost use Rattle.broken_rules.specs.Deeds.{value_at};
-ghost use Rattle.broken_rules.specs.Texts.{call_text, one_text, two_text, both_text, rule_text, broken_text};
+ghost use Rattle.broken_rules.specs.Texts.{call_text, plain_text, one_text, two_text, both_text, rule_text, broken_text};
 
 use crate::act::act_of;
 use crate::rule::{BrokenRule, Rule};
@@ -42,6 +42,11 @@ fn put_rule(out: &mut Vec<u8>, broken: BrokenRule, value: u64, other: u64) -> Re
     let first = broken.first;
     let second = broken.second;
     match broken.rule {
+        Rule::NeverReplied => put_plain(
+            out,
+            first,
+            b" has a reply that the object never gives to its operation\n",
+        ),
         Rule::TakenUnput => put_one(
             out,
             first,
@@ -153,6 +158,15 @@ fn put_rule(out: &mut Vec<u8>, broken: BrokenRule, value: u64, other: u64) -> Re
             b", which no call had put in before\n",
         ),
     }
+}
+
+// Appends what is said of one call.
+fn put_plain(out: &mut Vec<u8>, first: Call, end: &[u8]) -> Result<(), NoMemory>
+    ensures { OnOk result (out.new.items ≡ out.old.items ++ plain_text first end.now) }
+{
+    put_call(out, first)?;
+    out.extend_from_slice(end)?;
+    Ok(())
 }
 
 // Appends what one call did with a value, and what is said of that.

@@ -13,6 +13,9 @@ use seq_objects::Kind;
 /// stands as both.
 #[derive(Clone, Copy, Debug, PartialEq, Eq)]
 pub enum Rule {
+    /// A reply is one that the object may give: the first call has a reply that the object gives to
+    /// its operation at no list.
+    NeverReplied,
     /// What is taken was put in before: the first call takes a value, and each put of this value
     /// comes after the first call.
     TakenUnput,
@@ -66,6 +69,8 @@ pub struct BrokenRule {
 pub(crate) enum Relation {
     /// The two are the same call.
     Same,
+    /// The two are the same call, whose reply the object gives to its operation at no list.
+    NeverReplied,
     /// The two are the same call, whose view holds no more calls than the count that it replies.
     Unseen,
     /// The two are different calls.
@@ -84,6 +89,7 @@ impl Rule {
         ensures { result ≡ rules.keeps kind self }
     {
         match self {
+            Rule::NeverReplied => true,
             Rule::TakenUnput => holds_values(kind),
             Rule::TakenTwice => holds_values(kind),
             Rule::FoundNothing => holds_values(kind),
@@ -104,6 +110,7 @@ impl Rule {
         ensures { result ≡ rules.fits self (deal_of_act first) (deal_of_act second) }
     {
         match self {
+            Rule::NeverReplied => true,
             Rule::TakenUnput => first.is_take(),
             Rule::TakenTwice => {
                 first.is_put() && second.is_take() && first.value() == second.value()
@@ -133,7 +140,11 @@ impl Rule {
     {
         matches!(
             self,
-            Rule::TakenUnput | Rule::CountedUnseen | Rule::ReadUnwritten | Rule::FoundUnput
+            Rule::NeverReplied
+                | Rule::TakenUnput
+                | Rule::CountedUnseen
+                | Rule::ReadUnwritten
+                | Rule::FoundUnput
         )
     }
 
@@ -146,7 +157,8 @@ impl Rule {
             Rule::TakenTwice => Demand::OnlyPut,
             Rule::PassedOver => Demand::OtherPutsFollow,
             Rule::TakenFromUnder | Rule::ReadOverwritten => Demand::OtherPutsOutside,
-            Rule::FoundNothing
+            Rule::NeverReplied
+            | Rule::FoundNothing
             | Rule::LesserLeft
             | Rule::CountedUnseen
             | Rule::CountedTwice
@@ -162,7 +174,8 @@ impl Rule {
             Rule::FoundNothing | Rule::PassedOver | Rule::TakenFromUnder | Rule::LesserLeft => {
                 Demand::TakesFollow
             }
-            Rule::TakenUnput
+            Rule::NeverReplied
+            | Rule::TakenUnput
             | Rule::TakenTwice
             | Rule::CountedUnseen
             | Rule::CountedTwice
@@ -178,6 +191,7 @@ impl Rule {
         ensures { result ≡ rules.relation_of self }
     {
         match self {
+            Rule::NeverReplied => Relation::NeverReplied,
             Rule::TakenUnput | Rule::ReadUnwritten | Rule::FoundUnput => Relation::Same,
             Rule::TakenTwice => Relation::TakenByAnother,
             Rule::PassedOver => Relation::Any,

@@ -15,7 +15,8 @@ use book_base::{Book, Call};
 use seq_objects::Kind;
 
 /// The rules, in the order in which they are tried.
-const RULES: [Rule; 12] = [
+const RULES: [Rule; 13] = [
+    Rule::NeverReplied,
     Rule::TakenUnput,
     Rule::CountedUnseen,
     Rule::ReadUnwritten,

@@ -9,6 +9,11 @@ returns-in-Same c =
     subst (λ (r : Relation). IsTrue c.is_same.result ↔ Related c.args.kind c.args.book.now r
     c.args.first c.args.second) (sym c.in-Same.is) c.is_same.ensures
 
+pub returns-in-NeverReplied : goal.returns-in-NeverReplied
+returns-in-NeverReplied c =
+    subst (λ (r : Relation). IsTrue c.is_never_replied.result ↔ Related c.args.kind c.args.book.now
+    r c.args.first c.args.second) (sym c.in-NeverReplied.is) c.is_never_replied.ensures
+
 pub returns-in-Unseen : goal.returns-in-Unseen
 returns-in-Unseen c =
     subst (λ (r : Relation). IsTrue c.is_unseen.result ↔ Related c.args.kind c.args.book.now r

@@ -1,4 +1,4 @@
-use Rattle.std.proofs.Common.{◌≡◌, ℕ, ◌∙◌, sym, ap, subst}
+use Rattle.std.proofs.Common.{◌≡◌, ◌∙◌, sym, ap, subst}
 use Rattle.std.proofs.lemmas.Bool.{false≢true, iff_false}
 use Rattle.broken_rules.specs.Deeds.{value_by, value_at}
 use Rattle.broken_rules.specs.Rules.{SeesAtMost}

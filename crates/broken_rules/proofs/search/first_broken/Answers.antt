@@ -20,12 +20,12 @@ loop-rule-preserved c k broken below listed breaks =
     let book = c.args.book.now in
     let rules = c.args.rules.now in
     let index = c.loop-rule.rule-index in
-    let here : Rule = get_or rules index named.TakenUnput in
+    let here : Rule = get_or rules index named.NeverReplied in
     elim (cases_eq k index) [
       | inr other ↦ c.loop-rule.invariant k broken (omega (arith, below, other)) listed breaks
       | inl same ↦
           let at : slice_get rules index ≡ Some here =
-          slice_get-get_or rules index named.TakenUnput c.loop-rule-test.true in
+          slice_get-get_or rules index named.NeverReplied c.loop-rule-test.true in
           let rule : broken.rule ≡ here =
           same_Some broken.rule here (sym listed ∙ (ap (slice_get rules) same ∙ at)) in
           let P : Type 0 = (first second : Call)
