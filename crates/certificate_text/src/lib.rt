@@ -4,7 +4,6 @@
 
 mod book_lines;
 mod certificate;
-mod found;
 mod laws;
 mod place_line;
 mod places;
@@ -12,7 +11,6 @@ mod reader;
 mod writer;
 
 pub use certificate::Certificate;
-pub use found::has_accepted_order;
 pub use laws::{
     a_text_is_its_certificates_lines, first_faults_leave_texts, no_certificate_text_begins_another,
     no_fault_of_a_text, one_certificate_per_text, one_first_fault, one_text_per_certificate,

@@ -1,7 +1,8 @@
 //! Certificates of reports, and orders that are found and accepted.
 use book_text::read_book;
-use certificate_text::has_accepted_order;
+use frontier_check::{Verdict, check};
 use kind_search::SearchedKind;
+use order_check::check_order;
 use report_text::read_report;
 use run_writer::report_certificate;
 use std::alloc::Global;
@@ -42,17 +43,24 @@ fn what_was_delivered_is_certified(rt: HostRuntime) -> Result<(), Fail> {
     Ok(())
 }
 
+// Whether the search finds an order of the book with this text, and the test of orders accepts it.
+fn has_accepted_order(alloc: Global, text: &[u8]) -> Result<bool, Fail> {
+    let (kind, book) = read_book(alloc, text)?;
+    match check(alloc, &SearchedKind { kind }, &book)? {
+        Verdict::Legal(order) => Ok(check_order(alloc, &kind, &book, &order)?.is_ok()),
+        Verdict::Illegal => Ok(false),
+    }
+}
+
 #[test]
 fn an_order_that_is_found_is_accepted(rt: HostRuntime) -> Result<(), Fail> {
-    let (kind, book) = read_book(
+    assert!(rt; has_accepted_order(
         rt.alloc(),
         b"book 2\nobject queue\ncallers 2\ncalls 1 1\n0 0 enq 5 done view 0:1 1:1\n1 0 deq =5 view 0:1 1:1\nend\n",
-    )?;
-    assert!(rt; has_accepted_order(rt.alloc(), &SearchedKind { kind }, &book)?);
-    let (kind, book) = read_book(
+    )?);
+    assert!(rt; !has_accepted_order(
         rt.alloc(),
         b"book 2\nobject queue\ncallers 1\ncalls 1\n0 0 deq =1 view 0:1\nend\n",
-    )?;
-    assert!(rt; !has_accepted_order(rt.alloc(), &SearchedKind { kind }, &book)?);
+    )?);
     Ok(())
 }
