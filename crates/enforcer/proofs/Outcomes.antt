@@ -1,10 +1,12 @@
 -- What outcomes say of lines and of later outcomes.
-use Rattle.std.proofs.Common.{refl}
+use Rattle.std.proofs.Common.{refl, sym, subst, List}
+use Rattle.book_base.specs.Book.{Page}
+use Rattle.book_base.specs.Order.{HasLegalOrder}
 use Rattle.book_laws.proofs.BookAtLaws.{smaller_has_one}
 use Rattle.world_core.specs.Calls.{book_in}
 use Rattle.world_books.proofs.Validity.{books_are_valid}
 use Rattle.enforcer.specs.declared.outcome.Outcome.TheVariants.{Delivered, Illegal}
-use Rattle.enforcer.specs.Enforced.{OutcomesAreVerdicts, ErrorsAreFinal}
+use Rattle.enforcer.specs.Enforced.{OutcomesAreVerdicts, ErrorsAreFinal, IllegalOutcomesAreErrors, IllegalOutcomesAreEvidence}
 
 -- An outcome that is right by what its caller has peeked makes a right end of its call's line.
 pub outcomes_are_verdicts : OutcomesAreVerdicts
@@ -22,3 +24,18 @@ errors_are_final spec s locals lower
     (books_are_valid s locals together) within (order.items, legal)))
 errors_are_final spec s locals lower
     (Illegal reply view seen carried) together within none right = refl
+
+-- An illegal outcome is an error with what it carries.
+pub illegal_outcomes_are_errors : IllegalOutcomesAreErrors
+illegal_outcomes_are_errors reply view seen book standing = (
+  record { record_is = refl; cut_is = refl; illegal = refl; line = refl; halted = refl },
+  refl,
+)
+
+-- The book that an illegal outcome carries is that of all callers' calls at the seen cut.
+pub illegal_outcomes_are_evidence : IllegalOutcomesAreEvidence
+illegal_outcomes_are_evidence spec s i l locals reply view seen book right together mine =
+    let found = right locals together mine in (
+      found.0,
+      subst (λ (pages : List Page). ¬ HasLegalOrder spec pages) (sym found.0) found.1,
+    )

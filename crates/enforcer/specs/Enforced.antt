@@ -1,23 +1,29 @@
 -- What a whole call adds to its caller's progress and to the counter of steps, and what an outcome
 -- says of its call's line and of later outcomes.
-use Rattle.std.specs.Prelude.{◌≡◌, ◌≤◌, ◌+◌, ◌*◌, ℕ, true, List, Option, Result, Ok, Err}
+use Rattle.std.specs.Prelude.{◌≡◌, ◌≤◌, ◌+◌, ◌*◌, ℕ, true, false, List, Option, Some, Result, Ok, Err}
 use Rattle.book_base.specs.declared.call.Record.{Record}
 use Rattle.book_base.specs.SeqSpec.{SeqSpec}
+use Rattle.book_base.specs.Book.{Page}
 use Rattle.book_base.specs.Cut.{IsWithin}
 use Rattle.book_base.specs.BookAt.{book_at}
 use Rattle.book_base.specs.Order.{HasLegalOrder}
 use Rattle.world_core.specs.Shape.{Shape}
 use Rattle.world_core.specs.Local.{Local}
-use Rattle.world_core.specs.Calls.{AreTogether, book_in}
+use Rattle.world_core.specs.Calls.{AreTogether, book_in, local_at}
 use Rattle.report_lines.specs.Phases.{Progress}
 use Rattle.report_lines.specs.Progress.{after_announcing, after_viewing, after_publishing, after_seeing}
+use Rattle.report_lines.specs.declared.line.LineEnd.TheVariants.{Error}
 use Rattle.report_lines.specs.Workers.{IsJudgedBy}
+use Rattle.frontier_check.specs.declared.kept_order.KeptOrder.{KeptOrder}
 use Rattle.row_table.specs.declared.caller.Caller.{Caller}
 use Rattle.collect_scan.specs.Scanned.{most_words}
 use Rattle.row_gather.specs.declared.gathered.Gathered.{Gathered}
 use Rattle.enforcer.specs.declared.outcome.Outcome.{Outcome}
+use Rattle.enforcer.specs.declared.outcome.Outcome.TheVariants.{Illegal}
 use Rattle.enforcer.specs.declared.outcome.Unjudged.{Unjudged}
-use Rattle.enforcer.specs.Judged.{record_in, cut_in, end_of, is_illegal, IsRightFor, IsRightByPeeks}
+use Rattle.enforcer.specs.declared.judged.Judged.TheVariants as judged
+use Rattle.enforcer.specs.Judged.{record_in, cut_in, end_of, is_illegal, stance_after, IsRightFor, IsRightByPeeks, IsRightInWorlds}
+use Rattle.enforcer.specs.After.{outcome_of}
 use Rattle.enforcer.specs.Kept.{TicksForNewAfter}
 
 -- The progress of a caller after a whole call: it has one more call, with this operation, this
@@ -62,3 +68,33 @@ ErrorsAreFinal =
     → IsWithin lower (cut_in outcome) → ¬ HasLegalOrder spec (book_at lower (book_in locals))
     → IsRightFor spec (book_at (cut_in outcome) (book_in locals)) outcome
     → is_illegal outcome ≡ true
+
+-- The outcome is an error with this record and this seen cut: the line of its call ends with
+-- `Error` and with both, and its caller is halted.
+pub record IsErrorOf (r : Record) (cut : List ℕ) (outcome : Outcome) : Type 0 where
+  pub record_is : record_in outcome ≡ r
+  pub cut_is : cut_in outcome ≡ cut
+  pub illegal : is_illegal outcome ≡ true
+  pub line : end_of outcome ≡ Error r cut
+  pub halted : (stance_after outcome).live ≡ false
+
+-- An illegal outcome is an error with the record and the seen cut that it carries. An illegal
+-- judgement makes the illegal outcome with the same parts, whatever order is kept.
+abbrev pub IllegalOutcomesAreErrors : Type 0
+IllegalOutcomesAreErrors =
+    (reply : ℕ) (view seen : List ℕ) (book : List Page)
+    (standing : Option KeptOrder)
+    → IsErrorOf (record { reply = reply; view = view }) seen (Illegal reply view seen book)
+    × (outcome_of (judged.Illegal reply view seen book) standing
+    ≡ Some (Illegal reply view seen book))
+
+-- In a reachable world in which its caller has the local `l`, an illegal outcome that is right there
+-- carries the book at the seen cut, taken from the book of all callers' calls, and this book has no
+-- legal order.
+abbrev pub IllegalOutcomesAreEvidence : Type 0
+IllegalOutcomesAreEvidence =
+    (spec : SeqSpec) (s : Shape) (i : ℕ) (l : Local) (locals : List Local)
+    (reply : ℕ) (view seen : List ℕ) (book : List Page)
+    → IsRightInWorlds spec s i l (Illegal reply view seen book)
+    → AreTogether s locals → local_at locals i ≡ l
+    → (book ≡ book_at seen (book_in locals)) × ¬ HasLegalOrder spec book

@@ -54,13 +54,17 @@ fn has_accepted_order(alloc: Global, text: &[u8]) -> Result<bool, Fail> {
 
 #[test]
 fn an_order_that_is_found_is_accepted(rt: HostRuntime) -> Result<(), Fail> {
-    assert!(rt; has_accepted_order(
-        rt.alloc(),
-        b"book 2\nobject queue\ncallers 2\ncalls 1 1\n0 0 enq 5 done view 0:1 1:1\n1 0 deq =5 view 0:1 1:1\nend\n",
-    )?);
-    assert!(rt; !has_accepted_order(
-        rt.alloc(),
-        b"book 2\nobject queue\ncallers 1\ncalls 1\n0 0 deq =1 view 0:1\nend\n",
-    )?);
+    assert!(rt;
+        has_accepted_order(
+            rt.alloc(),
+            b"book 2\nobject queue\ncallers 2\ncalls 1 1\n0 0 enq 5 done view 0:1 1:1\n1 0 deq =5 view 0:1 1:1\nend\n",
+        )?
+    );
+    assert!(rt;
+        !has_accepted_order(
+            rt.alloc(),
+            b"book 2\nobject queue\ncallers 1\ncalls 1\n0 0 deq =1 view 0:1\nend\n",
+        )?
+    );
     Ok(())
 }
