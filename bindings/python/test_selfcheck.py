@@ -27,10 +27,10 @@ class Library(unittest.TestCase):
         script = "try:\n    import selfcheck\nexcept ImportError as error:\n    print(error)\n"
         nowhere = {**os.environ, "SELFCHECK_SO": "/nowhere/libselfcheck.so"}
         said = subprocess.check_output([sys.executable, "-c", script], env=nowhere, text=True)
-        cause, build, name = said.splitlines()
+        cause, ways = said.splitlines()
         self.assertIn("/nowhere/libselfcheck.so", cause)
-        self.assertIn("bindings/try", build)
-        self.assertIn("SELFCHECK_SO", name)
+        for way in "a release", "bindings/try", "SELFCHECK_LIB", "SELFCHECK_SO":
+            self.assertIn(way, ways)
 
 
 class Texts(unittest.TestCase):
