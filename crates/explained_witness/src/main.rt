@@ -2,15 +2,14 @@
 //! the book breaks.
 #![tactic(auto)]
 
-ghost use Rattle.explained_witness.specs.Output.{IsExplained, SaysNoneBroken};
 ghost use Rattle.given_book.specs.Given.{IsFirstGivenFault};
+ghost use Rattle.witness_texts.specs.Explaining.{IsExplained, SaysNoneBroken};
 
 use book_base::ReadFault;
-use broken_rules::{broken_line, broken_rule};
 use byte_streams::{ProgramAnswer, StdSink, StdSource, TextProgram, run_program};
-use given_book::read_given;
 use std::alloc::Global;
 use std::process::ExitCode;
+use witness_texts::{Explanation, explained_text};
 
 /// Answers, in one line, which rule of its kind the given book breaks, or that it breaks none.
 #[derive(Clone, Copy)]
@@ -24,10 +23,9 @@ impl TextProgram for Explainer {
     ghost is_fault = { λ _ bytes fault. IsFirstGivenFault bytes fault };
 
     fn answer(&self, alloc: Global, bytes: &[u8]) -> Result<ProgramAnswer, ReadFault> {
-        let (kind, book) = read_given(alloc, bytes)?;
-        match broken_rule(kind, &book) {
-            Some(broken) => Ok(ProgramAnswer::Found(broken_line(alloc, kind, &book, broken)?)),
-            None => Ok(ProgramAnswer::Fine(b"no rule of these is broken\n".to_vec(alloc)?)),
+        match explained_text(alloc, bytes)? {
+            Explanation::Broken(line) => Ok(ProgramAnswer::Found(line)),
+            Explanation::NoneBroken(line) => Ok(ProgramAnswer::Fine(line)),
         }
     }
 }

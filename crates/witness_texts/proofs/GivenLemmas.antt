@@ -12,6 +12,9 @@ use Rattle.book_text.proofs.Readings.{one_book, no_first_fault, one_first_fault}
 use Rattle.given_book.specs.Given.{IsGiven, IsFirstGivenFault, IsNotGiven}
 use Rattle.given_book.proofs.Parts.{told_by, stopped_by}
 use Rattle.smaller_book.proofs.Evidence.{evidence_tells}
+use Rattle.witness_texts.specs.declared.explained.Explanation.{Explanation}
+use Rattle.witness_texts.specs.declared.explained.Explanation.TheVariants.{Broken, NoneBroken}
+use Rattle.witness_texts.specs.Explaining.{IsExplanationOf}
 use Rattle.witness_texts.specs.Texts.{IsLegalGiven, IsIllegalGiven, IsSmallerWitness, IsPictureOf}
 
 -- bytes give one book, of one kind
@@ -101,15 +104,30 @@ pub first_of_smaller : (bytes : List ℕ) (result : Result (Option (Vec ℕ Glob
 first_of_smaller bytes result found refused =
     first_answer (IsShrinking bytes) bytes result found refused (shrinking_or_fault bytes)
 
--- ---- the answers of `picture_text`
+-- ---- the answers of `explained_text` and `picture_text`
 
-pub always_drawn : (bytes : List ℕ) (result : Result (String Global) ReadFault)
+-- bytes that give a book are not refused
+pub never_refused : {V : Type 0} (bytes : List ℕ) (result : Result V ReadFault)
     → IfErr result (IsNotGiven bytes) → (kind : Kind) (book : List Page) → IsGiven bytes kind book
     → IfErr result (λ e. e ≡ NoMemory)
-always_drawn bytes (Ok text) refused kind book given = tt
-always_drawn bytes (Err NoMemory) refused kind book given = refl
-always_drawn bytes (Err (Text fault)) refused kind book given =
+never_refused bytes (Ok text) refused kind book given = tt
+never_refused bytes (Err NoMemory) refused kind book given = refl
+never_refused bytes (Err (Text fault)) refused kind book given =
     absurd (given_or_fault bytes kind book fault given refused)
+
+explained_or_fault : (bytes : List ℕ) (explanation : Explanation) (fault : TextFault)
+    → IsExplanationOf bytes explanation → IsFirstGivenFault bytes fault → ⊥
+explained_or_fault bytes (Broken line) fault h first =
+    given_or_fault bytes h.kind h.book fault h.told first
+explained_or_fault bytes (NoneBroken line) fault h first =
+    given_or_fault bytes h.0.kind h.0.book fault h.0.told first
+
+pub first_of_explanation : (bytes : List ℕ) (result : Result Explanation ReadFault)
+    → IfOk result (IsExplanationOf bytes) → IfErr result (IsNotGiven bytes)
+    → (fault : TextFault) → IsFirstGivenFault bytes fault
+    → MatchResult result (λ _. ⊥) (λ e. (e ≡ Text fault) ⊎ (e ≡ NoMemory))
+first_of_explanation bytes result found refused =
+    first_answer (IsExplanationOf bytes) bytes result found refused (explained_or_fault bytes)
 
 pub first_of_picture : (bytes : List ℕ) (result : Result (String Global) ReadFault)
     → IfOk result (λ text. IsPictureOf bytes (string_bytes text)) → IfErr result (IsNotGiven bytes)

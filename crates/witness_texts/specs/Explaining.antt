@@ -1,4 +1,4 @@
--- What the program says of a book, by the rules that it breaks.
+-- What is said of the rules that a book breaks.
 use Rattle.std.specs.Prelude.{◌≡◌, ℕ, List, codes}
 use Rattle.book_base.specs.Book.{Page}
 use Rattle.book_base.specs.Order.{HasLegalOrder}
@@ -8,6 +8,8 @@ use Rattle.broken_rules.specs.Texts.{broken_text}
 use Rattle.given_book.specs.Given.{IsGiven}
 use Rattle.seq_objects.specs.declared.kind.Kind.{Kind}
 use Rattle.seq_objects.specs.Objects.{kind_spec}
+use Rattle.witness_texts.specs.declared.explained.Explanation.{Explanation}
+use Rattle.witness_texts.specs.declared.explained.Explanation.TheVariants.{Broken, NoneBroken}
 
 -- The bytes give a book that breaks none of the rules of its kind.
 pub record BreaksNone (bytes : List ℕ) : Type 0 where
@@ -30,3 +32,8 @@ pub record IsExplained (bytes text : List ℕ) : Type 0 where
 -- The bytes give a book that breaks none of the rules of its kind, and the text says so.
 abbrev pub SaysNoneBroken : List ℕ → List ℕ → Type 0
 SaysNoneBroken bytes text = BreaksNone bytes × (text ≡ codes "no rule of these is broken\n")
+
+-- Which explanations are right for the book that the bytes give.
+abbrev pub IsExplanationOf : List ℕ → Explanation → Type 0
+IsExplanationOf bytes (Broken line) = IsExplained bytes line.items
+IsExplanationOf bytes (NoneBroken line) = SaysNoneBroken bytes line.items
