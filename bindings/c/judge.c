@@ -1,6 +1,6 @@
-/* judge verify|order|certify|smaller|picture: reads a text from standard input, and writes what is said of it, as the
- * program selfcheck writes it, or the book's certificate, a smaller book or its picture. Ends with the library's status,
- * and with 2 where the word isn't right. */
+/* judge verify|order|certify|smaller|explain|picture: reads a text from standard input, and writes what is said of it, as
+ * the program selfcheck writes it, or the book's certificate, a smaller book, which rule it breaks, or its picture. Ends
+ * with the library's status, and with 2 where the word isn't right. */
 #include "selfcheck.h"
 #include <stdio.h>
 #include <stdlib.h>
@@ -26,15 +26,15 @@ static uint8_t *read_all(FILE *stream, size_t *length) {
 typedef uint32_t writer(const uint8_t *text, size_t length, uint8_t *buffer, size_t room, size_t *written,
                         struct selfcheck_refusal *refusal);
 
-/* Writes what the export writes of the text, where its status is this one. */
-static uint32_t write_by(writer *write, uint32_t wanted, const uint8_t *text, size_t length,
+/* Writes what the export writes of the text, where its status is one of these. */
+static uint32_t write_by(writer *write, uint32_t wanted, uint32_t other, const uint8_t *text, size_t length,
                          struct selfcheck_refusal *refusal) {
     size_t room = 2 * length + 64, written = 0;
     for (;;) {
         uint8_t *buffer = malloc(room);
         if (buffer == NULL) return SELFCHECK_NO_MEMORY;
         uint32_t status = write(text, length, buffer, room, &written, refusal);
-        if (status == wanted) fwrite(buffer, 1, written, stdout);
+        if (status == wanted || status == other) fwrite(buffer, 1, written, stdout);
         free(buffer);
         if (status != SELFCHECK_NO_ROOM) return status;
         room = written;
@@ -56,13 +56,15 @@ int main(int count, char **words) {
         says = 1;
         status = selfcheck_order(text, length, &refusal);
     } else if (strcmp(word, "certify") == 0) {
-        status = write_by(selfcheck_certify, SELFCHECK_LEGAL, text, length, &refusal);
+        status = write_by(selfcheck_certify, SELFCHECK_LEGAL, SELFCHECK_LEGAL, text, length, &refusal);
         says = status == SELFCHECK_ILLEGAL;
     } else if (strcmp(word, "smaller") == 0) {
-        status = write_by(selfcheck_smaller, SELFCHECK_ILLEGAL, text, length, &refusal);
+        status = write_by(selfcheck_smaller, SELFCHECK_ILLEGAL, SELFCHECK_ILLEGAL, text, length, &refusal);
         says = status == SELFCHECK_LEGAL;
+    } else if (strcmp(word, "explain") == 0) {
+        status = write_by(selfcheck_explain, SELFCHECK_ILLEGAL, SELFCHECK_DONE, text, length, &refusal);
     } else if (strcmp(word, "picture") == 0) {
-        status = write_by(selfcheck_picture, SELFCHECK_DONE, text, length, &refusal);
+        status = write_by(selfcheck_picture, SELFCHECK_DONE, SELFCHECK_DONE, text, length, &refusal);
     } else {
         status = 2;
     }

@@ -1,5 +1,5 @@
-/* Verdicts on the texts of books and certificates, smaller books and pictures, and calls that check themselves or that
- * monitors judge, by a proved library. docs/FORMATS.md has the texts.
+/* Verdicts on the texts of books and certificates, smaller books, explanations and pictures, and calls that check
+ * themselves or that monitors judge, by a proved library. docs/FORMATS.md has the texts.
  *
  * Link libselfcheck.a or libselfcheck.so, which takes memory from malloc.
  *
@@ -78,6 +78,13 @@ SELFCHECK_EXPORT uint32_t selfcheck_certify(const uint8_t *text, size_t length, 
  * is none, REFUSED, NO_MEMORY or NO_ROOM; but for ILLEGAL the buffer is as it was. As much room as the book takes in
  * version 2 should do, which no clause says; with NO_ROOM `written` says how much is needed. */
 SELFCHECK_EXPORT uint32_t selfcheck_smaller(const uint8_t *text, size_t length, uint8_t *buffer,
+    size_t room, size_t *written, struct selfcheck_refusal *refusal);
+
+/* Writes into the buffer the line that says which rule of its kind the book breaks that such a text gives, and by which
+ * calls, or that it breaks none of them; and its length into `written`. ILLEGAL where the book breaks a rule, and so has no
+ * legal order; DONE where it breaks none, and may have a legal order or not; REFUSED, NO_MEMORY or NO_ROOM; but for ILLEGAL
+ * and DONE the buffer is as it was. All pairs of calls are tried: it is made for small books, as selfcheck_smaller writes. */
+SELFCHECK_EXPORT uint32_t selfcheck_explain(const uint8_t *text, size_t length, uint8_t *buffer,
     size_t room, size_t *written, struct selfcheck_refusal *refusal);
 
 /* Writes into the buffer the picture, as SVG, of the book that such a text gives, and its length into `written`. DONE,
@@ -252,6 +259,12 @@ static inline uint32_t selfcheck_smaller_inline(const uint8_t *text, size_t leng
     return selfcheck_smaller(text, length, selfcheck_buffer(buffer, room), room, written, refusal);
 }
 
+static inline uint32_t selfcheck_explain_inline(const uint8_t *text, size_t length, uint8_t *buffer,
+    size_t room, size_t *written, struct selfcheck_refusal *refusal) {
+    text = selfcheck_text(text, length);
+    return selfcheck_explain(text, length, selfcheck_buffer(buffer, room), room, written, refusal);
+}
+
 static inline uint32_t selfcheck_picture_inline(const uint8_t *text, size_t length, uint8_t *buffer,
     size_t room, size_t *written, struct selfcheck_refusal *refusal) {
     text = selfcheck_text(text, length);
@@ -293,6 +306,7 @@ static inline void selfcheck_point_of(const char *file, int line) {
 #define selfcheck_order selfcheck_order_inline
 #define selfcheck_certify selfcheck_certify_inline
 #define selfcheck_smaller selfcheck_smaller_inline
+#define selfcheck_explain selfcheck_explain_inline
 #define selfcheck_picture selfcheck_picture_inline
 #define selfcheck_open selfcheck_open_inline
 #define selfcheck_witness selfcheck_witness_inline

@@ -37,10 +37,13 @@ static void try_empty(void) {
     HOLDS(selfcheck_order(NULL, 0, &refusal) == SELFCHECK_REFUSED);
     HOLDS(selfcheck_certify(NULL, 0, NULL, 0, &written, &refusal) == SELFCHECK_REFUSED);
     HOLDS(selfcheck_smaller(NULL, 0, NULL, 0, &written, &refusal) == SELFCHECK_REFUSED);
+    HOLDS(selfcheck_explain(NULL, 0, NULL, 0, &written, &refusal) == SELFCHECK_REFUSED);
     HOLDS(selfcheck_picture(NULL, 0, NULL, 0, &written, &refusal) == SELFCHECK_REFUSED);
     HOLDS(written == 0);
     HOLDS(selfcheck_smaller(book, length, NULL, 0, &written, &refusal) == SELFCHECK_NO_ROOM);
     HOLDS(written == length);
+    HOLDS(selfcheck_explain(book, length, NULL, 0, &written, &refusal) == SELFCHECK_NO_ROOM);
+    HOLDS(written == strlen("call 0 0 took 5, which no call had put in before\n"));
     HOLDS(selfcheck_picture(book, length, NULL, 0, &written, &refusal) == SELFCHECK_NO_ROOM);
     HOLDS(written > length);
     HOLDS(selfcheck_open(NULL, 0, 1, 1, &table) == SELFCHECK_UNFIT);

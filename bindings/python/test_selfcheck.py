@@ -58,6 +58,14 @@ class Texts(unittest.TestCase):
         self.assertEqual(selfcheck.smaller("illegal\n" + book), small)
         self.assertIsNone(selfcheck.smaller("book 2\nobject queue\ncallers 1\ncalls 1\n0 0 deq none view 0:1\nend\n"))
 
+    def test_explanations(self):
+        begun = "book 2\nobject queue\ncallers 1\ncalls 3\n0 0 enq 1 done view 0:1\n0 1 enq 2 done view 0:2\n"
+        passed_over = "call 0 0 put 1 in first, yet call 0 2 took 2 while it was there\n"
+        for took, line in (2, passed_over), (1, None):
+            book = f"{begun}0 2 deq ={took} view 0:3\nend\n"
+            self.assertEqual(selfcheck.explain(book), line)
+            self.assertEqual(selfcheck.explain("illegal\n" + book), line)
+
     def test_pictures(self):
         picture = selfcheck.picture(LOST_VALUE)
         self.assertTrue(picture.startswith("<svg ") and picture.endswith("</svg>\n"))
@@ -65,7 +73,8 @@ class Texts(unittest.TestCase):
             self.assertEqual(picture.count(f'id="{call}"'), 1)
 
     def test_refusals(self):
-        for judge in selfcheck.verify, selfcheck.certify, selfcheck.order, selfcheck.smaller, selfcheck.picture:
+        reading = selfcheck.smaller, selfcheck.explain, selfcheck.picture
+        for judge in selfcheck.verify, selfcheck.certify, selfcheck.order, *reading:
             with self.assertRaises(selfcheck.Refused) as it:
                 judge("book 2\nobject queue\ncallers 1\ncalls 1\n0 0 deq none view 0:2\nend\n")
             self.assertEqual((it.exception.line, it.exception.what), (5, "ViewOutside"))

@@ -20,7 +20,7 @@ import os
 import sys
 import threading
 
-__all__ = ["Caller", "Incomplete", "Recorder", "Refused", "certify", "order", "picture", "smaller", "verify"]
+__all__ = ["Caller", "Incomplete", "Recorder", "Refused", "certify", "explain", "order", "picture", "smaller", "verify"]
 
 __version__ = "0.1.0"
 
@@ -73,6 +73,7 @@ for _name, _more in [
     ("selfcheck_order", []),
     ("selfcheck_certify", _BUFFER),
     ("selfcheck_smaller", _BUFFER),
+    ("selfcheck_explain", _BUFFER),
     ("selfcheck_picture", _BUFFER),
 ]:
     getattr(_library, _name).restype = ctypes.c_uint32
@@ -131,6 +132,16 @@ def smaller(book):
     text = _bytes(book)
     small, is_legal = _written_by(_library.selfcheck_smaller, text, len(text) + 64)
     return None if is_legal else small
+
+
+def explain(book):
+    """Which rule of its kind the book breaks that the text gives, and by which calls, in one line; None where it breaks none.
+
+    A book that breaks a rule has no legal order; one that breaks none may have one or not. All pairs of calls are tried, so
+    that this is made for what `smaller` gives. Reads and raises as `smaller` does.
+    """
+    line, breaks_none = _written_by(_library.selfcheck_explain, _bytes(book), 256)
+    return None if breaks_none else line
 
 
 def picture(book):

@@ -2,7 +2,7 @@
 
 use crate::fault::{Fault, Verdict};
 use crate::kind::Kind;
-use crate::library::{certify, picture, smaller, verify};
+use crate::library::{certify, explain, picture, smaller, verify};
 use crate::reply::Reply;
 use std::fmt;
 use std::marker::PhantomData;
@@ -85,6 +85,17 @@ impl<K: Kind> Book<K> {
     /// For want of memory. The text of a book is never refused.
     pub fn smaller(&self) -> Result<Option<Book<K>>, Fault> {
         Ok(smaller(&self.text)?.map(Book::of_text))
+    }
+
+    /// Which rule of its kind the book breaks, and by which calls, in one line; `None` where it breaks none of the rules. A
+    /// book that breaks a rule has no legal order; one that breaks none may have one or not. All pairs of calls are tried,
+    /// so that this is made for small books.
+    ///
+    /// # Errors
+    ///
+    /// For want of memory. The text of a book is never refused.
+    pub fn explanation(&self) -> Result<Option<String>, Fault> {
+        explain(&self.text)
     }
 
     /// The picture of the book, as SVG: a lane for each caller, a bar for each call, and the numbers of a legal order, where

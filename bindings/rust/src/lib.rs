@@ -27,7 +27,8 @@
 //!
 //! An [`Enforced`] object checks itself: each call is judged when it has its reply, which is delivered, or is an error
 //! with a book that has no legal order. The calls of a [`Monitored`] object are only published, and a [`Monitor`] judges
-//! them in rounds. An illegal book is made small by [`Book::smaller`], and drawn by [`Book::picture`].
+//! them in rounds. An illegal book is made small by [`Book::smaller`], explained by [`Book::explanation`], and
+//! drawn by [`Book::picture`].
 //!
 //! Code that uses the types of [`schedule`] in place of the standard library's runs one thread at a time, by a seed, and
 //! [`hunt()`] makes random calls of an object under such schedules, until one is wrong; what it finds comes again.
@@ -76,7 +77,7 @@ pub use kind::{
     CasRegister, CasRegisterOp, Counter, CounterOp, Kind, Map, MapOp, Operation, PriorityQueue,
     PriorityQueueOp, Queue, QueueOp, Register, RegisterOp, Set, SetOp, Stack, StackOp,
 };
-pub use library::{certify, order, picture, smaller, verify};
+pub use library::{certify, explain, order, picture, smaller, verify};
 pub use monitored::{JudgeError, Monitor, Monitored, MonitoredCaller};
 pub use objects::{
     CasRegisterObject, CounterObject, MapObject, PriorityQueueObject, QueueObject, RegisterObject,

@@ -47,6 +47,14 @@ unsafe extern "C" {
         written: &mut usize,
         refusal: &mut Refusal,
     ) -> u32;
+    fn selfcheck_explain(
+        text: *const u8,
+        length: usize,
+        buffer: *mut u8,
+        room: usize,
+        written: &mut usize,
+        refusal: &mut Refusal,
+    ) -> u32;
     fn selfcheck_picture(
         text: *const u8,
         length: usize,
@@ -259,6 +267,34 @@ pub fn smaller(text: impl AsRef<[u8]>) -> Result<Option<String>, Fault> {
     match verdict(status, &refusal)? {
         Verdict::Illegal => Ok(Some(small)),
         Verdict::Legal => Ok(None),
+    }
+}
+
+/// Which rule of its kind the book breaks that the text gives, and by which calls, in one line; `None` where it breaks
+/// none of the rules. A book that breaks a rule has no legal order; one that breaks none may have one or not. The text is
+/// read as [`smaller`] reads it. All pairs of calls are tried, so that this is made for small books.
+///
+/// ```
+/// use selfcheck::explain;
+///
+/// let begun = "book 2\nobject queue\ncallers 1\ncalls 3\n\
+///     0 0 enq 1 done view 0:1\n0 1 enq 2 done view 0:2\n";
+/// let line = explain(format!("{begun}0 2 deq =2 view 0:3\nend\n"))?.expect("a queue passed 1 over");
+/// assert_eq!(line, "call 0 0 put 1 in first, yet call 0 2 took 2 while it was there\n");
+/// assert_eq!(explain(format!("{begun}0 2 deq =1 view 0:3\nend\n"))?, None);
+/// # Ok::<_, selfcheck::Fault>(())
+/// ```
+///
+/// # Errors
+///
+/// Where the text gives no book, with the line counted from the book's title, and for want of memory.
+pub fn explain(text: impl AsRef<[u8]>) -> Result<Option<String>, Fault> {
+    let text = text.as_ref();
+    let (status, refusal, line) = written_by(selfcheck_explain, text, 256);
+    match status {
+        ILLEGAL => Ok(Some(line)),
+        DONE => Ok(None),
+        status => Err(fault(status, &refusal)),
     }
 }
 

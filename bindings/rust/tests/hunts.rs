@@ -94,6 +94,10 @@ fn a_finding_has_a_folder() {
     );
     assert!(read("small-steps.txt").contains("AtomicU32::store at tests/hunts.rs:"));
     assert!(read("finding.txt").contains(&finding.line()));
+    let explanation = finding.explanation().unwrap();
+    assert!(explanation.contains(" counted "), "{explanation}");
+    assert_eq!(read("explanation.txt"), explanation);
+    assert!(read("finding.txt").contains(&format!("\n\n{explanation}\nbook 2\n")));
     assert!(read("picture.svg").starts_with("<svg") || read("picture.svg").starts_with("<?xml"));
     assert!(read("settings.txt").contains(".seed(3)"));
     assert!(read("script.txt").contains("caller 2: inc, inc, inc, inc, inc, inc"));

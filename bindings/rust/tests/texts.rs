@@ -1,6 +1,6 @@
 //! Texts of any origin: the books of `examples/`, texts with faults, and texts that end early.
 
-use selfcheck::{Fault, Verdict, What, certify, order, verify};
+use selfcheck::{Fault, Verdict, What, certify, explain, order, verify};
 use std::fs;
 use std::path::Path;
 
@@ -22,6 +22,26 @@ fn the_examples_have_their_verdicts() {
             assert_eq!(order(certificate), Ok(Verdict::Legal), "{name}");
         }
     }
+}
+
+/// The worked books of `scripts/explain-cases`, each with its line.
+#[test]
+fn books_are_explained_as_their_cases_say() {
+    let file = Path::new(env!("CARGO_MANIFEST_DIR")).join("../../crates/explained_witness/cases");
+    let cases = fs::read_to_string(file).unwrap();
+    let lines_of = |case: &str, word: &str| {
+        case.lines()
+            .filter_map(|line| line.strip_prefix(word))
+            .fold(String::new(), |text, line| text + line + "\n")
+    };
+    let mut tried = 0;
+    for case in cases.split("\ncase ").skip(1) {
+        let (book, line) = (lines_of(case, "in "), lines_of(case, "out "));
+        let line = (line != "no rule of these is broken\n").then_some(line);
+        assert_eq!(explain(&book), Ok(line), "{case}");
+        tried += 1;
+    }
+    assert!(tried > 20, "{tried}");
 }
 
 fn refused(line: u64, what: What) -> Fault {

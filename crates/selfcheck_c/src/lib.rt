@@ -1,6 +1,6 @@
-//! Verdicts on texts, smaller books and pictures, and calls that check themselves or that monitors
-//! judge, for programs in other languages: exports over numbers, slices of bytes, and places for
-//! handles.
+//! Verdicts on texts, smaller books, explanations and pictures, and calls that check themselves or
+//! that monitors judge, for programs in other languages: exports over numbers, slices of bytes, and
+//! places for handles.
 #![tactic(auto)]
 
 ghost use Rattle.std.specs.Prelude.{◌≡◌, ◌⊎◌, ℕ, ◌<◌, ◌≤◌, List, drop, length, take};

@@ -3,6 +3,7 @@ ghost use Rattle.book_base.specs.declared.fault.TextFault.{TextFault};
 ghost use Rattle.book_base.specs.Book.{Page};
 ghost use Rattle.seq_objects.specs.declared.kind.Kind.{Kind};
 ghost use Rattle.given_book.specs.Given.{IsGiven, IsFirstGivenFault};
+ghost use Rattle.witness_texts.specs.Explaining.{IsExplained, SaysNoneBroken};
 ghost use Rattle.witness_texts.specs.Texts.{IsLegalGiven, IsIllegalGiven, IsSmallerWitness, IsPictureOf};
 ghost use Rattle.selfcheck_c.specs.declared.TheConstants.{LEGAL, ILLEGAL, REFUSED, NO_MEMORY, NO_ROOM};
 ghost use Rattle.selfcheck_c.specs.declared.handles.TheConstants.{DONE};
@@ -14,7 +15,7 @@ use crate::refusal::Refusal;
 use crate::{ILLEGAL, LEGAL, NO_MEMORY, NO_ROOM, REFUSED};
 use book_base::ReadFault;
 use std::alloc::Global;
-use witness_texts::{picture_text, smaller_text};
+use witness_texts::{Explanation, explained_text, picture_text, smaller_text};
 
 /// Writes into a buffer the text of a smaller book of the book that the bytes give, where this book
 /// is illegal; the smaller one is illegal too. The bytes are a book's text in either version, or
@@ -132,6 +133,75 @@ pub extern "C" fn selfcheck_picture(
             let drawn = picture.as_bytes();
             *written = drawn.len();
             if put(buffer, drawn) { DONE } else { NO_ROOM }
+        }
+        Err(ReadFault::Text(fault)) => {
+            *refusal = Refusal::from(fault);
+            REFUSED
+        }
+        Err(ReadFault::NoMemory) => NO_MEMORY,
+    }
+}
+
+/// Writes into a buffer the line that says which rule of its kind the book breaks that the bytes
+/// give, and by which calls, or that it breaks none of them. A book that breaks a rule has no legal
+/// order; one that breaks none may have one or not. The bytes are a book's text in either version,
+/// or what a run or monitors have written with its witness. `written` is the line's length, even
+/// where the buffer can't hold it and nothing is written. Where the bytes are refused, `refusal`
+/// says why.
+#[unsafe(no_mangle)]
+pub extern "C" fn selfcheck_explain(
+    alloc: Global,
+    text: &[u8],
+    buffer: &mut [u8],
+    written: &mut usize,
+    refusal: &mut Refusal,
+) -> u32
+    // With `ILLEGAL` or `DONE` the line fits the buffer.
+    ensures held { (result ≡ ILLEGAL) ⊎ (result ≡ DONE) → written.new ≤ length buffer.new }
+    // With `ILLEGAL` the bytes give a book that breaks a rule of its kind, and so has no legal
+    // order, and the first `written` bytes of the buffer say which rule, and by which calls.
+    ensures explained { result ≡ ILLEGAL → IsExplained text.now (take written.new buffer.new) }
+    // With `DONE` the bytes give a book that breaks none of the rules of its kind, and the first
+    // `written` bytes of the buffer say that.
+    ensures none_broken { result ≡ DONE → SaysNoneBroken text.now (take written.new buffer.new) }
+    // With `ILLEGAL` or `DONE` the bytes of the buffer after the first `written` are as they were.
+    ensures rest { (result ≡ ILLEGAL) ⊎ (result ≡ DONE) →
+        drop written.new buffer.new ≡ drop written.new buffer.old }
+    // With `REFUSED` the bytes give no book, and the refusal has the line and the number of their
+    // first fault.
+    ensures refused { result ≡ REFUSED → IsGivenRefusal text.now refusal.new }
+    // With `NO_ROOM` the count `written` is greater than the length of the buffer.
+    ensures no_room { result ≡ NO_ROOM → length buffer.old < written.new }
+    // With `NO_ROOM` there is a line, `written` bytes long, that says which rule the book breaks,
+    // and by which calls, or that it breaks none.
+    ensures unheld { result ≡ NO_ROOM → (wanted : List ℕ)
+        × (IsExplained text.now wanted ⊎ SaysNoneBroken text.now wanted)
+        × (length wanted ≡ written.new) }
+    // The status is `ILLEGAL`, `DONE`, `REFUSED`, `NO_MEMORY` or `NO_ROOM`.
+    ensures ends { (result ≡ ILLEGAL) ⊎ (result ≡ DONE) ⊎ (result ≡ REFUSED) ⊎ (result ≡ NO_MEMORY)
+        ⊎ (result ≡ NO_ROOM) }
+    // With each status but `ILLEGAL` and `DONE` the buffer is as it was.
+    ensures unwritten { ¬ (result ≡ ILLEGAL) → ¬ (result ≡ DONE) → buffer.new ≡ buffer.old }
+    // With each status but `REFUSED` the refusal is as it was.
+    ensures kept { ¬ (result ≡ REFUSED) → refusal.new ≡ refusal.old }
+    // With `REFUSED` or `NO_MEMORY` the count `written` is as it was.
+    ensures uncounted { (result ≡ REFUSED) ⊎ (result ≡ NO_MEMORY) → written.new ≡ written.old }
+    // Bytes that give a book have the status `ILLEGAL`, `DONE` or `NO_ROOM`, unless memory runs
+    // out.
+    ensures book_told { (kind : Kind) (book : List Page) → IsGiven text.now kind book →
+        (result ≡ ILLEGAL) ⊎ (result ≡ DONE) ⊎ (result ≡ NO_ROOM) ⊎ (result ≡ NO_MEMORY) }
+    // Bytes that have a first fault have the status `REFUSED`, unless memory runs out.
+    ensures fault_told { (fault : TextFault) → IsFirstGivenFault text.now fault →
+        (result ≡ REFUSED) ⊎ (result ≡ NO_MEMORY) }
+{
+    match explained_text(alloc, text) {
+        Ok(Explanation::Broken(line)) => {
+            *written = line.len();
+            if put(buffer, &line) { ILLEGAL } else { NO_ROOM }
+        }
+        Ok(Explanation::NoneBroken(line)) => {
+            *written = line.len();
+            if put(buffer, &line) { DONE } else { NO_ROOM }
         }
         Err(ReadFault::Text(fault)) => {
             *refusal = Refusal::from(fault);

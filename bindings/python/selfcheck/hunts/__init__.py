@@ -32,6 +32,7 @@ docs/SCHEDULES.md says what a schedule is, and what breaks repetition.
 import os
 import time
 
+from .. import explain
 from .. import smaller as smaller_book
 from . import endings, small
 from .again import Again, NoRun
@@ -129,6 +130,7 @@ def _told(hunter, run, trial):
         finding.made_small(small.smaller(hunter, trial))
     if trial.found == ILLEGAL:
         finding.small_book = smaller_book(finding.small.book)
+        finding.explanation = finding.small_book and explain(finding.small_book)
     return finding
 
 

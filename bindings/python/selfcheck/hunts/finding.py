@@ -11,7 +11,8 @@ class Finding:
 
     `trial` is the run as it was found, and `small` the small one: where `repeats` denies that it
     came again by its seed, they are the same. `small_book` is the smallest part of the small run's
-    book that is illegal too, and None where the run isn't illegal. `again` brings the small run
+    book that is illegal too, and None where the run isn't illegal. `explanation` is the line that
+    says which rule of its kind that book breaks, if it breaks one. `again` brings the small run
     again, by `replay`.
     """
 
@@ -21,7 +22,7 @@ class Finding:
         self.run = run
         self.trial = self.small = trial
         self.repeats = repeats
-        self.small_book = self.small_again = self.folder = None
+        self.small_book = self.explanation = self.small_again = self.folder = None
 
     @property
     def found(self):
@@ -53,4 +54,5 @@ class Finding:
         if self.folder:
             lines.append(f"written to {self.folder}")
         lines += ["", f"{self.small.script}", self.small.steps_text(_STEPS)]
-        return "\n".join(lines) + (f"\n{self.small_book}" if self.small_book else "")
+        lines += [text for text in (self.explanation, self.small_book) if text]
+        return "\n".join(lines)

@@ -35,6 +35,7 @@ def write(finding, folder):
         ("small-script.txt", str(small.script)),
         ("small-steps.txt", small.steps_text()),
         ("small-book.txt", small_book),
+        ("explanation.txt", finding.explanation),
         ("picture.svg", finding.small_book and picture(finding.small_book)),
     ]
     lost, first = [], None

@@ -15,6 +15,7 @@ pub struct Finding<K: Kind> {
     pub(crate) small: Trial<K>,
     pub(crate) small_again: Option<Again>,
     pub(crate) small_book: Option<Book<K>>,
+    pub(crate) explanation: Option<String>,
     pub(crate) settings: String,
     pub(crate) folder: Option<PathBuf>,
 }
@@ -55,6 +56,13 @@ impl<K: Kind> Finding<K> {
     #[must_use]
     pub fn small_book(&self) -> Option<&Book<K>> {
         self.small_book.as_ref()
+    }
+
+    /// Which rule of its kind the small book breaks, and by which calls, in one line; `None` where
+    /// it breaks none of the rules.
+    #[must_use]
+    pub fn explanation(&self) -> Option<&str> {
+        self.explanation.as_deref()
     }
 
     /// What brings the small run again.
@@ -109,6 +117,9 @@ impl<K: Kind> fmt::Display for Finding<K> {
             writeln!(f, "written to {}", folder.display())?;
         }
         write!(f, "\n{}\n{}", self.small.script, Steps(&self.small))?;
+        if let Some(line) = &self.explanation {
+            write!(f, "\n{line}")?;
+        }
         if let Some(book) = &self.small_book {
             write!(f, "\n{book}")?;
         }

@@ -27,7 +27,7 @@ pub(crate) fn write<K: Kind>(
     let book = finding.trial.book.as_ref().map(ToString::to_string);
     let small_book =
         (finding.small_book.as_ref().or(finding.small.book.as_ref())).map(ToString::to_string);
-    let files: [(&str, Option<String>); 8] = [
+    let files: [(&str, Option<String>); 9] = [
         ("finding.txt", Some(finding.to_string())),
         ("settings.txt", Some(format!("{}\n", finding.settings))),
         ("script.txt", Some(finding.trial.script.to_string())),
@@ -36,6 +36,7 @@ pub(crate) fn write<K: Kind>(
         ("small-script.txt", Some(finding.small.script.to_string())),
         ("small-steps.txt", Some(Steps(&finding.small).to_string())),
         ("small-book.txt", small_book),
+        ("explanation.txt", finding.explanation.clone()),
     ];
     let of_small_book = of_small_book
         .iter()

@@ -183,6 +183,10 @@ fn told<K: Scripted>(
         (Found::Illegal, Some(book)) => book.smaller()?,
         _ => None,
     };
+    let explanation = match &small_book {
+        Some(book) => book.explanation()?,
+        None => None,
+    };
     Ok(Finding {
         found,
         trial,
@@ -191,6 +195,7 @@ fn told<K: Scripted>(
         small,
         small_again,
         small_book,
+        explanation,
         settings: hunter.settings.to_string(),
         folder: None,
     })
