@@ -2,8 +2,8 @@
 //! name of its first fault, or what is written of what it read is that text, byte by byte.
 //!
 //! The words are the seed of the generator and the number of texts; with a third word, `figures`, a
-//! table says how each reader answered. A text that isn't written back as it was is printed, and
-//! the status is then 1.
+//! table says how each reader answered. A text that isn't written back as it was is printed, and so
+//! is a reader that accepts no text or refuses none; the status is then 1.
 #![tactic(auto)]
 
 mod form;
@@ -85,6 +85,23 @@ fn print_figures<R: Print + AllocGlobal>(rt: &R, all_counts: &[ReadingCounts]) -
     Ok(())
 }
 
+// Whether each reader accepted a text and refused one; those that didn't are printed.
+fn try_answers<R: Print + AllocGlobal>(rt: &R, all_counts: &[ReadingCounts]) -> Result<bool> {
+    let mut all = true;
+    for counts in all_counts {
+        if counts.kept == 0 || counts.refused.is_empty() {
+            println!(rt;
+                "{} texts accepted and {} names of refusals: {}",
+                counts.kept,
+                counts.refused.len(),
+                counts.form.name()
+            )?;
+            all = false;
+        }
+    }
+    Ok(all)
+}
+
 fn run<R: Env + Print + AllocGlobal>(rt: &R) -> Result<bool> {
     let alloc = rt.alloc();
     let wish = read_words(rt)?;
@@ -96,6 +113,7 @@ fn run<R: Env + Print + AllocGlobal>(rt: &R) -> Result<bool> {
         let text = mutate(alloc, &mut rng, sample)?;
         all &= try_text(rt, &mut all_counts, &text)?;
     }
+    all &= try_answers(rt, &all_counts)?;
     if wish.figures {
         print_figures(rt, &all_counts)?;
     }
