@@ -74,3 +74,7 @@ look_and_add view =
     caller_page (operation has 3 ∷ []) (answer reply_yes view ∷ [])
     ∷ caller_page (operation add 3 ∷ []) (answer reply_yes (1 ∷ 1 ∷ []) ∷ [])
     ∷ []
+
+-- The only put into a queue has the reply `reply`.
+abbrev pub one_put : ℕ → List Page
+one_put reply = caller_page (operation enq 5 ∷ []) (answer reply (1 ∷ []) ∷ []) ∷ []

@@ -2,6 +2,7 @@
 
 ghost use Rattle.std.specs.Prelude.{[], ◌∷◌};
 ghost use Rattle.seq_objects.specs.declared.kind.Kind.TheVariants as kinds;
+ghost use Rattle.seq_objects.specs.Replies.{reply_done, reply_value};
 ghost use Rattle.seq_objects.specs.Words as words;
 ghost use Rattle.broken_rules.specs.declared.rule.Rule.TheVariants as rules;
 ghost use Rattle.broken_rules.specs.Rules.{Breaks};
@@ -9,7 +10,17 @@ ghost use Rattle.judging_examples.specs.Runs.{operation};
 ghost use Rattle.judging_examples.specs.SmallObjects.{call_of};
 ghost use Rattle.judging_examples.specs.RuleBooks.{broken_by, take_and_put, look_and_add};
 ghost use Rattle.judging_examples.specs.RuleBooks.{put_and_nothing, puts_and_take, puts_and_takes};
-ghost use Rattle.judging_examples.specs.RuleBooks.{one_increment, two_increments, increments_in_turn};
+ghost use Rattle.judging_examples.specs.RuleBooks.{one_put, one_increment, two_increments, increments_in_turn};
+
+/// A reply is one that the object gives to the operation at some list.
+pub fn replies_are_possible()
+    // A put that replies a value breaks the rule.
+    ensures never { Breaks kinds.Queue (one_put (reply_value 5))
+        (broken_by rules.NeverReplied (call_of 0 0) (call_of 0 0)) }
+    // A put that replies `done` doesn't break the rule.
+    ensures done { ¬ Breaks kinds.Queue (one_put reply_done)
+        (broken_by rules.NeverReplied (call_of 0 0) (call_of 0 0)) }
+{}
 
 /// What is taken, read or found was put in before: a view that holds the put makes the difference.
 pub fn values_come_from_puts()
