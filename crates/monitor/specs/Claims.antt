@@ -9,7 +9,7 @@ use Rattle.monitor.specs.declared.claim.Claim.{Claim}
 abbrev pub own_in : Claim → Option Witness
 own_in c = c.own
 
--- Whether the board took a copy of the own witness of a claim.
+-- The flag of a claim that is true only where the board took a copy of the claim's own witness.
 abbrev pub placed_in : Claim → Bool
 placed_in c = c.placed
 
@@ -25,7 +25,7 @@ IsClaimOn b c = c.note.cell ≡ cell_name b.cell
 abbrev pub AreOnOne : Claim → Claim → Type 0
 AreOnOne c d = c.note.cell ≡ d.note.cell
 
--- Two claims have the same own witness, and the board took a copy for both or for none.
+-- Two claims have the same own witness and the same flag.
 pub record HasSameFindings (c d : Claim) : Type 0 where
   pub own : own_in d ≡ own_in c
   pub placed : placed_in d ≡ placed_in c

@@ -79,7 +79,7 @@ module _ {P : Type 0} where
   abbrev pub own_of : Monitor P → Option Witness
   own_of m = own_in m.claim
 
-  -- Whether the board took a copy of the own witness of a monitor.
+  -- The flag of a monitor that is true only where the board took a copy of its own witness.
   abbrev pub placed_by : Monitor P → Bool
   placed_by m = placed_in m.claim
 

@@ -16,8 +16,8 @@ use std::thread::Threads;
 use work_halves::{Work, work_with_two};
 use world_core::Program;
 
-/// What a monitor leaves after its rounds: its own witness, whether the board took a copy of that
-/// witness, and whether the monitor lacked memory in a round.
+/// What a monitor leaves after its rounds: its own witness, `placed`, which is true only where the
+/// board took a copy of that witness, and whether the monitor lacked memory in a round.
 #[derive(Debug, Drop)]
 pub struct Left {
     pub own: Option<Witness>,
@@ -145,7 +145,7 @@ pub fn watch_beside<
     // lacked memory after legal rounds, in a further one, and has no own witness.
     ensures other { (l : Local) → on_bench bench.old other ≡ Some l
         → IsBackFrom (S.spec sequential.now) rows.now.callers bench.new other l rounds result.1 }
-    // Where the board took a copy of a monitor's own witness, this monitor has an own witness.
+    // Where a monitor left `placed` true, it left an own witness.
     ensures placed { (result.0.placed ≡ true → is_some result.0.own ≡ true)
         × (result.1.placed ≡ true → is_some result.1.own ≡ true) }
 {

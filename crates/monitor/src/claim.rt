@@ -6,8 +6,8 @@ use book_base::NoMemory;
 use once_cell::race::Note;
 use std::alloc::Global;
 
-/// What one monitor has found, and what it knows of its board: its own witness, whether the board
-/// took a copy of this witness, and a note of the witness on the board.
+/// What one monitor has found, and what it knows of its board: its own witness, a flag that is set
+/// only where the board took a copy of this witness, and a note of the witness on the board.
 #[derive(Drop)]
 pub(crate) struct Claim {
     own: Option<Witness>,
@@ -67,7 +67,7 @@ impl Claim {
         self.own.as_ref()
     }
 
-    /// Whether the board took a copy of the monitor's own witness.
+    /// `true` only where the board took a copy of the monitor's own witness.
     pub fn placed(&self) -> bool
         ensures { result ≡ placed_in self.now }
     {
@@ -98,7 +98,7 @@ impl Claim {
         self.note.compare(note);
     }
 
-    /// The own witness of the claim, and whether the board took its copy of this witness.
+    /// The own witness of the claim, and `placed`.
     pub(crate) fn into_parts(self) -> (Option<Witness>, bool)
         ensures parts { (result.0 ≡ own_in self) × (result.1 ≡ placed_in self) }
         ensures found { result.1 ≡ true → is_some result.0 ≡ true }

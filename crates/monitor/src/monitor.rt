@@ -51,8 +51,7 @@ impl<P: Program> Monitor<P> {
         ensures caller { caller_of result ≡ caller }
         // The monitor belongs to `board`.
         ensures board { IsOn board.now result }
-        // The monitor has no own witness, the board took no copy of one, and the monitor knows no
-        // witness on the board.
+        // The monitor has no own witness, `placed` is false, and it knows no witness on the board.
         ensures nothing { (own_of result ≡ None) × (placed_by result ≡ false)
             × (known_by result ≡ None) }
     {
@@ -128,7 +127,7 @@ impl<P: Program> Monitor<P> {
         // what the monitor knows of the board is as before.
         ensures known { IfSome (own_of self.new)
             (λ w. KnowsOrLacked (known_by self.old) (known_by self.new)) }
-        // The board took a copy of the own witness only where the monitor knew no witness before.
+        // `placed` is true afterwards only where the monitor knew no witness before.
         ensures first { placed_by self.new ≡ true → known_by self.old ≡ None }
         // After a legal round the monitor keeps the book at the cut of the round's scan, and after
         // an illegal round it keeps no book.
@@ -186,7 +185,7 @@ impl<P: Program> Monitor<P> {
         // what the monitor knows of the board is as before.
         ensures known { IfSome (own_of self.new)
             (λ w. KnowsOrLacked (known_by self.old) (known_by self.new)) }
-        // The board took a copy of the own witness only where the monitor knew no witness before.
+        // `placed` is true afterwards only where the monitor knew no witness before.
         ensures first { placed_by self.new ≡ true → known_by self.old ≡ None }
         // After a legal round the monitor keeps the book at the cut of the round's scan, and after
         // an illegal round it keeps no book.
@@ -232,7 +231,8 @@ impl<P: Program> Monitor<P> {
         self.claim.own()
     }
 
-    /// Whether the board took a copy of the monitor's own witness.
+    /// `true` only where the board took a copy of the monitor's own witness. No clause says that the
+    /// answer is `true` wherever the board took one.
     pub fn placed(&self) -> bool
         ensures { result ≡ placed_by self.now }
     {
@@ -247,8 +247,7 @@ impl<P: Program> Monitor<P> {
         ensures board { IsOn board.now self.new }
         // The monitor keeps its caller.
         ensures caller { caller_of self.new ≡ caller_of self.old }
-        // The monitor's own witness, whether the board took a copy of it, and the book that the
-        // monitor keeps stay as they are.
+        // The monitor's own witness, `placed`, and the book that the monitor keeps stay as they are.
         ensures findings { (own_of self.new ≡ own_of self.old)
             × (placed_by self.new ≡ placed_by self.old) × (kept_by self.new ≡ kept_by self.old) }
         // Where no witness is answered, the monitor knows none, before and after.
@@ -257,7 +256,7 @@ impl<P: Program> Monitor<P> {
         // where one was.
         ensures some { IfSome result
             (λ r. (known_by self.new ≡ Some r.now) × Agrees (known_by self.old) r.now) }
-        // Where the board took a copy of the own witness, the answer is that witness.
+        // Where `placed` is true, the answer is the own witness.
         ensures placed { placed_by self.old ≡ true
             → IsSomeAnd result (λ r. own_of self.old ≡ Some r.now) }
     {
@@ -285,7 +284,7 @@ impl<P: Program> Monitor<P> {
         caller
     }
 
-    /// The monitor's caller, its own witness, and whether the board took a copy of this witness.
+    /// The monitor's caller, its own witness, and `placed`.
     pub(crate) fn into_parts(self) -> (Caller<P>, Option<Witness>, bool)
         ensures parts { (result.0 ≡ caller_of self) × (result.1 ≡ own_of self)
             × (result.2 ≡ placed_by self) }

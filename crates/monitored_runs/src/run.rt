@@ -30,8 +30,8 @@ use std::alloc::Global;
 use std::thread::Threads;
 use world_core::{Outside, Program};
 
-// A witness that one of two monitors left, if one did, even where the other lacked memory. Where the
-// board took a copy of a monitor's witness, it is that one.
+// A witness that one of two monitors left, if one did, even where the other lacked memory. Where a
+// monitor left `placed` true, it is that monitor's.
 fn found_by(one: Left, other: Left) -> Result<Option<Witness>, NoMemory>
     ensures found { IfOk result
         (λ found. IfSome found (λ w. (one.own ≡ Some w) ⊎ (other.own ≡ Some w))) }
