@@ -17,7 +17,7 @@ use Rattle.judging_examples.specs.EvidenceBooks.{three_increments, misread, need
 
 -- What holds of the view of all three calls holds of the view of each record of
 -- `three_increments`.
-increments_views : (P : ℕ → ℕ → List ℕ → Type 0) → P 0 0 (1 ∷ 1 ∷ 1 ∷ []) → P 1 0 (1 ∷ 1 ∷ 1 ∷ [])
+pub increments_views : (P : ℕ → ℕ → List ℕ → Type 0) → P 0 0 (1 ∷ 1 ∷ 1 ∷ []) → P 1 0 (1 ∷ 1 ∷ 1 ∷ [])
     → P 2 0 (1 ∷ 1 ∷ 1 ∷ []) → (i k : ℕ) (r : Record)
     → record_of three_increments (record { caller = i; number = k }) ≡ Some r → P i k r.view
 increments_views P x y z zero zero r e = subst (λ (s : Record). P 0 0 s.view) (same_Some _ r e) x
@@ -36,7 +36,7 @@ increments_answers (suc zero) = omega arith
 increments_answers (suc (suc zero)) = omega arith
 increments_answers (suc (suc (suc i))) = omega arith
 
-within_itself : (cut : List ℕ) → IsWithin cut cut
+pub within_itself : (cut : List ℕ) → IsWithin cut cut
 within_itself cut i = omega arith
 
 increments_comparable : (j m : ℕ) (t : Record)

@@ -5,11 +5,12 @@ ghost use Rattle.seq_objects.specs.declared.kind.Kind.TheVariants as kinds;
 ghost use Rattle.seq_objects.specs.Objects.{kind_spec};
 ghost use Rattle.smaller_book.specs.Earliest.{IsEarliest};
 ghost use Rattle.smaller_book.specs.Evidence.{IsEvidence};
-ghost use Rattle.smaller_book.specs.Minimal.{IsMinimal};
+ghost use Rattle.smaller_book.specs.Minimal.{IsMinimal, IsMoment, IsClosedCut};
 ghost use Rattle.judging_examples.specs.EvidenceBooks.{three_increments, last_increment, two_zeros};
 ghost use Rattle.judging_examples.specs.EvidenceBooks.{misread, read_alone, read_beside_write};
 ghost use Rattle.judging_examples.specs.EvidenceBooks.{one_miscount, unanswered_increment, miscount_and_more, two_miscounts};
 ghost use Rattle.judging_examples.specs.EvidenceBooks.{needless_read, needless_put, later_read, later_take};
+ghost use Rattle.judging_examples.specs.SmallerBooks.{two_puts};
 
 /// Parts to which no steps lead from a book without a legal order: one lacks increments and one a
 /// write that the view of an answered call held, and one lacks an answer but not its call.
@@ -61,4 +62,17 @@ pub fn minimal_books()
     // A book without whose put it has no legal order either is earliest, and isn't minimal.
     ensures needless_put { IsEarliest (kind_spec kinds.Queue) needless_put
         × ¬ IsMinimal kinds.Queue needless_put }
+{}
+
+/// Which cuts are closed, and which are moments.
+pub fn closed_cuts_and_moments()
+    // Of three records with equal views a closed cut may hold two and lack one.
+    ensures equal_views { IsClosedCut three_increments (1 ∷ 1 ∷ 0 ∷ []) }
+    // A cut that holds a read and lacks the write whose view is smaller isn't closed.
+    ensures smaller_view { ¬ IsClosedCut misread (0 ∷ 1 ∷ []) }
+    // A cut whose views count one call more of a caller than it has records of the caller is a
+    // moment.
+    ensures one_more { IsMoment three_increments (1 ∷ 1 ∷ 0 ∷ []) }
+    // A cut with a view that counts two calls more isn't one.
+    ensures two_more { ¬ IsMoment two_puts (0 ∷ 1 ∷ []) }
 {}
