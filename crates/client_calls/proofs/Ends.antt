@@ -8,7 +8,7 @@ use Rattle.world_core.specs.Local.{Local}
 use Rattle.world_core.specs.Calls.{Has_seen, Made, call_in, calls_in}
 use Rattle.report_lines.specs.declared.line.LineEnd.{LineEnd}
 use Rattle.report_lines.specs.declared.line.Line.{Line}
-use Rattle.report_lines.specs.Phases.{progress_of}
+use Rattle.report_lines.specs.Phases.{Progress, progress_of}
 use Rattle.report_laws.proofs.Stepping.{seeing_is_a_phase}
 use Rattle.report_laws.proofs.Telling.{as_many_calls}
 use Rattle.row_table.specs.declared.caller.Caller.{Caller}
@@ -16,12 +16,13 @@ use Rattle.row_table.specs.declared.rows.Rows.{Rows}
 use Rattle.row_table.specs.Callers.{shape_of, who_of, local_with}
 use Rattle.drv_wrapper.proofs.Locals.{local_has_phase}
 use Rattle.enforcer.specs.declared.published_call.Published.{Published}
-use Rattle.enforcer.specs.States.{caller_published}
+use Rattle.enforcer.specs.declared.seen_call.Seen.{Seen}
+use Rattle.enforcer.specs.States.{caller_published, caller_seen, cut_seen}
 use Rattle.client_calls.specs.declared.stand.CallerState.{CallerState}
 use Rattle.client_calls.specs.declared.stand.CallerState.TheVariants as at
 use Rattle.client_calls.specs.declared.ended.Ended.{Ended}
 use Rattle.client_calls.specs.declared.ended.Ended.TheVariants.{GoesOn, Halts, WantsMemory}
-use Rattle.client_calls.specs.Endings.{record_published, record_unjudged, local_ended, HasEnded, IsNoted}
+use Rattle.client_calls.specs.Endings.{record_published, record_seen, local_ended, HasEnded, HasEndedSeen, IsNoted}
 use Rattle.client_calls.specs.Stands.{phases_at}
 use Rattle.client_calls.specs.Course.{HasCome}
 use Rattle.client_calls.proofs.Phases.{progress_along}
@@ -119,9 +120,9 @@ module _ {P : Type 0} (meaning : P → ℕ → ℕ → Meaning) (r : Rows P)
       let calls = ended_calls p (WantsMemory u) h e in
       let with : Record → List ℕ → List Made =
       λ x y. record { operation = op; reached = Has_seen x y } ∷ [] in
-      let is : with (record_published p) e.cut ≡ with (record_unjudged u) u.seen =
+      let is : with (record_published p) e.cut ≡ with (record_seen u) (cut_seen u) =
       ap (λ (x : Record). with x e.cut) (sym e.says_of.0)
-      ∙ ap (with (record_unjudged u)) (sym e.says_of.1) in
+      ∙ ap (with (record_seen u)) (sym e.says_of.1) in
       let come : Come (at.Unjudged u) own = record {
         caller = e.still.0;
         number = e.still.1 ∙ h.number;
@@ -132,25 +133,95 @@ module _ {P : Type 0} (meaning : P → ℕ → ℕ → Meaning) (r : Rows P)
         ended = h.ended;
         calls = calls ∙ ap (λ (rest : List Made). h.ended ++ rest) is;
         lines = lines_stay _ _ (λ r' cut end'. stays r.callers (local_with (caller_published p))
-            (local_with u.caller) r' cut end' e.grows) h.ended own h.lines;
+            (local_with (caller_seen u)) r' cut end' e.grows) h.ended own h.lines;
         errors = h.errors;
-        may = e.stands;
+        may = tt;
       } in
       subst (λ (t : CallerState P). Come t own') (sym noted.0)
       (subst (λ (o : List Line). Come (at.Unjudged u) o) (sym noted.1) come)
 
--- the fifth phase is made, however the call has ended
-pub phases_noted : {P : Type 0} (op : ℕ) (own : List Line) (p : Published P) (e : Ended P)
-    (s : CallerState P) (own' : List Line) → IsNoted op own e own' s
-    → phases_at (length own') s ≡ 5 * length own + 5
-phases_noted {P} op own p (GoesOn c end) s own' noted =
+  -- the client has come to the state after its unjudged call was judged once more, or was left
+  -- unjudged once more
+  pub again_come : (t : Seen P) (e : Ended P) (s : CallerState P) (own' : List Line)
+      → Come (at.Unjudged t) own → HasEndedSeen meaning r says t e → IsNoted op own e own' s
+      → Come s own'
+  again_come t (GoesOn c end) s own' h e noted =
+      let line : Line = record { op = op; end = end } in
+      let all : List Line = own ++ line ∷ [] in
+      let last : Made =
+      record { operation = op; reached = Has_seen (record_seen t) (cut_seen t) } in
+      let come : Come (at.Idle c) all = record {
+        caller = e.still.0;
+        number = e.still.1 ∙ h.number;
+        made = progress_along operations (5 * length own + 5) (5 * length all + 0) _ _
+            (omega (arith, length_push own line)) (sym e.progress) h.made;
+        ended = h.ended ++ last ∷ [];
+        calls = ap (λ (x : Progress). x.calls) e.progress ∙ h.calls
+            ∙ sym (append-nil (h.ended ++ last ∷ []));
+        lines = one_more_line _ h.ended own last line
+            (lines_stay _ _ (λ r' cut end'. stays r.callers (local_with (caller_seen t))
+            (local_with c) r' cut end' e.grows) h.ended own h.lines)
+            (record { operation = refl; end = e.says_of });
+        errors = no_more_errors own line h.errors (e.error op);
+        may = e.stands;
+      } in
+      subst (λ (z : CallerState P). Come z own') (sym noted.0)
+      (subst (λ (o : List Line). Come (at.Idle c) o) (sym noted.1) come)
+  again_come t (Halts c end) s own' h e noted =
+      let line : Line = record { op = op; end = end } in
+      let all : List Line = own ++ line ∷ [] in
+      let last : Made =
+      record { operation = op; reached = Has_seen (record_seen t) (cut_seen t) } in
+      let come : Come (at.Halted c) all = record {
+        caller = e.still.0;
+        number = e.still.1 ∙ h.number;
+        made = progress_along operations (5 * length own + 5) (5 * length all + 0) _ _
+            (omega (arith, length_push own line)) (sym e.progress) h.made;
+        ended = h.ended ++ last ∷ [];
+        calls = ap (λ (x : Progress). x.calls) e.progress ∙ h.calls
+            ∙ sym (append-nil (h.ended ++ last ∷ []));
+        lines = one_more_line _ h.ended own last line
+            (lines_stay _ _ (λ r' cut end'. stays r.callers (local_with (caller_seen t))
+            (local_with c) r' cut end' e.grows) h.ended own h.lines)
+            (record { operation = refl; end = e.says_of });
+        errors = record { before = own; line = line; is = refl; none = h.errors; error = e.error op };
+        may = e.stands;
+      } in
+      subst (λ (z : CallerState P). Come z own') (sym noted.0)
+      (subst (λ (o : List Line). Come (at.Halted c) o) (sym noted.1) come)
+  again_come t (WantsMemory u) s own' h e noted =
+      let with : Record → List ℕ → List Made =
+      λ x y. record { operation = op; reached = Has_seen x y } ∷ [] in
+      let is : with (record_seen t) (cut_seen t) ≡ with (record_seen u) (cut_seen u) =
+      ap (λ (x : Record). with x (cut_seen t)) (sym e.says_of.0)
+      ∙ ap (with (record_seen u)) (sym e.says_of.1) in
+      let come : Come (at.Unjudged u) own = record {
+        caller = e.still.0;
+        number = e.still.1 ∙ h.number;
+        made = progress_along operations (5 * length own + 5) (5 * length own + 5) _ _ refl
+            (sym e.progress) h.made;
+        ended = h.ended;
+        calls = ap (λ (x : Progress). x.calls) e.progress ∙ h.calls
+            ∙ ap (λ (rest : List Made). h.ended ++ rest) is;
+        lines = lines_stay _ _ (λ r' cut end'. stays r.callers (local_with (caller_seen t))
+            (local_with (caller_seen u)) r' cut end' e.grows) h.ended own h.lines;
+        errors = h.errors;
+        may = tt;
+      } in
+      subst (λ (z : CallerState P). Come z own') (sym noted.0)
+      (subst (λ (o : List Line). Come (at.Unjudged u) o) (sym noted.1) come)
+
+-- all five phases are made, however the call has ended
+pub phases_noted : {P : Type 0} (op : ℕ) (own : List Line) (e : Ended P) (s : CallerState P)
+    (own' : List Line) → IsNoted op own e own' s → phases_at (length own') s ≡ 5 * length own + 5
+phases_noted {P} op own (GoesOn c end) s own' noted =
     let long : length own' ≡ length own + 1 =
     ap (λ (o : List Line). length o) noted.1 ∙ length_push own (record { op = op; end = end }) in
     ap (λ (t : CallerState P). phases_at (length own') t) noted.0 ∙ omega (arith, long)
-phases_noted {P} op own p (Halts c end) s own' noted =
+phases_noted {P} op own (Halts c end) s own' noted =
     let long : length own' ≡ length own + 1 =
     ap (λ (o : List Line). length o) noted.1 ∙ length_push own (record { op = op; end = end }) in
     ap (λ (t : CallerState P). phases_at (length own') t) noted.0 ∙ omega (arith, long)
-phases_noted {P} op own p (WantsMemory u) s own' noted =
+phases_noted {P} op own (WantsMemory u) s own' noted =
     ap (λ (t : CallerState P). phases_at (length own') t) noted.0
     ∙ ap (λ (o : List Line). 5 * length o + 5) noted.1

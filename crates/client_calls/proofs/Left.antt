@@ -57,7 +57,7 @@ module _ {P : Type 0} (meaning : P → ℕ → ℕ → Meaning) (r : Rows P)
   left_standing (Halted c) h =
       record { within = λ other. h.may; between = λ live. absurd (false≢true (sym h.may ∙ live)) }
   left_standing (Unjudged u) h =
-      record { within = λ other. h.may; between = λ live. absurd (false≢true (sym h.may ∙ live)) }
+      record { within = λ other. refl; between = λ live. absurd (false≢true live) }
 
   -- where no memory was wanted, no line is an error and no call is under way, the caller is free
   pub left_free : (s : CallerState P) → HasCome meaning r says who operations s own

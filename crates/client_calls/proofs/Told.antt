@@ -20,12 +20,13 @@ use Rattle.drv_wrapper.specs.declared.viewed.Viewed.{Viewed}
 use Rattle.drv_wrapper.specs.States.{op_announced, announced_local, op_answered, reply_answered, answered_local, reply_viewed, view_viewed, viewed_local}
 use Rattle.drv_wrapper.specs.Telling.{told_after}
 use Rattle.enforcer.specs.declared.published_call.Published.{Published}
-use Rattle.enforcer.specs.States.{caller_published}
+use Rattle.enforcer.specs.declared.seen_call.Seen.{Seen}
+use Rattle.enforcer.specs.States.{caller_published, caller_seen}
 use Rattle.client_calls.specs.declared.stand.CallerState.{CallerState}
 use Rattle.client_calls.specs.declared.stand.CallerState.TheVariants as at
 use Rattle.client_calls.specs.declared.ended.Ended.{Ended}
 use Rattle.client_calls.specs.declared.ended.Ended.TheVariants.{GoesOn, Halts, WantsMemory}
-use Rattle.client_calls.specs.Endings.{local_ended, HasEnded, IsNoted}
+use Rattle.client_calls.specs.Endings.{local_ended, HasEnded, HasEndedSeen, IsNoted}
 use Rattle.client_calls.specs.Stands.{phases_at}
 use Rattle.client_calls.specs.Asking.{PassCount, HasCallLeft, count_after, ComesNoFurther}
 use Rattle.client_calls.specs.Course.{HasCome, HasTold, HasAskedFor, Counts}
@@ -164,44 +165,60 @@ module _ {P : Type 0} (meaning : P → ℕ → ℕ → Meaning) (r : Rows P)
       (told_as_seen (length own)
       (progress_of (local_with (caller_published p))) end.cut pairs t.told)
 
+  -- what is told of the calls of an ended call's caller is told in the state that its note says
+  noted_told : (e : Ended P) (s : CallerState P) (own' : List Line) → IsNoted op own e own' s
+      → (pairs : List (ℕ × ℕ))
+      → IsTold (phases_at (length own') s) (calls_in (local_ended e)) pairs
+      → HasTold s own' pairs
+  noted_told (GoesOn c x) s own' noted pairs told' =
+      let all : HasTold (at.Idle c) own' pairs = record {
+        told = subst (λ (z : CallerState P). IsTold (phases_at (length own') z)
+            (calls_in (local_with c)) pairs) noted.0 told';
+        last = tt;
+      } in
+      subst (λ (z : CallerState P). HasTold z own' pairs) (sym noted.0) all
+  noted_told (Halts c x) s own' noted pairs told' =
+      let all : HasTold (at.Halted c) own' pairs = record {
+        told = subst (λ (z : CallerState P). IsTold (phases_at (length own') z)
+            (calls_in (local_with c)) pairs) noted.0 told';
+        last = tt;
+      } in
+      subst (λ (z : CallerState P). HasTold z own' pairs) (sym noted.0) all
+  noted_told (WantsMemory u) s own' noted pairs told' =
+      let all : HasTold (at.Unjudged u) own' pairs = record {
+        told = subst (λ (z : CallerState P). IsTold (phases_at (length own') z)
+            (calls_in (local_with (caller_seen u))) pairs) noted.0 told';
+        last = tt;
+      } in
+      subst (λ (z : CallerState P). HasTold z own' pairs) (sym noted.0) all
+
   ended_told : (p : Published P) (e : Ended P) (s : CallerState P) (own' : List Line)
       (end : HasEnded meaning r says p e) → IsNoted op own e own' s
       → phases_at (length own') s ≡ 5 * length own + 5 → (pairs : List (ℕ × ℕ))
       → HasTold (at.Published p) own pairs → HasTold s own' pairs
-  ended_told p (GoesOn c x) s own' end noted phases pairs t =
-      let told' : IsTold (phases_at (length own') s) (calls_in (local_with c)) pairs =
-      subst (λ (k : ℕ). IsTold k (calls_in (local_with c)) pairs) (sym (phases ∙ omega arith))
-      (seen_told p (GoesOn c x) end pairs t) in
-      let all : HasTold (at.Idle c) own' pairs = record {
-        told = subst
-            (λ (z : CallerState P).
-            IsTold (phases_at (length own') z) (calls_in (local_with c)) pairs)
-            noted.0 told';
-        last = tt;
-      } in
-      subst (λ (z : CallerState P). HasTold z own' pairs) (sym noted.0) all
-  ended_told p (Halts c x) s own' end noted phases pairs t =
-      let told' : IsTold (phases_at (length own') s) (calls_in (local_with c)) pairs =
-      subst (λ (k : ℕ). IsTold k (calls_in (local_with c)) pairs) (sym (phases ∙ omega arith))
-      (seen_told p (Halts c x) end pairs t) in
-      let all : HasTold (at.Halted c) own' pairs = record {
-        told = subst
-            (λ (z : CallerState P).
-            IsTold (phases_at (length own') z) (calls_in (local_with c)) pairs)
-            noted.0 told';
-        last = tt;
-      } in
-      subst (λ (z : CallerState P). HasTold z own' pairs) (sym noted.0) all
-  ended_told p (WantsMemory u) s own' end noted phases pairs t =
-      let told' : IsTold (phases_at (length own') s) (calls_in (local_with u.caller)) pairs =
-      subst (λ (k : ℕ). IsTold k (calls_in (local_with u.caller)) pairs)
-      (sym (phases ∙ omega arith)) (seen_told p (WantsMemory u) end pairs t) in
-      let all : HasTold (at.Unjudged u) own' pairs = record {
-        told = subst (λ (z : CallerState P). IsTold (phases_at (length own') z)
-            (calls_in (local_with u.caller)) pairs) noted.0 told';
-        last = tt;
-      } in
-      subst (λ (z : CallerState P). HasTold z own' pairs) (sym noted.0) all
+  ended_told p e s own' end noted phases pairs t =
+      noted_told e s own' noted pairs
+      (subst (λ (k : ℕ). IsTold k (calls_in (local_ended e)) pairs) (sym (phases ∙ omega arith))
+      (seen_told p e end pairs t))
+
+  again_told : (t : Seen P) (e : Ended P) (s : CallerState P) (own' : List Line)
+      → HasEndedSeen meaning r says t e → IsNoted op own e own' s
+      → phases_at (length own') s ≡ 5 * length own + 5 → (pairs : List (ℕ × ℕ))
+      → HasTold (at.Unjudged t) own pairs → HasTold s own' pairs
+  again_told t e s own' end noted phases pairs h =
+      noted_told e s own' noted pairs
+      (told_along (5 * length own + 5) (phases_at (length own') s)
+      (progress_of (local_with (caller_seen t))) (progress_of (local_ended e)) pairs (sym phases)
+      (sym end.progress) h.told)
+
+  pub again_asked : (t : Seen P) (e : Ended P) (s : CallerState P) (own' : List Line)
+      → HasEndedSeen meaning r says t e → IsNoted op own e own' s
+      → phases_at (length own') s ≡ 5 * length own + 5 → Asked (at.Unjudged t)
+      → HasAskedFor made told s own'
+  again_asked t e s own' end noted phases asked = record {
+    made_is = omega (arith, asked.made_is, phases);
+    told_is = if_some_as told _ _ (again_told t e s own' end noted phases) asked.told_is;
+  }
 
   pub ended_asked : (p : Published P) (e : Ended P) (s : CallerState P) (own' : List Line)
       → HasEnded meaning r says p e → IsNoted op own e own' s

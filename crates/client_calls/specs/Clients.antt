@@ -1,6 +1,6 @@
 -- Clients at work: how many phases a client has made, whether its pass and its capacity suit its
 -- operations, and what stays as it works.
-use Rattle.std.specs.Prelude.{◌≡◌, ℕ, ◌+◌, ◌*◌, ◌≤◌, List, Option, length, vec_capacity}
+use Rattle.std.specs.Prelude.{◌≡◌, ℕ, ◌+◌, ◌*◌, ◌≤◌, List, Option, None, length, vec_capacity}
 use Rattle.book_base.specs.declared.call.Record.{Record}
 use Rattle.world_core.specs.Shape.{Meaning}
 use Rattle.world_core.specs.Local.{Local}
@@ -14,7 +14,7 @@ use Rattle.client_calls.specs.declared.stand.CallerState.TheVariants.{Halted, Un
 use Rattle.client_calls.specs.declared.client.Client.{Client}
 
 -- A caller in this state after this many lines has spent an allotment of phases: it has made all of
--- them, or halted within them.
+-- them, or within them it was halted or its call was left unjudged.
 abbrev pub Spent : {P : Type 0} → ℕ → ℕ → CallerState P → Type 0
 Spent allotment lines (Halted c) = 5 * lines ≤ allotment
 Spent allotment lines (Unjudged u) = 5 * lines + 5 ≤ allotment
@@ -25,7 +25,8 @@ module _ {P T E : Type 0} where
   abbrev pub phases_by : Client P T E → ℕ
   phases_by c = phases_at (length c.sheet.lines.items) c.stand
 
-  -- A client has spent an allotment: it has made all its phases, or halted within them.
+  -- A client has spent an allotment: it has made all its phases, or within them it was halted or its
+  -- call was left unjudged.
   abbrev pub HasSpent : ℕ → Client P T E → Type 0
   HasSpent allotment c = Spent allotment (length c.sheet.lines.items) c.stand
 
@@ -55,3 +56,15 @@ module _ {P T E : Type 0} where
     pub who : d.sheet.who ≡ c.sheet.who
     pub operations : d.sheet.operations.now ≡ c.sheet.operations.now
     pub lines : vec_capacity c.sheet.lines ≤ vec_capacity d.sheet.lines
+
+-- The client d is c without the book and the order that c keeps.
+pub record Releases {P T E : Type 0} (c d : Client P T E) : Type 0 where
+  pub stand : d.stand ≡ c.stand
+  pub pass : d.pass ≡ c.pass
+  pub who : d.sheet.who ≡ c.sheet.who
+  pub operations : d.sheet.operations.now ≡ c.sheet.operations.now
+  pub lines : d.sheet.lines.items ≡ c.sheet.lines.items
+  pub capacity : vec_capacity d.sheet.lines ≡ vec_capacity c.sheet.lines
+  pub ending : d.sheet.ending ≡ c.sheet.ending
+  pub no_book : d.sheet.gathered ≡ None
+  pub no_order : d.sheet.standing ≡ None

@@ -37,7 +37,6 @@ module _ {P : Type 0} where
   abbrev pub stance_left : CallerState P → Stance
   stance_left (Idle c) = stance_of c
   stance_left (Halted c) = stance_of c
-  stance_left (Unjudged u) = stance_of u.caller
   stance_left s = record (stance_of (caller_at s)) { live = false }
 
   -- The end of the line of a call whose caller is left in this state: pending without the call's

@@ -8,8 +8,8 @@ use Rattle.row_table.specs.declared.caller.Caller.{Caller}
 use Rattle.row_table.specs.declared.rows.Rows.{Rows}
 use Rattle.row_table.specs.Callers.{local_with, stance_of, IsFree, MayGet}
 use Rattle.drv_wrapper.specs.States.{caller_announced, op_announced, announced_local, caller_answered, op_answered, reply_answered, caller_viewed, reply_viewed, view_viewed}
-use Rattle.enforcer.specs.States.{caller_published, reply_published, view_published}
-use Rattle.client_calls.specs.Endings.{record_unjudged}
+use Rattle.enforcer.specs.States.{caller_published, reply_published, view_published, caller_seen, cut_seen}
+use Rattle.client_calls.specs.Endings.{record_seen}
 use Rattle.client_calls.specs.declared.stand.CallerState.{CallerState}
 use Rattle.client_calls.specs.declared.stand.CallerState.TheVariants.{Idle, Announced, Answered, Viewed, Published, Halted, Unjudged}
 
@@ -22,7 +22,7 @@ module _ {P : Type 0} where
   caller_at (Viewed v) = caller_viewed v
   caller_at (Published p) = caller_published p
   caller_at (Halted c) = c
-  caller_at (Unjudged u) = u.caller
+  caller_at (Unjudged s) = caller_seen s
 
   -- The local of the caller that is in this state.
   abbrev pub local_at_stand : CallerState P → Local
@@ -37,7 +37,7 @@ module _ {P : Type 0} where
   place_of (Viewed v) = 3
   place_of (Published p) = 4
   place_of (Halted c) = 0
-  place_of (Unjudged u) = 5
+  place_of (Unjudged s) = 5
 
   -- How many phases a caller in this state has made, after this many lines.
   abbrev pub phases_at : ℕ → CallerState P → ℕ
@@ -58,13 +58,13 @@ module _ {P : Type 0} where
     reached = Has_record (record { reply = reply_published p; view = view_published p });
   } ∷ []
   under_way op (Halted c) = []
-  under_way op (Unjudged u) =
-      record { operation = op; reached = Has_seen (record_unjudged u) u.seen } ∷ []
+  under_way op (Unjudged s) =
+      record { operation = op; reached = Has_seen (record_seen s) (cut_seen s) } ∷ []
 
   -- What a caller in this state needs for the next phase of its call with this operation. Between
   -- two calls the caller is free; an announced call has no object step yet; the program allows the
-  -- reply of an answered call; a view has a count for each caller. Where the caller can't go on, it
-  -- is halted.
+  -- reply of an answered call; a view has a count for each caller. A caller that can't go on after
+  -- an error is halted.
   abbrev pub MayGoOn : (P → ℕ → ℕ → Meaning) → Rows P → ℕ → CallerState P → Type 0
   MayGoOn meaning r op (Idle c) = IsFree c
   MayGoOn meaning r op (Announced a) = (op_announced a ≡ op) × (steps_now (announced_local a) ≡ [])
@@ -73,10 +73,10 @@ module _ {P : Type 0} where
   MayGoOn meaning r op (Viewed v) = length (view_viewed v) ≡ r.callers
   MayGoOn meaning r op (Published p) = Unit {0}
   MayGoOn meaning r op (Halted c) = (stance_of c).live ≡ false
-  MayGoOn meaning r op (Unjudged u) = (stance_of u.caller).live ≡ false
+  MayGoOn meaning r op (Unjudged s) = Unit {0}
 
-  -- The caller can make further phases: it isn't halted.
+  -- The caller can make further phases: it isn't halted, and no call of it is left unjudged.
   abbrev pub GoesOnFrom : CallerState P → Type 0
   GoesOnFrom (Halted c) = ⊥
-  GoesOnFrom (Unjudged u) = ⊥
+  GoesOnFrom (Unjudged s) = ⊥
   GoesOnFrom _ = Unit {0}

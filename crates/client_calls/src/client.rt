@@ -33,7 +33,7 @@ impl<'a, P: Program, T, E: Ending> Client<'a, P, T, E> {
     ghost use Rattle.client_calls.specs.Stands.{caller_at, GoesOnFrom};
     ghost use Rattle.client_calls.specs.Keeping.{KeepsStanding};
     ghost use Rattle.client_calls.specs.Finishing.{is_unjudged, KeepsAsked, IsLeftStanding, Leaves};
-    ghost use Rattle.client_calls.specs.Clients.{phases_by, HasSpent, IsUnderWay, HasPass, HasCapacity, IsSameClient};
+    ghost use Rattle.client_calls.specs.Clients.{phases_by, HasSpent, IsUnderWay, HasPass, HasCapacity, IsSameClient, Releases};
 
     /// Makes the next phase of the caller: it announces its next operation, asks, takes the view,
     /// publishes, or ends the call.
@@ -160,6 +160,80 @@ impl<'a, P: Program, T, E: Ending> Client<'a, P, T, E> {
             client = client.advance(shared, steps);
         }
         client
+    }
+
+    /// Judges a call that was left unjudged once more, by the book at its own seen cut. Where memory
+    /// is lacking again, it stays unjudged. A client in any other state stays as it is.
+    ///
+    /// It makes no phase: all five of the call are made.
+    pub fn judge_again<A: Asks<Program = P, Pass = T>, L: Ledger>(
+        self,
+        shared: &Shared<A, P>,
+        steps: &mut Steps<L>,
+    ) -> Client<'a, P, T, E>
+        // The client's caller belongs to the shared rows, and its lines and its local are exactly
+        // those of the phases that it has made.
+        requires course { IsUnderWay P.meaning shared.now.rows.now
+            (E.says (E.object self.sheet.ending)) self }
+        // The client's pass fits its caller. A pass that counts calls has counted the client's
+        // calls for which the object was asked, and allows one call for each operation.
+        requires pass { HasPass (A.fits shared.now.asks.now) A.count self }
+        // For each operation the caller has a row, and the list of lines has capacity for a line.
+        requires room { HasCapacity shared.now.rows.now self }
+        // The order that the client keeps stands in the book that it keeps, by the sequential
+        // object that its ending judges by.
+        requires standing { KeepsStanding (E.object self.sheet.ending) self.sheet }
+        // The client has made no more phases than five for each operation.
+        requires within { phases_by self ≤ 5 * length self.sheet.operations.now }
+        // The client has made as many phases as before.
+        ensures phases { phases_by result ≡ phases_by self.entry }
+        // The client's caller still belongs to the shared rows, and its lines and its local are
+        // exactly those of the phases that it has made: a line for the call, where it was judged,
+        // with the verdict at its seen cut.
+        ensures course { IsUnderWay P.meaning shared.now.rows.now
+            (E.says (E.object result.sheet.ending)) result }
+        // The client's pass still fits its caller. A pass that counts calls has counted the
+        // client's calls for which the object was asked, and allows one call for each operation.
+        ensures pass { HasPass (A.fits shared.now.asks.now) A.count result }
+        // For each operation the caller still has a row, and the list of lines has capacity for a
+        // line.
+        ensures room { HasCapacity shared.now.rows.now result }
+        // The order that the client keeps still stands in the book that it keeps, by the sequential
+        // object that its ending judges by.
+        ensures standing { KeepsStanding (E.object result.sheet.ending) result.sheet }
+        // The client has the same caller and operations, and at least the capacity for lines that
+        // it had.
+        ensures same { IsSameClient self.entry result }
+        // The sequential object of the client's ending stays.
+        ensures object { E.object result.sheet.ending ≡ E.object self.entry.sheet.ending }
+    {
+        let Client {
+            stand,
+            pass,
+            mut sheet,
+        } = self;
+        let stand = match stand {
+            CallerState::Unjudged(seen) => {
+                let op = sheet.next_op();
+                sheet.end_seen(shared.rows, seen, op, steps)
+            }
+            stand => stand,
+        };
+        Client { stand, pass, sheet }
+    }
+
+    /// Drops the book and the order that the client keeps, and with them the memory that they take.
+    pub fn release(self) -> Client<'a, P, T, E>
+        ensures { Releases self.entry result }
+    {
+        let Client {
+            stand,
+            pass,
+            mut sheet,
+        } = self;
+        sheet.gathered = None;
+        sheet.standing = None;
+        Client { stand, pass, sheet }
     }
 
     /// Ends the client's work. A call under way gets the last line, which is pending, or unchecked

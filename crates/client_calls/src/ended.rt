@@ -1,4 +1,4 @@
-use enforcer::Unjudged;
+use enforcer::Seen;
 use report_lines::LineEnd;
 use row_table::Caller;
 use world_core::Outside;
@@ -9,6 +9,7 @@ pub enum Ended<P = Outside> {
     GoesOn(Caller<P>, LineEnd),
     /// The call is an error, and its caller is halted.
     Halts(Caller<P>, LineEnd),
-    /// The call was left unjudged for want of memory, and its caller is halted.
-    WantsMemory(Unjudged<P>),
+    /// The call was left unjudged for want of memory: its caller is live, and the call, whose cut
+    /// is seen, may be judged again.
+    WantsMemory(Seen<P>),
 }

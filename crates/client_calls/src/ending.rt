@@ -28,7 +28,7 @@ pub trait Ending {
     ghost says: { SeqSpec → ℕ → Local → Record → List ℕ → LineEnd → Type 0 };
 
     /// Ends a call for which a cut was seen. The caller's progress stays. The caller is halted
-    /// after an error, and where memory is lacking.
+    /// after an error. Where memory is lacking, the seen call is given back.
     ///
     /// `gathered` is the book that the caller gathered last, and `standing` an order with the marks
     /// that stand in this book; each may be `None`. Afterwards they are what is kept for the
@@ -58,13 +58,13 @@ pub trait Ending {
         // The caller's local has each look, peek and cut that it had before.
         ensures grows { Grows (local_with (caller_seen seen)) (local_ended result) }
         // The caller is free for its next call after a call that is no error, and halted after an
-        // error and where memory was lacking.
+        // error.
         ensures stands { StandsAfter result }
         // The end of the line is an error where the call halts its caller, and is no error where
         // the caller is free for its next call. A call that is left unjudged has no line.
         ensures error { FitsError result }
         // The end of the line is as `says` has it for the record and the seen cut of the call.
-        // Where memory was lacking, the record and the cut are handed back.
+        // Where memory was lacking, the seen call that is given back has the same record and cut.
         ensures says { SaysOf (says (object self.new) rows.now.callers) (record_seen seen)
             (cut_seen seen) result }
         // The caller has peeked each word of the book that is kept afterwards, where one is kept.

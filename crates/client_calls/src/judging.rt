@@ -58,7 +58,7 @@ impl<S: SearchHints> Ending for Judging<'_, S> {
             steps,
         ) {
             Ok((caller, end)) => ended_by(caller, end),
-            Err(unjudged) => Ended::WantsMemory(unjudged),
+            Err(seen) => Ended::WantsMemory(seen),
         }
     }
 

@@ -1,8 +1,8 @@
 ghost use Rattle.std.specs.Prelude.{◌≡◌, ◌<◌, ◌≤◌, length, slice_index, vec_len, vec_capacity};
 ghost use Rattle.row_table.specs.Callers.{local_with, IsCallerOf};
 ghost use Rattle.row_gather.specs.Gathered.{IsGatheredBy};
-ghost use Rattle.enforcer.specs.States.{caller_published};
-ghost use Rattle.client_calls.specs.Endings.{Ends, IsNoted};
+ghost use Rattle.enforcer.specs.States.{caller_published, caller_seen};
+ghost use Rattle.client_calls.specs.Endings.{Ends, EndsSeen, IsNoted};
 ghost use Rattle.client_calls.specs.Stands.{local_at_stand};
 ghost use Rattle.enforcer.specs.Lines.{OrderStandsIn};
 
@@ -10,7 +10,7 @@ use crate::ended::Ended;
 use crate::ending::Ending;
 use crate::stand::CallerState;
 use book_base::OpWord;
-use enforcer::{Gathered, Published, seen};
+use enforcer::{Gathered, Published, Seen, seen};
 use frontier_check::KeptOrder;
 use report_lines::Line;
 use row_table::{Rows, Steps};
@@ -90,6 +90,32 @@ impl<'a, E: Ending> Sheet<'a, E> {
             self.new.standing }
     {
         let seen = seen(published, rows, steps);
+        self.end_seen(rows, seen, op, steps)
+    }
+
+    // Ends a call whose cut is seen: for the first time, or once more where it was left unjudged.
+    pub(crate) fn end_seen<P: Program, L: Ledger>(
+        &mut self,
+        rows: &Rows<P>,
+        seen: Seen<P>,
+        op: OpWord,
+        steps: &mut Steps<L>,
+    ) -> CallerState<P>
+        requires rows { IsCallerOf P.meaning rows.now (caller_seen seen) }
+        requires gathered { IsGatheredBy (local_with (caller_seen seen)) self.old.gathered }
+        requires standing { OrderStandsIn (E.object self.old.ending) self.old.gathered
+            self.old.standing }
+        requires room { vec_len self.old.lines < vec_capacity self.old.lines }
+        ensures ends { EndsSeen P.meaning rows.now (E.says (E.object self.new.ending)) seen op
+            self.old.lines.items self.new.lines.items result }
+        ensures room { vec_capacity self.old.lines ≤ vec_capacity self.new.lines }
+        ensures same { (self.new.who ≡ self.old.who)
+            × (self.new.operations.now ≡ self.old.operations.now) }
+        ensures object { E.object self.new.ending ≡ E.object self.old.ending }
+        ensures kept { IsGatheredBy (local_at_stand result) self.new.gathered }
+        ensures standing { OrderStandsIn (E.object self.new.ending) self.new.gathered
+            self.new.standing }
+    {
         let ended = self
             .ending
             .end(rows, seen, &mut self.gathered, &mut self.standing, steps);

@@ -1,6 +1,6 @@
 use book_base::Record;
 use drv_wrapper::{Announced, Answered, Viewed};
-use enforcer::{Published, Unjudged};
+use enforcer::{Published, Seen};
 use report_lines::LineEnd;
 use row_table::Caller;
 use world_core::Outside;
@@ -19,8 +19,9 @@ pub enum CallerState<P = Outside> {
     Published(Published<P>),
     /// The caller is halted after an error.
     Halted(Caller<P>),
-    /// The caller is halted, and its last call was left unjudged for want of memory.
-    Unjudged(Unjudged<P>),
+    /// The last call was left unjudged for want of memory. Its cut is seen, and the caller makes no
+    /// further phase before the call is judged.
+    Unjudged(Seen<P>),
 }
 
 impl<P> CallerState<P> {
@@ -30,7 +31,7 @@ impl<P> CallerState<P> {
     ghost use Rattle.client_calls.specs.Stands.{caller_at, GoesOnFrom};
     ghost use Rattle.client_calls.specs.Finishing.{end_at, is_unjudged, stance_left};
 
-    /// Whether the caller can make further phases: it isn't halted.
+    /// Whether the caller can make further phases: it isn't halted, and no call is left unjudged.
     pub fn goes_on(&self) -> bool
         ensures { IsTrue result ↔ GoesOnFrom self.now }
     {
@@ -48,7 +49,8 @@ impl<P> CallerState<P> {
     }
 
     /// The caller, with its local as it is, and the end of the line of its call under way, where it
-    /// leaves one. A caller with a call under way is halted, and any other keeps its stance.
+    /// leaves one. A caller with a call under way, or with an unjudged one, is halted, and any other
+    /// keeps its stance.
     pub fn stop(self) -> (Caller<P>, Option<LineEnd>)
         // The caller keeps its number and its local, and still belongs to its rows.
         ensures caller { IsSame (caller_at self) result.0 }
@@ -77,15 +79,7 @@ impl<P> CallerState<P> {
                     Some(LineEnd::Unchecked(Record { reply, view })),
                 )
             }
-            CallerState::Unjudged(unjudged) => {
-                let Unjudged {
-                    caller,
-                    reply: _,
-                    view: _,
-                    seen: _,
-                } = unjudged;
-                (caller, None)
-            }
+            CallerState::Unjudged(seen) => (seen.stop(), None),
         }
     }
 }

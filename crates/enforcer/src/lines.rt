@@ -1,4 +1,4 @@
-ghost use Rattle.std.specs.Prelude.{◌≡◌, ◌≤◌, false, None, Some, IfOk, IfErr, IfSome, IfNone};
+ghost use Rattle.std.specs.Prelude.{◌≡◌, ◌≤◌, None, Some, IfOk, IfErr, IfSome, IfNone};
 ghost use Rattle.book_base.specs.Order.{IsLegalOrder, HasLegalOrder};
 ghost use Rattle.world_core.specs.Local.{IsIdle};
 ghost use Rattle.world_core.specs.Calls.{IsGathered};
@@ -8,13 +8,11 @@ ghost use Rattle.row_gather.specs.Peeks.{OnlyPeeks};
 ghost use Rattle.row_gather.specs.Exact.{IsTheBookAt};
 ghost use Rattle.row_gather.specs.Gathered.{IsGatheredBy, TicksForNew};
 ghost use Rattle.frontier_check.specs.Standing.{IsStandingFor};
-ghost use Rattle.drv_wrapper.specs.Stands.{ready};
 ghost use Rattle.enforcer.specs.Recorded.{HoldsOwn};
 ghost use Rattle.enforcer.specs.States.{caller_seen, reply_seen, view_seen, cut_seen};
 ghost use Rattle.enforcer.specs.Lines.{OrderStandsIn, IsGatheredWithin, IsVerdictOn, stance_after_line, IsKeptAfterLine};
 
 use crate::judging::{gather, halted};
-use crate::outcome::Unjudged;
 use crate::seen_call::Seen;
 use book_base::{Cut, NoMemory, Record};
 use frontier_check::{KeptOrder, check_after};
@@ -96,8 +94,8 @@ pub(crate) fn decide_after<P: Program, S: SearchHints, L: Ledger>(
 /// Judges a call as [`judge`](crate::judge) does, for a caller that keeps the line of the call and
 /// its last order with marks: it returns the end of the line (Castañeda and Rodríguez 2023).
 ///
-/// After `Delivered` the caller is live and idle, and after `Error` it is halted. `Unjudged` comes
-/// for want of memory alone.
+/// After `Delivered` the caller is live and idle, and after `Error` it is halted. Where memory is
+/// lacking, the call isn't judged: the seen call is given back, and it may be judged again.
 ///
 /// `gathered` is the book that this caller has gathered before, and `standing` an order with its
 /// marks in that book, for this object; both are `None` before the caller's first call. The new
@@ -105,8 +103,9 @@ pub(crate) fn decide_after<P: Program, S: SearchHints, L: Ledger>(
 /// seen cut contains the cut of the kept book, as it does where both are cuts of one caller. The
 /// search begins after the last mark up to which the order's places still follow one another in the
 /// grown book. A call mostly costs no more than what is new; no clause says how long a search
-/// takes. After `Delivered` both are set for the caller's next call. After `Error` and `Unjudged`
-/// `gathered` is `None`, and without a book a kept order is not used, so it needn't be removed.
+/// takes. After `Delivered` both are set for the caller's next call. After `Error`, and where the
+/// call isn't judged, `gathered` is `None`, and without a book a kept order is not used, so it
+/// needn't be removed.
 pub fn judge_line<P: Program, S: SearchHints, L: Ledger>(
     alloc: Global,
     object: &S,
@@ -115,7 +114,7 @@ pub fn judge_line<P: Program, S: SearchHints, L: Ledger>(
     gathered: &mut Option<Gathered>,
     standing: &mut Option<KeptOrder>,
     steps: &mut Steps<L>,
-) -> Result<(Caller<P>, LineEnd), Unjudged<P>>
+) -> Result<(Caller<P>, LineEnd), Seen<P>>
     // The caller of the seen call belongs to these rows.
     requires rows { IsCallerOf P.meaning rows.now (caller_seen seen) }
     // Where a book is kept, the caller has gathered it at the cut that is kept with it, by peeking
@@ -164,22 +163,16 @@ pub fn judge_line<P: Program, S: SearchHints, L: Ledger>(
         TicksForNew rows.now.callers gathered.old g steps.old steps.new)) }
     // The caller of an unjudged call still belongs to these rows, with the same number.
     ensures unjudged_caller { IfErr result
-        (λ u. IsStill P.meaning rows.now (caller_seen seen) u.caller) }
+        (λ s. IsStill P.meaning rows.now (caller_seen seen) (caller_seen s)) }
     // The caller of an unjudged call has made peeks and no other event, and the counter of steps
     // has risen by 1 for each of them.
     ensures unjudged_peeks { IfErr result
-        (λ u. OnlyPeeks (caller_seen seen) u.caller steps.old steps.new) }
-    // The caller of an unjudged call is halted.
-    ensures unjudged_stands { IfErr result
-        (λ u. stance_of u.caller ≡ record ready { live = false }) }
+        (λ s. OnlyPeeks (caller_seen seen) (caller_seen s) steps.old steps.new) }
     // The reply, the view and the cut of an unjudged call are those of the seen call.
-    ensures unjudged_record { IfErr result
-        (λ u. (u.reply ≡ reply_seen seen) × (u.view ≡ view_seen seen) × (u.seen ≡ cut_seen seen)) }
-    // The count for the caller of an unjudged call in its seen cut is the number of records that
-    // this caller has published.
-    ensures unjudged_own { IfErr result (λ u. HoldsOwn u.seen u.caller) }
+    ensures unjudged_record { IfErr result (λ s. (reply_seen s ≡ reply_seen seen)
+        × (view_seen s ≡ view_seen seen) × (cut_seen s ≡ cut_seen seen)) }
     // After an unjudged call no book is kept.
-    ensures unjudged_kept { IfErr result (λ u. gathered.new ≡ None) }
+    ensures unjudged_kept { IfErr result (λ s. gathered.new ≡ None) }
     // The counter of steps has not fallen.
     ensures ticks { steps.old ≤ steps.new }
 {
@@ -192,29 +185,25 @@ pub fn judge_line<P: Program, S: SearchHints, L: Ledger>(
         standing.take(),
         steps,
     );
+    let (found, stands) = match decided {
+        Ok(decided) => decided,
+        Err(NoMemory) => return Err(seen),
+    };
     let Seen {
         caller,
         reply,
         view,
         cut: seen,
     } = seen;
-    match decided {
-        Ok((found, stands)) => match stands {
-            Some(stands) => {
-                *gathered = Some(found);
-                *standing = Some(stands);
-                Ok((caller, LineEnd::Delivered(Record { reply, view }, seen)))
-            }
-            None => Ok((
-                halted(rows, caller),
-                LineEnd::Error(Record { reply, view }, seen),
-            )),
-        },
-        Err(NoMemory) => Err(Unjudged {
-            caller: halted(rows, caller),
-            reply,
-            view,
-            seen,
-        }),
+    match stands {
+        Some(stands) => {
+            *gathered = Some(found);
+            *standing = Some(stands);
+            Ok((caller, LineEnd::Delivered(Record { reply, view }, seen)))
+        }
+        None => Ok((
+            halted(rows, caller),
+            LineEnd::Error(Record { reply, view }, seen),
+        )),
     }
 }

@@ -86,7 +86,7 @@ returns-clause-phase g c =
           let ends = w.end_call-stand.ensures.ends in
           let after : phases_at (length sheet.lines.items) w.end_call-stand.result
           ≡ 5 * length own + 5 =
-          phases_noted c.next_op-op.result own w.in-Published.published ends.0
+          phases_noted c.next_op-op.result own ends.0
           w.end_call-stand.result sheet.lines.items ends.2 in
           phases_with s _ h _ w.stand-is w.sheet-is _
           (omega (arith, before _ w.in-Published.is, after))
@@ -270,7 +270,7 @@ returns-clause-pass g c =
             (subst
             (λ (o : ℕ). IsNoted o old.lines.items ends.0 sheet.lines.items w.end_call-stand.result)
             c.next_op-op.ensures ends.2)
-            (phases_noted c.next_op-op.result old.lines.items w.in-Published.published ends.0
+            (phases_noted c.next_op-op.result old.lines.items ends.0
             w.end_call-stand.result sheet.lines.items ends.2)
             asked)
             (counted_at (count self.pass) old.operations.now old.lines.items _ _ w.in-Published.is

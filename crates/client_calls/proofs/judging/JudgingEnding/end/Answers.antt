@@ -50,7 +50,7 @@ returns-in-Ok-clause-kept g c =
 
 pub returns-in-Err-clause-kept : goal.returns-in-Err-clause-kept
 returns-in-Err-clause-kept g c =
-    subst (λ (o : Option Gathered). IsGatheredBy (local_with c.in-Err.unjudged.caller) o)
+    subst (λ (o : Option Gathered). IsGatheredBy (local_with (caller_seen c.in-Err.seen)) o)
     (sym c.in-Err.ensures.unjudged_kept) tt
 
 pub returns-in-Ok-clause-error : goal.returns-in-Ok-clause-error
