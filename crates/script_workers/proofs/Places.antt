@@ -1,5 +1,5 @@
 -- Lists with an item for each of n callers, as they grow and shrink at their end.
-use Rattle.std.proofs.Common.{◌≡◌, ◌∙◌, sym, subst, ap, refl, ℕ, zero, suc, ◌+◌, ◌<◌, inl, inr, List, [], ◌∷◌, ◌++◌, Some, length, take, drop, slice_get, arith}
+use Rattle.std.proofs.Common.{◌≡◌, ◌≢◌, ◌∙◌, sym, subst, ap, refl, ℕ, zero, suc, ◌+◌, ◌<◌, ◌⊎◌, inl, inr, List, [], ◌∷◌, ◌++◌, Some, length, take, drop, set, slice_get, arith}
 use Rattle.std.specs.Prelude.{Option, option_to_list}
 use Rattle.std.specs.List.{All, AllZip}
 use Rattle.std.proofs.lemmas.List.Elements.{All-nil, All-cons}
@@ -119,3 +119,37 @@ pub item_at : {X : Type 0} (xs : List X) (i : ℕ) → i < length xs → (x : X)
 item_at [] i low = absurd (omega (arith, low))
 item_at (x ∷ xs) zero low = (x, refl)
 item_at (x ∷ xs) (suc i) low = item_at xs i (omega (arith, low))
+
+-- an element of a list in which one item was set is this item, or an old one at another place
+pub set_cases : {X : Type 0} (xs : List X) (p j : ℕ) (y x : X) → slice_get (set xs p y) j ≡ Some x
+    → ((j ≡ p) × (x ≡ y)) ⊎ ((j ≢ p) × (slice_get xs j ≡ Some x))
+set_cases [] p j y x there = absurd (none-some x there)
+set_cases (z ∷ xs) zero zero y x there = inl (refl, sym (same_Some y x there))
+set_cases (z ∷ xs) zero (suc j) y x there = inr ((λ same. omega (arith, same)), there)
+set_cases (z ∷ xs) (suc p) zero y x there = inr ((λ same. omega (arith, same)), there)
+set_cases (z ∷ xs) (suc p) (suc j) y x there =
+    elim (set_cases xs p j y x there) [
+      | inl here ↦ inl (ap suc here.0, here.1)
+      | inr other ↦ inr ((λ same. other.0 (omega (arith, same))), other.1)
+    ]
+
+-- what is so of the item at each place is so of each where one item was set to an item of which it
+-- is so
+pub set_each : {X : Type 0} (Is : ℕ → X → Type 0) (xs : List X) (place : ℕ) (y : X) → Is place y
+    → ((j : ℕ) (x : X) → j ≢ place → slice_get xs j ≡ Some x → Is j x)
+    → AreInOrder Is (set xs place y)
+set_each Is xs place y new old j x gets =
+    elim (set_cases xs place j y x gets) [
+      | inl mine ↦
+          subst (λ v. Is j v) (sym mine.1) (subst (λ (k : ℕ). Is k y) (sym mine.0) new)
+      | inr other ↦ old j x other.0 other.1
+    ]
+
+-- items of the callers from the last one down are such items where one of them was changed and is
+-- still that of each caller that it was of
+pub set_down : {X : Type 0} (n place : ℕ) (Is : ℕ → X → Type 0) (xs : List X) (x y : X)
+    → slice_get xs place ≡ Some x → ((i : ℕ) → Is i x → Is i y) → AreDownFrom n Is xs
+    → AreDownFrom n Is (set xs place y)
+set_down n place Is xs x y there still all i j z at gets =
+    set_each (λ j z. (i : ℕ) → i + j + 1 ≡ n → Is i z) xs place y
+    (λ i at. still i (all i place x at there)) (λ j z _ gets i at. all i j z at gets) j z gets i at

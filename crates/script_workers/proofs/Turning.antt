@@ -1,5 +1,5 @@
 -- Turns, one by one.
-use Rattle.std.proofs.Common.{◌≡◌, ◌≢◌, ◌∙◌, sym, subst, ap, refl, inl, inr, ℕ, zero, suc, ◌+◌, ◌<◌, ◌⊎◌, ◌==◌, min, List, [], ◌∷◌, Some, length, take, set, get_or, slice_get, slice_index, arith}
+use Rattle.std.proofs.Common.{◌≡◌, ◌≢◌, ◌∙◌, sym, subst, ap, inl, inr, ℕ, zero, suc, ◌+◌, ◌<◌, ◌⊎◌, ◌==◌, min, List, [], ◌∷◌, Some, length, take, set, get_or, slice_get, slice_index, arith}
 use Rattle.std.specs.Prelude.{Option}
 use Rattle.std.specs.List.{AllByRecursion}
 use Rattle.std.proofs.lemmas.Bool.{eq-eqb, ne_eqb}
@@ -9,7 +9,8 @@ use Rattle.book_base.specs.SeqSpec.{SeqSpec}
 use Rattle.report_lines.specs.Allotments.{turns_of}
 use Rattle.client_scripts.specs.Plans.{Plan}
 use Rattle.script_workers.specs.Places.{AreDownFrom}
-use Rattle.std.proofs.lemmas.Option.{none-some, same_Some}
+use Rattle.script_workers.proofs.Places.{set_cases}
+use Rattle.std.proofs.lemmas.Option.{same_Some}
 use Rattle.world_core.specs.Shape.{Meaning}
 use Rattle.row_table.specs.declared.rows.Rows.{Rows}
 use Rattle.client_calls.specs.declared.stand.CallerState.{CallerState}
@@ -146,19 +147,6 @@ more_other : (turns : List ℕ) (k i : ℕ) → k < length turns → get_or turn
 more_other turns k i low other =
     count_by_more_no (λ (turn : ℕ). turn == i) turns k 0 low (ne_eqb (get_or turns k 0) i other)
 
--- an element of a list in which one item was set is this item, or an old one at another place
-set_cases : {X : Type 0} (xs : List X) (p j : ℕ) (y x : X) → slice_get (set xs p y) j ≡ Some x
-    → ((j ≡ p) × (x ≡ y)) ⊎ ((j ≢ p) × (slice_get xs j ≡ Some x))
-set_cases [] p j y x there = absurd (none-some x there)
-set_cases (z ∷ xs) zero zero y x there = inl (refl, sym (same_Some y x there))
-set_cases (z ∷ xs) zero (suc j) y x there = inr ((λ same. omega (arith, same)), there)
-set_cases (z ∷ xs) (suc p) zero y x there = inr ((λ same. omega (arith, same)), there)
-set_cases (z ∷ xs) (suc p) (suc j) y x there =
-    elim (set_cases xs p j y x there) [
-      | inl here ↦ inl (ap suc here.0, here.1)
-      | inr other ↦ inr ((λ same. other.0 (omega (arith, same))), other.1)
-    ]
-
 module _ {P T E : Type 0} (meaning : P → ℕ → ℕ → Meaning) (r : Rows P) (says : Says)
     (object : E → SeqSpec) (fits : Fits T) (count : T → Option PassCount) (course : RunCourse) where
   abbrev Are : ℕ → List ℕ → List (Worker P T E) → Type 0
@@ -189,6 +177,14 @@ module _ {P T E : Type 0} (meaning : P → ℕ → ℕ → Meaning) (r : Rows P)
             (sym (more_other turns k i low unnamed)) (all i j x here other.1)
       ]
 
+-- how many phases a caller is given by turns
+pub given_by_turns : (plan : Plan) (i : ℕ) → i < length plan.operations
+    → slice_index (replay_allotments plan) i
+    ≡ min (slice_index (run_allotments plan) i) (turns_of plan.turns i)
+given_by_turns plan i low = get_or-map-range_with_len
+    (λ i. min (slice_index (run_allotments plan) i) (turns_of plan.turns i)) 0
+    (length plan.operations) i i 0 low (omega arith)
+
 -- after all turns each worker has spent its allotment
 pub turned_spent : {P T E : Type 0} (meaning : P → ℕ → ℕ → Meaning) (r : Rows P) (says : Says)
     (object : E → SeqSpec) (fits : Fits T) (count : T → Option PassCount) (plan : Plan)
@@ -196,11 +192,6 @@ pub turned_spent : {P T E : Type 0} (meaning : P → ℕ → ℕ → Meaning) (r
     says object fits count (course_of plan (run_allotments plan) judged) i (turns_of plan.turns i) w
     → IsSpent meaning r says object fits count (course_of plan (replay_allotments plan) judged) i w
 turned_spent meaning r says object fits count plan judged i w low h =
-    let given : slice_index (replay_allotments plan) i
-    ≡ min (slice_index (run_allotments plan) i) (turns_of plan.turns i) =
-    get_or-map-range_with_len
-    (λ i. min (slice_index (run_allotments plan) i) (turns_of plan.turns i)) 0
-    (length plan.operations) i i 0 low (omega arith) in
     record {
       client = h.client;
       here = h.here;
@@ -210,5 +201,5 @@ turned_spent meaning r says object fits count plan judged i w low h =
         operations = h.of.operations;
         judges = h.of.judges;
       };
-      spent = subst (λ (m : ℕ). HasSpent m h.client) (sym given) h.spent;
+      spent = subst (λ (m : ℕ). HasSpent m h.client) (sym (given_by_turns plan i low)) h.spent;
     }

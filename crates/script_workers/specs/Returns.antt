@@ -24,8 +24,8 @@ use Rattle.script_workers.specs.Starts.{RunCourse, IsClientOf}
 use Rattle.script_workers.specs.declared.worker.Worker.{Worker}
 
 module _ {P T E : Type 0} where
-  -- The worker is that of caller i, and its client has made all phases of its allotment, or was
-  -- halted within it.
+  -- The worker is that of caller i, and its client has made all phases of its allotment, or within
+  -- it the client was halted or its call was left unjudged.
   pub record IsSpent (meaning : P → ℕ → ℕ → Meaning) (r : Rows P) (says : Says)
       (object : E → SeqSpec) (fits : Fits T) (count : T → Option PassCount) (course : RunCourse)
       (i : ℕ) (w : Worker P T E) : Type 0 where
@@ -33,6 +33,13 @@ module _ {P T E : Type 0} where
     pub here : w.client ≡ Some client
     pub of : IsClientOf meaning r says object fits count course i client
     pub spent : HasSpent (slice_index course.allotments i) client
+
+  -- The worker has its client, which keeps no book and no order.
+  pub record KeepsNothing (w : Worker P T E) : Type 0 where
+    pub client : Client P T E
+    pub here : w.client ≡ Some client
+    pub no_book : client.sheet.gathered ≡ None
+    pub no_order : client.sheet.standing ≡ None
 
 -- What the pass of a caller counts after p phases of the caller: how often the object was asked in
 -- these phases. Where the pass tells calls, it tells an operation and a reply for each of them.
