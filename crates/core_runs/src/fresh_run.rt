@@ -27,7 +27,8 @@ use std::thread::Threads;
 /// rows is opened for the run, with this cap: how many calls each caller may make.
 ///
 /// Each caller has its pass, with which the object wasn't asked yet. `NoMemory` is answered before
-/// the first call, or where a call was left unjudged for want of memory.
+/// the first call, or where memory was lacking for a second judgement of a call too, which is made
+/// when all callers have ended.
 pub fn run_core_fresh<R: Threads + Sync, O: CoreObject + Sync>(
     rt: &R,
     alloc: Global,

@@ -30,7 +30,8 @@ use std::thread::Threads;
 /// the object steps that their callers have made, and each caller has made a prefix of its phases.
 /// Where a report is answered, each caller has made all of its phases, and one that stopped between
 /// two calls, or made all of its calls, is free for its next call. `NoMemory` is answered before
-/// the first call, or where a call was left unjudged for want of memory.
+/// the first call, or where memory was lacking for a second judgement of a call too, which is made
+/// when all callers have ended.
 pub fn run_core<R: Threads + Sync, O: CoreObject + Sync>(
     rt: &R,
     alloc: Global,

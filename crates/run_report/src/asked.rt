@@ -11,7 +11,7 @@ use client_calls::{Asks, Judging, Shared};
 use client_scripts::Script;
 use reports::Report;
 use row_table::Bench;
-use script_workers::{Pace, end_all, run_workers, start_all};
+use script_workers::{Pace, end_all, run_workers, settle_all, start_all};
 use search_hints::SearchHints;
 use std::alloc::Global;
 use std::thread::Threads;
@@ -25,7 +25,8 @@ use world_core::Program;
 /// caller has made a prefix of its phases: all of them where a report is answered, but for those
 /// after an error. Where a report is answered, each caller without an error that stopped between
 /// two calls, or made all of them, is free for its next call. `NoMemory` is answered before the
-/// first call, or where a call was left unjudged for want of memory.
+/// first call, or where memory was lacking for a second judgement of a call too, which is made when
+/// all callers have ended.
 pub fn run_asked<
     R: Threads + Sync,
     P: Program + Send + Sync,
@@ -81,6 +82,7 @@ pub fn run_asked<
     let (mut workers, lines) = start_all(alloc, shared, bench, passes, script, &ending)?;
     run_workers(rt, shared, &mut workers);
     let pace = Pace::Alone;
+    settle_all(shared, script, &ending, pace, &mut workers);
     let lines = end_all(shared, script, &ending, pace, workers, lines, bench, passes)?;
     let report = report_of(shared, bench, sequential, passes, script, pace, lines);
     Ok(report)

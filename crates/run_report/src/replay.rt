@@ -15,7 +15,7 @@ use client_scripts::Script;
 use drv_wrapper::BlackBox;
 use reports::Report;
 use row_table::{Bench, Rows};
-use script_workers::{Pace, end_all, start_all, take_turns};
+use script_workers::{Pace, end_all, settle_all, start_all, take_turns};
 use search_hints::SearchHints;
 use std::alloc::Global;
 use std::marker::Brand;
@@ -31,7 +31,8 @@ use world_core::{Outside, Program};
 /// caller has made a prefix of its phases: all of them where a report is answered, but for those
 /// after an error. Where a report is answered, each caller without an error that stopped between
 /// two calls, or made all of them, is free for its next call. `NoMemory` is answered before the
-/// first call, or where a call was left unjudged for want of memory.
+/// first call, or where memory was lacking for a second judgement of a call too, which is made when
+/// all callers have ended.
 pub fn replay_over<S: SearchHints, B: BlackBox>(
     alloc: Global,
     rows: &Rows,
@@ -86,6 +87,7 @@ pub fn replay_over<S: SearchHints, B: BlackBox>(
     let (mut workers, lines) = start_all(alloc, &shared, bench, passes, script, &ending)?;
     take_turns::<_, _, _, _, Brand>(&shared, script, &ending, &mut workers, Blank::new(1));
     let pace = Pace::ByTurns;
+    settle_all(&shared, script, &ending, pace, &mut workers);
     let lines = end_all(
         &shared, script, &ending, pace, workers, lines, bench, passes,
     )?;

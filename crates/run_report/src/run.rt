@@ -28,7 +28,8 @@ use world_core::{Outside, Program};
 /// caller has made a prefix of its phases: all of them where a report is answered, but for those
 /// after an error. Where a report is answered, each caller without an error that stopped between
 /// two calls, or made all of them, is free for its next call. `NoMemory` is answered before the
-/// first call, or where a call was left unjudged for want of memory.
+/// first call, or where memory was lacking for a second judgement of a call too, which is made when
+/// all callers have ended.
 pub fn run_over<R: Threads + Sync, S: SearchHints + Sync, B: BlackBox + Sync>(
     rt: &R,
     alloc: Global,

@@ -30,12 +30,12 @@ run_workers-requires g c κs = (
   ),
 )
 
-pub end_all-requires-clause-all : goal.end_all-requires-clause-all
-end_all-requires-clause-all g c =
+pub settle_all-requires-clause-all : goal.settle_all-requires-clause-all
+settle_all-requires-clause-all g c =
     omega (arith, AllZip-long _ _ _ c.run_workers.ensures, c.in_ok-workers.ensures.all)
 
-pub end_all-requires-clause-workers : goal.end_all-requires-clause-workers
-end_all-requires-clause-workers g c =
+pub settle_all-requires-clause-workers : goal.settle_all-requires-clause-workers
+settle_all-requires-clause-workers g c =
     down_across _ _ _ _ _ _ (λ i w d start ran. start_spent _ _ _ _ _ _ _ i w d start ran)
     c.in_ok-workers.ensures.workers c.run_workers.ensures
 
