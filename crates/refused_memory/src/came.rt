@@ -8,7 +8,8 @@ pub enum Came {
     Nothing,
     /// The work has the answer that it has with ample memory.
     Ordinary,
-    /// Memory was lacking: nothing was written, and the bench holds all callers.
+    /// Memory was lacking: nothing was written, and the bench holds all callers. Where the passes
+    /// are seen, no call was made.
     NoMemory,
     /// A call was made, and not judged for want of memory: its reply, its view and its seen cut are
     /// answered, and its caller is halted.

@@ -56,7 +56,7 @@ const SET_BOOK: &[u8] = b"setbook 2\n\
       end\n";
 
 /// The script of two callers of a queue: one enqueues 5, and the other dequeues.
-pub const SCRIPT: &[u8] = b"script 2\n\
+const SCRIPT: &[u8] = b"script 2\n\
       object queue\n\
       callers 2\n\
       calls 1 1\n\
@@ -313,7 +313,7 @@ fn tells_two_delivered(alloc: Global, text: &[u8]) -> bool {
     }
 }
 
-/// Whether the counts of a report are those of two calls that are both delivered.
-pub fn is_two_delivered(counts: Counts) -> bool {
+// Whether the counts of a report are those of two calls that are both delivered.
+fn is_two_delivered(counts: Counts) -> bool {
     counts.calls == 2 && counts.delivered == 2 && counts.errors == 0
 }

@@ -3,20 +3,34 @@ ghost use Rattle.script_workers.specs.Places.{AreInOrder};
 ghost use Rattle.run_report.specs.Passes.{IsOwnPass, AreUnusedPasses};
 
 use crate::came::Came;
-use crate::command::{SCRIPT, is_two_delivered};
 use anyhow::{Result, anyhow};
 use book_base::{MAX_CALLS, NoMemory};
 use client_scripts::{Script, read_script};
 use drv_wrapper::{BlackBox, ObjectPass};
+use faulty_objects::Lossy;
 use kind_search::SearchedKind;
-use lawful_objects::{LogBox, Plain};
+use lawful_objects::LogBox;
+use reports::Counts;
 use row_table::{Bench, Rows};
 use run_report::run_over;
 use std::alloc::Global;
 use std::thread::Threads;
 use world_core::Outside;
 
-/// A script that is run over the lawful log object, in a table of rows of its own.
+/// The script of two callers of a set that loses each second value: one puts 1 and 2 in and asks
+/// for 2, and the other asks for 1.
+const LOST: &[u8] = b"script 2\n\
+      object set\n\
+      callers 2\n\
+      calls 3 1\n\
+      0 0 add 1\n\
+      0 1 add 2\n\
+      0 2 has 2\n\
+      1 0 has 1\n\
+      turns\n\
+      end\n";
+
+/// A script that is run over an object that loses each second put, in a table of rows of its own.
 #[derive(Drop)]
 pub struct Ran {
     script: Script,
@@ -24,9 +38,9 @@ pub struct Ran {
 }
 
 impl Ran {
-    /// The script of an enqueue and a dequeue by two callers, before its run.
+    /// The script of the set, before its run.
     pub fn new(alloc: Global) -> Result<Ran> {
-        let script = read_script(alloc, SCRIPT).map_err(|_| anyhow!("the script can't be read"))?;
+        let script = read_script(alloc, LOST).map_err(|_| anyhow!("the script can't be read"))?;
         Ok(Ran {
             script,
             came: Came::Nothing,
@@ -44,9 +58,9 @@ impl Ran {
     }
 }
 
-// Runs a script over a log object, and answers the outcome.
+// Runs a script over an object that loses each second put, and answers the outcome.
 fn run_box<R: Threads + Sync>(rt: &R, alloc: Global, script: &Script) -> Result<Came, NoMemory> {
-    let machine = Plain {
+    let machine = Lossy {
         object: script.kind(),
     };
     let (object, mut passes) = LogBox::open(alloc, machine, script.callers(), MAX_CALLS)?;
@@ -56,7 +70,9 @@ fn run_box<R: Threads + Sync>(rt: &R, alloc: Global, script: &Script) -> Result<
 }
 
 // Runs a script over an object, and answers the outcome, which is wrong where a caller isn't back
-// on the bench or a pass isn't at its caller's place in the list.
+// on the bench or a pass isn't at its caller's place in the list. It is also wrong where memory was
+// lacking after a call was made: one refusal leaves no call without a judgement, since the call is
+// judged once more, and so the lost value is always found.
 fn run_beside<R: Threads + Sync, B: BlackBox + Sync>(
     rt: &R,
     alloc: Global,
@@ -80,10 +96,21 @@ where
     // The outcome is answered even where no memory is left for the words of the closed table.
     let _world = rows.close(alloc, bench);
     Ok(match report {
-        Ok(report) if is_whole && is_two_delivered(report.counts()) => Came::Ordinary,
-        Err(NoMemory) if is_whole => Came::NoMemory,
+        Ok(report) if is_whole && tells_of_the_lost_value(report.counts()) => Came::Ordinary,
+        Err(NoMemory) if is_whole && were_never_asked(passes) => Came::NoMemory,
         _ => Came::Wrong,
     })
+}
+
+// Whether the counts of a report are those of all calls, and an error is among these: the second
+// caller's call may be another one.
+fn tells_of_the_lost_value(counts: Counts) -> bool {
+    counts.calls == 4 && counts.errors > 0
+}
+
+// Whether no call was made with any pass.
+fn were_never_asked<P: ObjectPass>(passes: &[P]) -> bool {
+    passes.iter().all(|pass| pass.made() == 0)
 }
 
 // Whether all callers are on the bench, and their passes in order.
