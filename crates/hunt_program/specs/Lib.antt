@@ -1,2 +1,3 @@
 pub mod Caught
-pub mod Words
+pub mod Asking
+pub mod AskedHunts

@@ -3,9 +3,14 @@
 ghost use Rattle.std.specs.Prelude.{None};
 ghost use Rattle.random_scripts.specs.Drawn.{IsWorkload};
 
-use crate::hunting::hunt_and_write;
+use crate::asked::Asked;
+use crate::hunting::hunt_by_words;
 use crate::shown::Shown;
-use byte_streams::{Status, StdSink, write_text};
+use crate::underway::Underway;
+use crate::watchdog::watch;
+use crate::watched::WatchedObjects;
+use byte_streams::{Status, StdSink};
+use client_scripts::{Script, write_script};
 use drv_wrapper::{BlackBox, ObjectPass};
 use hunts::{Maker, Onlooker, Settings};
 use reports::Counts;
@@ -13,39 +18,54 @@ use std::env;
 use std::io::ErrorKind;
 use std::process::ExitCode;
 use std::rt::Env;
-use std::thread::Threads;
+use std::sync::atomic::AtomicU64;
+use std::thread::{JoinHandle, Threads, spawn};
+use std::time::Clock;
 
 /// The code that the program ends with where the system doesn't hand over the command words, for
 /// another reason than want of memory.
 const NO_WORDS: u8 = 7;
 
-/// The output for command words that ask for nothing that can be shown.
-const USAGE: &[u8] = b"usage: [report | picture]\n";
-
-// How many runs were made, and the seed of the last one.
+// Counts the runs of a hunt, and keeps the seed of the last one. Where it is to tell of each run, it
+// writes the seed and the script to standard error before the run begins.
 #[derive(Drop)]
-struct RunCount {
+struct RunTeller<'a, R> {
+    rt: &'a R,
+    tells: bool,
     runs: u64,
     seed: u64,
 }
 
-impl Onlooker for RunCount {
+impl<R: Eprint + AllocGlobal> Onlooker for RunTeller<'_, R> {
     ghost heard = { λ _. None };
 
-    fn ran(&mut self, seed: u64, _counts: Counts) {
-        self.runs = self.runs.saturating_add(1);
+    fn begins(&mut self, seed: u64, script: &Script) {
         self.seed = seed;
+        if self.tells {
+            let rt = self.rt;
+            let _told = eprintln!(rt; "seed {seed}");
+            if let Ok(text) = write_script(rt.alloc(), script) {
+                let _told = eprint!(rt; "{}", str::from_utf8(&text).unwrap_or(""));
+            }
+        }
+    }
+
+    fn ran(&mut self, _seed: u64, _counts: Counts) {
+        self.runs = self.runs.saturating_add(1);
     }
 }
 
 /// Hunts over the objects that a maker makes, and writes the catch to standard output, or that no
-/// run had an error. Of a catch it writes the smaller book of its witness; with the command word
-/// `report` the report of its run, and the whole witness after it; with `picture` the picture of
-/// the smaller book. How many runs were made is written to standard error, with the seed of the
-/// last one where its catch was written. With other command words no run is made, and standard
-/// output gets a line on the usage.
+/// run had an error. The command words say in which form the catch is written: that of the smaller
+/// book of its witness; with the word `report` the report of its run, and the whole witness after
+/// it; with `picture` the picture of the smaller book; with `finding` all of these. After that, the
+/// words `seed`, `runs`, `callers`, `calls` and `values`, each with a number after it, change the
+/// settings. How many runs were made is written to standard error, with the seed of the last one
+/// where its catch was written; with `finding` also the seed and the script of each run before it
+/// begins. A call of the object that doesn't return within a second is written there too, while it
+/// is under way. With other command words no run is made, and standard output says what is wrong.
 pub fn run_hunt<
-    R: Env + Print + Eprint + AllocGlobal + Threads + Sync,
+    R: Env + Print + Eprint + AllocGlobal + Threads + Clock + Copy + Send + Sync + 'static,
     B: BlackBox + Sync + Drop,
     M: Maker<B>,
 >(rt: &R, maker: &M, settings: &Settings) -> ExitCode
@@ -55,13 +75,52 @@ where
     requires { IsWorkload settings.now.workload }
 {
     ExitCode::from(match command_words(rt) {
-        Ok(words) => hunt_by_words(rt, maker, settings, &words).code(),
+        Ok(words) => watch_and_hunt(rt, maker, settings, &words).code(),
         Err(code) => code,
     })
 }
 
-// Makes a hunt, and writes its catch in the form that the command words ask for.
-fn hunt_by_words<
+// Does what command words ask for, with a watchdog where a thread can be had for it.
+fn watch_and_hunt<
+    R: Print + Eprint + AllocGlobal + Threads + Clock + Copy + Send + Sync + 'static,
+    B: BlackBox + Sync + Drop,
+    M: Maker<B>,
+>(rt: &R, maker: &M, settings: &Settings, words: &[String]) -> Status
+where
+    B::Pass: Send + Drop,
+    requires { IsWorkload settings.now.workload }
+{
+    let Ok(underway) = Underway::new(rt.alloc()) else {
+        return Status::NoMemory;
+    };
+    let watchdog = start_watchdog(*rt, &underway);
+    let maker = WatchedObjects {
+        maker,
+        underway: &underway,
+        made: AtomicU64::new(0),
+    };
+    let status = hunt_and_tell(rt, &maker, settings, words);
+    underway.end();
+    if let Some(watchdog) = watchdog {
+        watchdog.join(rt);
+    }
+    status
+}
+
+// Starts the watchdog in a thread, which ends soon after the hunt is over.
+fn start_watchdog<R: Eprint + AllocGlobal + Threads + Clock + Copy + Send + 'static>(
+    rt: R,
+    underway: &Underway,
+) -> Option<JoinHandle<()>> {
+    let theirs = underway.try_clone().ok()?;
+    spawn(&rt, move || {
+        let _watched = watch(&rt, rt.alloc(), &theirs);
+    })
+    .ok()
+}
+
+// Does what command words ask for, and tells on standard error how many runs were made.
+fn hunt_and_tell<
     R: Print + Eprint + AllocGlobal + Threads + Sync,
     B: BlackBox + Sync + Drop,
     M: Maker<B>,
@@ -71,34 +130,43 @@ where
     requires { IsWorkload settings.now.workload }
 {
     let mut sink = StdSink::new(rt);
-    let Some(shown) = Shown::from_words(words) else {
-        return write_text(&mut sink, Status::Usage, USAGE);
+    let (most, tells) = match Asked::from_words(settings, words) {
+        Asked::Hunt(settings, shown) => (settings.runs, shown == Shown::Finding),
+        _ => (0, false),
     };
-    let mut tally = RunCount { runs: 0, seed: 0 };
-    let status = hunt_and_write(
+    if tells {
+        let _told = eprintln!(rt; "at most {most} runs");
+    }
+    let mut teller = RunTeller {
+        rt,
+        tells,
+        runs: 0,
+        seed: 0,
+    };
+    let status = hunt_by_words(
         rt,
         rt.alloc(),
         maker,
         settings,
-        shown,
-        &mut tally,
+        words,
+        &mut teller,
         &mut sink,
     );
-    tell(rt, settings, &tally, status);
-    status
-}
-
-// Writes to standard error how many runs were made, and, where `status` is `Found`, the seed of the
-// last one. The program's output is complete without this line.
-fn tell<R: Eprint>(rt: &R, settings: &Settings, tally: &RunCount, status: Status) {
-    let most = settings.runs;
-    let RunCount { runs, seed } = tally;
+    let RunTeller { runs, seed, .. } = teller;
     let _told = match status {
+        Status::Usage => Ok(()),
         Status::Found => eprintln!(rt;
             "run {runs} of at most {most} has an error; its seed is {seed}"
         ),
-        _ => eprintln!(rt; "{runs} of {most} runs were made"),
+        Status::Fine => eprintln!(rt; "{runs} of {most} runs were made"),
+        Status::NoMemory => eprintln!(rt;
+            "memory is lacking after {runs} of {most} runs; the last seed is {seed}"
+        ),
+        _ => eprintln!(rt;
+            "not all could be written after {runs} of at most {most} runs; the last seed is {seed}"
+        ),
     };
+    status
 }
 
 // The command words without the program's name, or the code that the program ends with.

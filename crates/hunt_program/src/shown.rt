@@ -1,8 +1,7 @@
 //! The forms in which a catch is shown.
 
-ghost use Rattle.std.specs.Prelude.{◌≡◌, ◌≢◌, map, string_bytes, IfSome, IfNone};
-ghost use Rattle.hunt_program.specs.declared.shown.Shown.{Shown as TheShown};
-ghost use Rattle.hunt_program.specs.Words.{words_of};
+ghost use Rattle.std.specs.Prelude.{◌≡◌};
+ghost use Rattle.hunt_program.specs.Asking.{shown_named};
 
 /// The form in which a catch is shown.
 #[derive(Clone, Copy, Debug, PartialEq, Eq)]
@@ -13,22 +12,21 @@ pub enum Shown {
     Report,
     /// The picture of the smaller book of the catch's witness.
     Picture,
+    /// The texts of the catch's report, its witness and the smaller book, and the smaller book's
+    /// picture.
+    Finding,
 }
 
 impl Shown {
-    /// The form of a catch that command words ask for: the smaller book where there are no words;
-    /// `None` where they ask for nothing that can be shown.
-    pub(crate) fn from_words(words: &[String]) -> Option<Shown>
-        // The words are the command words that ask for the answered form.
-        ensures shown { IfSome result (λ shown. map string_bytes words.now ≡ words_of shown) }
-        // With `None` the words ask for no form that can be shown.
-        ensures none { IfNone result ((shown : TheShown)
-            → map string_bytes words.now ≢ words_of shown) }
+    /// The form of a catch that a word asks for.
+    #[tactic(auto, unfolding(crate::specs::Asking::shown_named))]
+    pub(crate) fn from_name(name: &str) -> Option<Shown>
+        ensures { result ≡ shown_named name.now }
     {
-        match words {
-            [] => Some(Shown::Smaller),
-            [word] if word.as_str() == "report" => Some(Shown::Report),
-            [word] if word.as_str() == "picture" => Some(Shown::Picture),
+        match name {
+            "report" => Some(Shown::Report),
+            "picture" => Some(Shown::Picture),
+            "finding" => Some(Shown::Finding),
             _ => None,
         }
     }

@@ -2,10 +2,9 @@
 
 use book_base::{BAD, NoMemory, OpWord};
 use client_scripts::Script;
-use crossbeam_utils::atomic::AtomicCell;
 use drv_wrapper::{Announced, BlackBox};
-use hunts::{Maker, Noise};
-use object_kit::{CounterCall, CountingPass};
+use hunts::Maker;
+use object_kit::{CounterCall, CountingPass, Noise, NoisyCell};
 use seq_objects::value_reply;
 use std::alloc::Global;
 
@@ -14,8 +13,7 @@ use std::alloc::Global;
 #[derive(Drop)]
 pub(crate) struct Counter {
     torn: bool,
-    count: AtomicCell<u32>,
-    noise: Noise,
+    count: NoisyCell<u32>,
 }
 
 impl Counter {
@@ -24,7 +22,6 @@ impl Counter {
             return self.count.fetch_add(1);
         }
         let found = self.count.load();
-        self.noise.pause();
         self.count.store(found.wrapping_add(1));
         found
     }
@@ -65,8 +62,7 @@ impl Maker<Counter> for Counters {
     ) -> Result<(Counter, Vec<CountingPass>), NoMemory> {
         let counter = Counter {
             torn: self.torn,
-            count: AtomicCell::new(0),
-            noise,
+            count: NoisyCell::new(&noise, 0)?,
         };
         Ok((counter, CountingPass::for_script(alloc, script)?))
     }

@@ -4,24 +4,21 @@ use crate::trial::calls_of_script;
 use book_base::{BAD, MAX_ROOM, NoMemory, OpWord, SeqObject, State};
 use client_scripts::Script;
 use drv_wrapper::{Announced, BlackBox};
-use hunts::{Maker, Noise};
-use object_kit::{CountingPass, lock_or_give_up};
+use hunts::Maker;
+use object_kit::{CountingPass, Noise, NoisyLock};
 use seq_objects::Kind;
 use std::alloc::Global;
-use std::sync::Mutex;
 
 /// An object of a kind: a call is one step of the sequential object, under a lock.
 #[derive(Drop)]
 pub(crate) struct Locked {
     kind: Kind,
-    state: Mutex<State>,
-    noise: Noise,
+    state: NoisyLock<State>,
 }
 
 impl Locked {
     fn answer(&self, op: OpWord) -> Option<u64> {
-        let mut state = lock_or_give_up(&self.state)?;
-        self.noise.pause();
+        let mut state = self.state.lock()?;
         if state.len() >= state.room() {
             return None;
         }
@@ -59,8 +56,7 @@ impl Maker<Locked> for LockedObjects {
         self.kind.reset(&mut state);
         let object = Locked {
             kind: self.kind,
-            state: Mutex::new(state),
-            noise,
+            state: NoisyLock::new(&noise, state)?,
         };
         Ok((object, CountingPass::for_script(alloc, script)?))
     }

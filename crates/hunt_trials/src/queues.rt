@@ -3,12 +3,11 @@
 use book_base::{BAD, NoMemory, OpWord};
 use client_scripts::Script;
 use drv_wrapper::{Announced, BlackBox};
-use hunts::{Maker, Noise};
-use object_kit::{CountingPass, QueueCall, lock_or_give_up};
+use hunts::Maker;
+use object_kit::{CountingPass, Noise, NoisyLock, QueueCall};
 use seq_objects::{DONE, NONE, value_reply};
 use std::alloc::Global;
 use std::collections::VecDeque;
-use std::sync::Mutex;
 
 /// Two queues behind locks. Where they are twins, each caller uses one of them alone, so what a
 /// caller enqueues is never found by the callers that use the other; where they aren't, all callers
@@ -16,9 +15,8 @@ use std::sync::Mutex;
 #[derive(Drop)]
 pub(crate) struct TwoQueues {
     twins: bool,
-    even: Mutex<VecDeque<u32>>,
-    odd: Mutex<VecDeque<u32>>,
-    noise: Noise,
+    even: NoisyLock<VecDeque<u32>>,
+    odd: NoisyLock<VecDeque<u32>>,
 }
 
 impl TwoQueues {
@@ -30,8 +28,7 @@ impl TwoQueues {
         } else {
             &self.even
         };
-        let mut items = lock_or_give_up(items)?;
-        self.noise.pause();
+        let mut items = items.lock()?;
         match QueueCall::from_word(op)? {
             QueueCall::Enqueue(value) => match items.push_back(value) {
                 Ok(()) => Some(DONE),
@@ -74,9 +71,8 @@ impl Maker<TwoQueues> for Queues {
     ) -> Result<(TwoQueues, Vec<CountingPass>), NoMemory> {
         let queues = TwoQueues {
             twins: self.twins,
-            even: Mutex::new(VecDeque::new(alloc)),
-            odd: Mutex::new(VecDeque::new(alloc)),
-            noise,
+            even: NoisyLock::new(&noise, VecDeque::new(alloc))?,
+            odd: NoisyLock::new(&noise, VecDeque::new(alloc))?,
         };
         Ok((queues, CountingPass::for_script(alloc, script)?))
     }

@@ -3,13 +3,11 @@
 use crate::trial::calls_of_script;
 use book_base::{BAD, NoMemory, OpWord};
 use client_scripts::Script;
-use crossbeam_utils::atomic::AtomicCell;
 use drv_wrapper::{Announced, BlackBox};
-use hunts::{Maker, Noise};
-use object_kit::{CountingPass, QueueCall, lock_or_give_up};
+use hunts::Maker;
+use object_kit::{CountingPass, Noise, NoisyCell, NoisyLock, QueueCall};
 use seq_objects::{DONE, NONE, value_reply};
 use std::alloc::Global;
-use std::sync::Mutex;
 
 /// A queue over places: an enqueue fills the place at the tail and moves the tail forward, a
 /// dequeue takes from the place at the head and moves the head forward. Each does both under a
@@ -18,24 +16,21 @@ use std::sync::Mutex;
 #[derive(Drop)]
 pub(crate) struct Ring {
     torn: bool,
-    places: Vec<AtomicCell<u32>>,
-    head: AtomicCell<u32>,
-    tail: AtomicCell<u32>,
-    lock: Mutex<()>,
-    noise: Noise,
+    places: Vec<NoisyCell<u32>>,
+    head: NoisyCell<u32>,
+    tail: NoisyCell<u32>,
+    lock: NoisyLock<()>,
 }
 
 impl Ring {
     // The cell of a place.
-    fn place(&self, number: u32) -> Option<&AtomicCell<u32>> {
+    fn place(&self, number: u32) -> Option<&NoisyCell<u32>> {
         self.places.get(number as usize)
     }
 
     fn enqueue(&self, value: u32) -> Option<u64> {
         let tail = self.tail.load();
-        self.noise.pause();
         self.place(tail)?.store(value);
-        self.noise.pause();
         self.tail.store(tail.wrapping_add(1));
         Some(DONE)
     }
@@ -45,9 +40,7 @@ impl Ring {
         if head == self.tail.load() {
             return Some(NONE);
         }
-        self.noise.pause();
         let value = self.place(head)?.load();
-        self.noise.pause();
         self.head.store(head.wrapping_add(1));
         Some(value_reply(u64::from(value)))
     }
@@ -63,7 +56,7 @@ impl Ring {
         if self.torn {
             return self.steps(op);
         }
-        let _held = lock_or_give_up(&self.lock)?;
+        let _held = self.lock.lock()?;
         self.steps(op)
     }
 }
@@ -96,15 +89,14 @@ impl Maker<Ring> for Rings {
     ) -> Result<(Ring, Vec<CountingPass>), NoMemory> {
         let mut places = Vec::new(alloc);
         for _ in 0..calls_of_script(script) {
-            places.push(AtomicCell::new(0))?;
+            places.push(NoisyCell::new(&noise, 0)?)?;
         }
         let ring = Ring {
             torn: self.torn,
             places,
-            head: AtomicCell::new(0),
-            tail: AtomicCell::new(0),
-            lock: Mutex::new(()),
-            noise,
+            head: NoisyCell::new(&noise, 0)?,
+            tail: NoisyCell::new(&noise, 0)?,
+            lock: NoisyLock::new(&noise, ())?,
         };
         Ok((ring, CountingPass::for_script(alloc, script)?))
     }

@@ -3,10 +3,9 @@
 use crate::trial::calls_of_script;
 use book_base::{BAD, NoMemory, OpWord};
 use client_scripts::Script;
-use crossbeam_utils::atomic::AtomicCell;
 use drv_wrapper::{Announced, BlackBox};
-use hunts::{Maker, Noise};
-use object_kit::{CountingPass, StackCall};
+use hunts::Maker;
+use object_kit::{CountingPass, Noise, NoisyCell, StackCall};
 use seq_objects::{DONE, NONE, value_reply};
 use std::alloc::Global;
 
@@ -15,10 +14,10 @@ use std::alloc::Global;
 const TRIES: u32 = 4096;
 
 /// A place of a stack: a value, and the number of the place below it.
-#[derive(Default, Drop)]
+#[derive(Drop)]
 struct StackPlace {
-    value: AtomicCell<u32>,
-    below: AtomicCell<u32>,
+    value: NoisyCell<u32>,
+    below: NoisyCell<u32>,
 }
 
 /// A stack of linked places, each used once. Places are numbered from 1, and 0 is none. A call
@@ -28,9 +27,8 @@ struct StackPlace {
 pub(crate) struct Stack {
     checks: bool,
     places: Vec<StackPlace>,
-    used: AtomicCell<u32>,
-    top: AtomicCell<u32>,
-    noise: Noise,
+    used: NoisyCell<u32>,
+    top: NoisyCell<u32>,
 }
 
 impl Stack {
@@ -42,7 +40,6 @@ impl Stack {
     // Puts another number at the top in place of the one that the call has seen. The answer is
     // whether this is done.
     fn changes(&self, seen: u32, other: u32) -> bool {
-        self.noise.pause();
         if self.checks {
             return self.top.compare_exchange(seen, other).is_ok();
         }
@@ -114,14 +111,16 @@ impl Maker<Stack> for Stacks {
     ) -> Result<(Stack, Vec<CountingPass>), NoMemory> {
         let mut places = Vec::new(alloc);
         for _ in 0..calls_of_script(script) {
-            places.push(StackPlace::default())?;
+            places.push(StackPlace {
+                value: NoisyCell::new(&noise, 0)?,
+                below: NoisyCell::new(&noise, 0)?,
+            })?;
         }
         let stack = Stack {
             checks: self.checks,
             places,
-            used: AtomicCell::new(0),
-            top: AtomicCell::new(0),
-            noise,
+            used: NoisyCell::new(&noise, 0)?,
+            top: NoisyCell::new(&noise, 0)?,
         };
         Ok((stack, CountingPass::for_script(alloc, script)?))
     }

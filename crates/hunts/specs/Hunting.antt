@@ -13,15 +13,22 @@ use Rattle.run_report.specs.Reporting.{outside_shape, IsToldIn}
 use Rattle.hunts.specs.declared.trial.Catch.{Catch}
 use Rattle.hunts.specs.declared.runs.Settings.{Settings}
 use Rattle.hunts.specs.declared.runs.Hunted.{Hunted}
+use Rattle.hunts.specs.Watching.{RunNews, Begins, Ran}
 
 -- The seed of the run of a hunt that has this number, counted from 0.
 abbrev pub seed_at : Settings → ℕ → ℕ
 seed_at settings number = (settings.seed + number) % 2 ^ 64
 
--- The seeds of the first runs of a hunt, in order, of as many runs as the number says.
-abbrev pub first_seeds : Settings → ℕ → List ℕ
-first_seeds settings zero = []
-first_seeds settings (suc number) = first_seeds settings number ++ seed_at settings number ∷ []
+-- What is told of the run of a seed: it begins with the script of the seed, and then it was made.
+abbrev pub news_of : Workload → ℕ → List RunNews
+news_of w seed = Begins seed (drawn_plan w seed) ∷ Ran seed ∷ []
+
+-- What is told of the first runs of a hunt, one run after the other, of as many runs as the number
+-- says.
+abbrev pub first_news : Settings → ℕ → List RunNews
+first_news settings zero = []
+first_news settings (suc number) =
+    first_news settings number ++ news_of settings.workload (seed_at settings number)
 
 module _ {T : Type 0} (made : T → ℕ) (told : T → Option (List (ℕ × ℕ))) where
   -- A run was made of this plan over an object outside the world, and reports these findings. They
@@ -46,11 +53,11 @@ module _ {T : Type 0} (made : T → ℕ) (told : T → Option (List (ℕ × ℕ)
 
   -- The catch is of a run of the script of a seed: its witness is the book at the seen cut of the
   -- first error line of the run's report, and no order of the witness is legal for the object of
-  -- its kind.
-  pub record IsCaught (w : Workload) (seed : ℕ) (catch : Catch) : Type 0 where
+  -- its kind. The passes are those with which the run was made.
+  pub record IsCaught (w : Workload) (seed : ℕ) (catch : Catch T) : Type 0 where
     pub seed_is : catch.seed ≡ seed
     pub script : catch.script ≡ drawn_plan w seed
-    pub ran : IsMade catch.script catch.report
+    pub ran : IsRun catch.script catch.passes.items catch.report
     pub witness : IsWitness catch.report.lines catch.witness
     pub no_order : ¬ HasLegalOrder (kind_spec w.kind) catch.witness
 
@@ -60,14 +67,14 @@ module _ {T : Type 0} (made : T → ℕ) (told : T → Option (List (ℕ × ℕ)
       → IsQuiet settings.workload (seed_at settings k)
 
   -- The catch is of the last of this many runs, and those before it were quiet.
-  pub record IsCaughtLast (settings : Settings) (runs : ℕ) (catch : Catch) : Type 0 where
+  pub record IsCaughtLast (settings : Settings) (runs : ℕ) (catch : Catch T) : Type 0 where
     pub number : ℕ
     pub last : runs ≡ number + 1
     pub before : AreQuietBefore settings number
     pub caught : IsCaught settings.workload (seed_at settings number) catch
 
   -- What a hunt ends with: a catch of its last run, or all its runs, which were quiet.
-  pub record IsHunted (settings : Settings) (hunted : Hunted) : Type 0 where
+  pub record IsHunted (settings : Settings) (hunted : Hunted T) : Type 0 where
     pub within : hunted.runs ≤ settings.runs
     pub caught : IfSome hunted.caught (IsCaughtLast settings hunted.runs)
     pub nothing : IfNone hunted.caught

@@ -3,7 +3,6 @@
 #![tactic(auto)]
 
 mod maker;
-mod noise;
 mod noisy;
 mod once;
 mod onlooker;
@@ -11,7 +10,6 @@ mod runs;
 mod trial;
 
 pub use maker::Maker;
-pub use noise::{Loudness, Noise};
 pub use noisy::Noisy;
 pub use onlooker::{Onlooker, Unwatched};
 pub use runs::{Hunted, Settings, hunt};

@@ -1,17 +1,17 @@
 ghost use Rattle.std.specs.Prelude.{IfOk};
 ghost use Rattle.run_report.specs.Passes.{AreUnusedPasses};
 
-use crate::noise::Noise;
 use book_base::NoMemory;
 use client_scripts::Script;
 use drv_wrapper::{BlackBox, ObjectPass};
+use object_kit::Noise;
 use std::alloc::Global;
 
 /// Makes the objects that a hunt runs over: a new one for each run.
 pub trait Maker<B: BlackBox> {
     /// Opens an object for the callers of a script, and an unused pass for each caller, in order,
-    /// for at least as many calls as the caller has operations. The object may keep `noise`, and
-    /// pause with it within its calls, at steps where it may be wrong.
+    /// for at least as many calls as the caller has operations. The object may make its cells and
+    /// locks of `noise`, or keep it and pause with it, at steps where it may be wrong.
     fn open(
         &self,
         alloc: Global,

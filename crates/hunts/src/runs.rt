@@ -2,15 +2,15 @@
 
 ghost use Rattle.std.specs.Prelude.{◌≤◌, IfOk};
 ghost use Rattle.random_scripts.specs.Drawn.{IsWorkload};
-ghost use Rattle.hunts.specs.Hunting.{first_seeds, IsHunted};
+ghost use Rattle.hunts.specs.Hunting.{first_news, IsHunted};
 ghost use Rattle.hunts.specs.Watching.{Hears};
 
 use crate::maker::Maker;
-use crate::noise::Loudness;
 use crate::onlooker::Onlooker;
 use crate::trial::{Catch, run_seed};
 use book_base::NoMemory;
 use drv_wrapper::{BlackBox, ObjectPass};
+use object_kit::Loudness;
 use random_scripts::Workload;
 use std::alloc::Global;
 use std::thread::Threads;
@@ -30,11 +30,11 @@ pub struct Settings {
 
 /// What a hunt ends with.
 #[derive(Debug, Drop)]
-pub struct Hunted {
+pub struct Hunted<T> {
     /// How many runs were made.
     pub runs: u64,
     /// The catch of the last run, where it had an error. Without a catch all runs were made.
-    pub caught: Option<Catch>,
+    pub caught: Option<Catch<T>>,
 }
 
 /// Runs the script of each seed in turn, each over a new object, until the report of a run has a
@@ -50,7 +50,7 @@ pub fn hunt<R: Threads + Sync, B: BlackBox + Sync + Drop, M: Maker<B>, W: Onlook
     maker: &M,
     settings: &Settings,
     watch: &mut W,
-) -> Result<Hunted, NoMemory>
+) -> Result<Hunted<B::Pass>, NoMemory>
 where
     B::Pass: Send + Drop,
     // The settings' workload fits the texts of scripts, and has a value and an operation to draw.
@@ -59,9 +59,10 @@ where
     // were quiet.
     ensures hunted { IfOk result (λ hunted.
         IsHunted B.Pass.made B.Pass.told settings.now hunted) }
-    // The onlooker was told of each run that was made, in order.
+    // The onlooker was told of each run that was made, in order: that it begins, and that it was
+    // made.
     ensures heard { IfOk result (λ hunted.
-        Hears (W.heard watch.old) (first_seeds settings.now hunted.runs) (W.heard watch.new)) }
+        Hears (W.heard watch.old) (first_news settings.now hunted.runs) (W.heard watch.new)) }
 {
     for number in 0..settings.runs {
         let seed = settings.seed.wrapping_add(number);

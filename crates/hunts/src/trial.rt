@@ -1,17 +1,17 @@
 //! A run of the script of a seed, and whether it shows an error.
 
-ghost use Rattle.std.specs.Prelude.{IfOk, IfSome, IfNone, OnOk, [], ◌∷◌};
-ghost use Rattle.random_scripts.specs.Drawn.{IsWorkload, drawn_plan};
-ghost use Rattle.hunts.specs.Hunting.{IsCaught, IsQuiet};
+ghost use Rattle.std.specs.Prelude.{IfOk, IfSome, IfNone, OnOk};
+ghost use Rattle.random_scripts.specs.Drawn.{IsWorkload};
+ghost use Rattle.hunts.specs.Hunting.{IsCaught, IsQuiet, news_of};
 ghost use Rattle.hunts.specs.Watching.{Hears};
 
 use crate::maker::Maker;
-use crate::noise::{Loudness, Noise};
 use crate::once::run_once;
 use crate::onlooker::Onlooker;
 use book_base::{Book, NoMemory};
 use client_scripts::Script;
 use drv_wrapper::{BlackBox, ObjectPass};
+use object_kit::{Loudness, Noise};
 use random_scripts::{Workload, random_script};
 use reports::Report;
 use std::alloc::Global;
@@ -19,7 +19,7 @@ use std::thread::Threads;
 
 /// What a hunt catches: a run that shows a book without a legal order.
 #[derive(Debug, Drop)]
-pub struct Catch {
+pub struct Catch<T> {
     /// The seed of the script, and of the noise.
     pub seed: u64,
     /// What the callers were to do in the run.
@@ -28,6 +28,8 @@ pub struct Catch {
     pub report: Report,
     /// The book at the seen cut of the first error line.
     pub witness: Book,
+    /// The passes with which the callers asked the object, in order.
+    pub passes: Vec<T>,
 }
 
 /// Runs the script of a seed over an object made for it, which is dropped after the run. The answer
@@ -40,7 +42,7 @@ pub(crate) fn run_seed<R: Threads + Sync, B: BlackBox + Sync + Drop, M: Maker<B>
     loudness: Loudness,
     seed: u64,
     watch: &mut W,
-) -> Result<Option<Catch>, NoMemory>
+) -> Result<Option<Catch<B::Pass>>, NoMemory>
 where
     B::Pass: Send + Drop,
     requires { IsWorkload workload.now }
@@ -48,11 +50,13 @@ where
         (IsCaught B.Pass.made B.Pass.told workload.now seed)) }
     ensures quiet { IfOk result (λ found. IfNone found
         (IsQuiet B.Pass.made B.Pass.told workload.now seed)) }
-    ensures heard { OnOk result (Hears (W.heard watch.old) (seed ∷ []) (W.heard watch.new)) }
+    ensures heard { OnOk result (Hears (W.heard watch.old) (news_of workload.now seed)
+        (W.heard watch.new)) }
 {
     let script = random_script(alloc, workload, seed)?;
-    let within = Noise::new(seed, loudness);
-    let between = Noise::new(seed.wrapping_add(1), loudness);
+    watch.begins(seed, &script);
+    let within = Noise::new(alloc, seed, loudness)?;
+    let between = Noise::new(alloc, seed.wrapping_add(1), loudness)?;
     let (object, mut passes) = maker.open(alloc, &script, within)?;
     let report = run_once(rt, alloc, &object, &mut passes, &script, &between)?;
     watch.ran(seed, report.counts());
@@ -62,6 +66,7 @@ where
             script,
             report,
             witness,
+            passes,
         })),
         None => Ok(None),
     }

@@ -21,7 +21,7 @@ loop-number-preserved g c =
     let Quiet : ℕ → Type 0 =
     λ k. IsQuiet made told settings.workload (seed_at settings k) in (
       below_next Quiet number c.loop-number.invariant.0
-          (subst (λ (found : Option Catch). IfNone found (Quiet number)) c.in_default.is
+          (subst (λ (found : Option (Catch _)). IfNone found (Quiet number)) c.in_default.is
           c.in_ok-catch.ensures.quiet),
       hears_next settings number (g.W.Onlooker.heard c.args.watch.now)
           (g.W.Onlooker.heard c.loop-number.watch) (g.W.Onlooker.heard c.run_seed.new.watch)

@@ -1,4 +1,7 @@
+use book_base::NoMemory;
 use random_scripts::{draw, key_of};
+use std::alloc::Global;
+use std::sync::Arc;
 use std::sync::atomic::{AtomicU64, Ordering};
 use std::thread::yield_now;
 
@@ -11,32 +14,53 @@ pub struct Loudness {
     pub most: u32,
 }
 
-/// Noise for the callers of a run, which they share: at a pause it yields the thread or not, as the
-/// seed decides for the pauses in the order in which they come. So calls overlap which else would
-/// each end before the next one begins. The default noise never yields.
-#[derive(Default, Drop)]
-pub struct Noise {
+// What the copies of a noise have in common.
+#[derive(Drop)]
+struct Pauses {
     key: u64,
     loudness: Loudness,
-    pauses: AtomicU64,
+    made: AtomicU64,
+}
+
+/// Noise for the callers of a run, which they share: at a pause it yields the thread or not, as the
+/// seed decides for the pauses in the order in which they come. So calls overlap which else would
+/// each end before the next one begins.
+#[derive(Drop)]
+pub struct Noise {
+    pauses: Arc<Pauses, Global>,
 }
 
 impl Noise {
     /// The noise of a seed, before its first pause.
-    pub fn new(seed: u64, loudness: Loudness) -> Noise {
-        Noise {
+    pub fn new(alloc: Global, seed: u64, loudness: Loudness) -> Result<Noise, NoMemory> {
+        let pauses = Pauses {
             key: key_of(seed),
             loudness,
-            pauses: AtomicU64::new(0),
-        }
+            made: AtomicU64::new(0),
+        };
+        Ok(Noise {
+            pauses: Arc::new(alloc, pauses)?,
+        })
+    }
+
+    /// Another copy of this noise: its pauses are counted together with those of this one.
+    pub fn try_clone(&self) -> Result<Noise, NoMemory> {
+        Ok(Noise {
+            pauses: Arc::try_clone(&self.pauses)?,
+        })
     }
 
     /// Makes one pause: it yields the thread some times in a row, or not at all, as the seed
     /// decides for the number of this pause.
     pub fn pause(&self) {
-        let drawn = draw(self.key, self.pauses.fetch_add(1, Ordering::SeqCst));
-        if drawn % 256 < self.loudness.share {
-            for _ in 0..yields(drawn / 256, self.loudness.most) {
+        let Pauses {
+            key,
+            loudness,
+            made,
+        } = &*self.pauses;
+        let drawn = draw(*key, made.fetch_add(1, Ordering::SeqCst));
+        if drawn % 256 < loudness.share {
+            for _ in 0..yields(drawn / 256, loudness.most) {
                 yield_now();
             }
         }
