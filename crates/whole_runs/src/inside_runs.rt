@@ -6,12 +6,15 @@ ghost use Rattle.book_base.specs.declared.TheConstants.{MAX_CALLERS, MAX_CALLS};
 ghost use Rattle.core_objects.specs.CoreObjects.{ArePassesFor};
 
 use book_base::{Call, MAX_CALLERS, MAX_CALLS, NoMemory};
+use byte_streams::{MemorySink, Status};
 use client_scripts::make_script;
 use core_objects::{CoreCell, CoreLog, CoreObject, CoreTally};
-use core_runs::run_core_fresh;
 use kind_search::SearchedKind;
+use named_runs::core_fresh;
 use report_lines::LineEnd;
+use report_text::read_report;
 use reports::Report;
+use run_writer::Form;
 use search_hints::SearchHints;
 use seq_objects::{DONE, Kind, NO, NONE, YES};
 use std::alloc::Global;
@@ -80,6 +83,9 @@ const ALONE: Size = Size {
     cap: 6,
 };
 
+// More bytes than the text of any of these runs has.
+const ROOM: usize = 2_000_000;
+
 // The replies of a report, caller by caller, where it has no error and each call of this size was
 // delivered.
 fn delivered(alloc: Global, report: &Report, size: Size) -> Result<Option<Vec<u64>>, NoMemory> {
@@ -118,8 +124,21 @@ where
     requires { ArePassesFor (O.fits object.now) size.callers size.cap passes.old.items }
 {
     let script = make_script(alloc, 0, size.callers, size.calls, kind)?;
-    let report = run_core_fresh(rt, alloc, object, passes, size.cap, &script)?;
-    delivered(alloc, &report, size)
+    let mut sink = MemorySink::new(alloc, ROOM, Vec::new(alloc), ROOM)?;
+    let status = core_fresh(
+        rt,
+        alloc,
+        &script,
+        object,
+        passes,
+        size.cap,
+        Form::Report,
+        &mut sink,
+    );
+    match read_report(alloc, sink.bytes()) {
+        Ok(report) if status == Status::Fine => delivered(alloc, &report, size),
+        _ => Ok(None),
+    }
 }
 
 // The replies that the callers of a generated script get from the log of the script's kind, where
