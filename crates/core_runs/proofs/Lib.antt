@@ -1,4 +1,3 @@
 pub mod Passes
 pub mod Errors
-pub mod Opened
 pub mod LoggedReports
