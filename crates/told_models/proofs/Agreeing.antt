@@ -1,0 +1,110 @@
+-- Objects that agree with a table.
+use Rattle.std.proofs.Common.{◌≡◌, ℕ, suc, List, [], ◌∷◌, ◌++◌, map, get_or, Contains, Option, Some, unwrap_or, refl, sym, ap, subst, ◌∙◌}
+use Rattle.std.proofs.lemmas.Option.{slice_get-get_or}
+use Rattle.list_laws.proofs.Elements.{AllByRecursion-append}
+use Rattle.book_base.specs.declared.call.Place.{Place}
+use Rattle.book_base.specs.SeqSpec.{SeqSpec}
+use Rattle.book_base.specs.declared.call.Call.{Call}
+use Rattle.book_base.specs.Book.{Page, page_of, IsCall, operation_of}
+use Rattle.book_base.specs.Sequential.{IsRunFrom}
+use Rattle.book_base.specs.Order.{StandsAt, step_at, call_at}
+use Rattle.told_models.specs.declared.table.Transition.{Transition}
+use Rattle.told_models.specs.Table.{Table, told_step}
+use Rattle.told_models.specs.Agreement.{AgreesBy}
+use Rattle.told_models.specs.Completion.{made_or_bad}
+use Rattle.told_models.specs.Closed.{Leads, HaveOperations, IsClosed, AreOperationsOf}
+use Rattle.told_models.specs.Laws.{CompletionsAgree, AgreesWithFewer, ClosedTablesDecide}
+
+pub completions_agree : CompletionsAgree
+completions_agree table = (
+  λ state. state ∷ [],
+  record {
+    init = refl;
+    steps = λ state op transition told. ap (made_or_bad (state ∷ [])) told;
+  },
+)
+
+pub agrees_with_fewer : AgreesWithFewer
+agrees_with_fewer old new spec extends agrees = (
+  agrees.0,
+  record {
+    init = agrees.1.init ∙ ap agrees.0 extends.init;
+    steps = λ state op transition told.
+        agrees.1.steps state op transition (extends.steps state op transition told);
+  },
+)
+
+-- told steps and one more lead on
+leads_on : (table : Table) (from : ℕ) (steps : List (ℕ × ℕ)) (to op : ℕ) (transition : Transition)
+    → Leads table from steps to → told_step table to op ≡ Some transition
+    → Leads table from (steps ++ (op, transition.reply) ∷ []) transition.next
+leads_on table from [] to op transition leads told =
+    (transition, ap (λ (s : ℕ). told_step table s op) leads ∙ told, refl, refl)
+leads_on table from (step ∷ steps) to op transition leads told =
+    (leads.0, leads.1, leads.2, leads_on table leads.0.next steps to op transition leads.3 told)
+
+-- told steps are a run of each object that agrees
+told_steps_are_a_run : (list_of : ℕ → List ℕ) (table : Table) (spec : SeqSpec)
+    → AgreesBy list_of table spec → (from : ℕ) (steps : List (ℕ × ℕ)) (to : ℕ)
+    → Leads table from steps to → IsRunFrom spec.next (list_of from) steps
+told_steps_are_a_run list_of table spec agrees from [] to leads = tt
+told_steps_are_a_run list_of table spec agrees from (step ∷ steps) to leads =
+    let made = agrees.steps from step.0 leads.0 leads.1 in (
+      ap (λ (p : List ℕ × ℕ). p.1) made ∙ leads.2,
+      subst (λ (list : List ℕ). IsRunFrom spec.next list steps)
+          (sym (ap (λ (p : List ℕ × ℕ). p.0) made))
+          (told_steps_are_a_run list_of table spec agrees leads.0.next steps to leads.3),
+    )
+
+-- in a closed table a run of an object that agrees is of told steps
+run_is_told : (list_of : ℕ → List ℕ) (table : Table) (ops : List ℕ) (spec : SeqSpec)
+    → AgreesBy list_of table spec → IsClosed table ops → (before : List (ℕ × ℕ)) (from : ℕ)
+    → HaveOperations ops before → Leads table table.init before from → (steps : List (ℕ × ℕ))
+    → HaveOperations ops steps → IsRunFrom spec.next (list_of from) steps
+    → (to : ℕ) × Leads table from steps to
+run_is_told list_of table ops spec agrees closed before from known leads [] all run = (from, refl)
+run_is_told list_of table ops spec agrees closed before from known leads (step ∷ steps) all run =
+    let found = closed before from step.0 known leads all.0 in
+    let made = agrees.steps from step.0 found.0 found.1 in
+    let reply : found.0.reply ≡ step.1 = sym (ap (λ (p : List ℕ × ℕ). p.1) made) ∙ run.0 in
+    let rest = run_is_told list_of table ops spec agrees closed
+    (before ++ (step.0, found.0.reply) ∷ []) found.0.next
+    (AllByRecursion-append (λ (s : ℕ × ℕ). Contains ops s.0) before
+    ((step.0, found.0.reply) ∷ []) known (all.0, tt))
+    (leads_on table table.init before from step.0 found.0 leads found.1) steps all.1
+    (subst (λ (list : List ℕ). IsRunFrom spec.next list steps)
+    (ap (λ (p : List ℕ × ℕ). p.0) made) run.1) in
+    (rest.0, (found.0, found.1, reply, rest.1))
+
+-- each place of an order of the book's calls has an operation word of the book
+places_have_operations : (book : List Page) (ops : List ℕ) → AreOperationsOf book ops
+    → (order : List Place)
+    → ((k : ℕ) (call : Call) → StandsAt order k call → IsCall book call)
+    → HaveOperations ops (map (step_at book) order)
+places_have_operations book ops known [] calls = tt
+places_have_operations book ops known (place ∷ order) calls =
+    let is_call : IsCall book (call_at place) = calls 0 (call_at place) (place, refl, refl) in
+    let words = (page_of book place.caller).operations in
+    let word : operation_of book (call_at place) ≡ Some (get_or words place.number 0) =
+    slice_get-get_or words place.number 0 is_call in (
+      subst (λ (o : Option ℕ). Contains ops (unwrap_or o 0)) (sym word)
+          (known (call_at place) (get_or words place.number 0) word),
+      places_have_operations book ops known order
+          (λ k call stands. calls (suc k) call (stands.0, stands.1, stands.2)),
+    )
+
+pub closed_tables_decide : ClosedTablesDecide
+closed_tables_decide table ops book order a b closed known by_a by_b legal =
+    let told = run_is_told by_a.0 table ops a by_a.1 closed [] table.init tt refl
+    (map (step_at book) order) (places_have_operations book ops known order legal.calls)
+    (subst (λ (list : List ℕ). IsRunFrom a.next list (map (step_at book) order)) by_a.1.init legal.run) in
+    record {
+      calls = legal.calls;
+      once = legal.once;
+      earlier = legal.earlier;
+      answered = legal.answered;
+      run = subst (λ (list : List ℕ). IsRunFrom b.next list (map (step_at book) order))
+          (sym by_b.1.init) (told_steps_are_a_run by_b.0 table b by_b.1 table.init
+          (map (step_at book) order) told.0 told.1);
+      precedence = legal.precedence;
+    }

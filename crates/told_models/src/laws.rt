@@ -1,0 +1,24 @@
+//! Laws of tables. Each is the contract of a function with nothing in it.
+
+ghost use Rattle.told_models.specs.Laws.{CompletionsAgree, AgreesWithFewer, ClosedTablesDecide, DialoguesEnd};
+
+/// Each table has an object that agrees with it.
+pub fn some_object_agrees()
+    ensures { CompletionsAgree }
+{}
+
+/// Telling more leaves fewer objects.
+pub fn telling_more_leaves_fewer_objects()
+    ensures { AgreesWithFewer }
+{}
+
+/// All objects that agree with a table that is closed under a book's operations have the same legal
+/// orders of the book.
+pub fn closed_tables_decide()
+    ensures { ClosedTablesDecide }
+{}
+
+/// A dialogue ends, whatever is told.
+pub fn dialogues_end()
+    ensures { DialoguesEnd }
+{}
