@@ -7,13 +7,13 @@ use Rattle.book_base.specs.SeqSpec.{SeqSpec}
 use Rattle.book_base.specs.declared.call.Call.{Call}
 use Rattle.book_base.specs.Book.{Page, page_of, IsCall, operation_of}
 use Rattle.book_base.specs.Sequential.{IsRunFrom}
-use Rattle.book_base.specs.Order.{StandsAt, step_at, call_at}
+use Rattle.book_base.specs.Order.{IsLegalOrder, HasLegalOrder, StandsAt, step_at, call_at}
 use Rattle.told_models.specs.declared.table.Transition.{Transition}
 use Rattle.told_models.specs.Table.{Table, told_step}
-use Rattle.told_models.specs.Agreement.{AgreesBy}
-use Rattle.told_models.specs.Completion.{made_or_bad}
-use Rattle.told_models.specs.Closed.{Leads, HaveOperations, IsClosed, AreOperationsOf}
-use Rattle.told_models.specs.Laws.{CompletionsAgree, AgreesWithFewer, ClosedTablesDecide}
+use Rattle.told_models.specs.Agreement.{AgreesBy, Agrees}
+use Rattle.told_models.specs.Completion.{completion, made_or_bad}
+use Rattle.told_models.specs.Closed.{Leads, HaveWords, IsClosed, IsWordOf}
+use Rattle.told_models.specs.Laws.{CompletionsAgree, AgreesWithFewer, ClosedTablesDecide, ClosedForBooks}
 
 pub completions_agree : CompletionsAgree
 completions_agree table = (
@@ -57,54 +57,84 @@ told_steps_are_a_run list_of table spec agrees from (step ∷ steps) to leads =
     )
 
 -- in a closed table a run of an object that agrees is of told steps
-run_is_told : (list_of : ℕ → List ℕ) (table : Table) (ops : List ℕ) (spec : SeqSpec)
-    → AgreesBy list_of table spec → IsClosed table ops → (before : List (ℕ × ℕ)) (from : ℕ)
-    → HaveOperations ops before → Leads table table.init before from → (steps : List (ℕ × ℕ))
-    → HaveOperations ops steps → IsRunFrom spec.next (list_of from) steps
+run_is_told : (list_of : ℕ → List ℕ) (table : Table) (IsWord : ℕ → Type 0)
+    (spec : SeqSpec) → AgreesBy list_of table spec → IsClosed table IsWord → (before : List (ℕ × ℕ)) (from : ℕ)
+    → HaveWords IsWord before → Leads table table.init before from → (steps : List (ℕ × ℕ))
+    → HaveWords IsWord steps → IsRunFrom spec.next (list_of from) steps
     → (to : ℕ) × Leads table from steps to
-run_is_told list_of table ops spec agrees closed before from known leads [] all run = (from, refl)
-run_is_told list_of table ops spec agrees closed before from known leads (step ∷ steps) all run =
+run_is_told list_of table IsWord spec agrees closed before from known leads [] all run = (from, refl)
+run_is_told list_of table IsWord spec agrees closed before from known leads (step ∷ steps) all run =
     let found = closed before from step.0 known leads all.0 in
     let made = agrees.steps from step.0 found.0 found.1 in
     let reply : found.0.reply ≡ step.1 = sym (ap (λ (p : List ℕ × ℕ). p.1) made) ∙ run.0 in
-    let rest = run_is_told list_of table ops spec agrees closed
+    let rest = run_is_told list_of table IsWord spec agrees closed
     (before ++ (step.0, found.0.reply) ∷ []) found.0.next
-    (AllByRecursion-append (λ (s : ℕ × ℕ). Contains ops s.0) before
+    (AllByRecursion-append (λ (s : ℕ × ℕ). IsWord s.0) before
     ((step.0, found.0.reply) ∷ []) known (all.0, tt))
     (leads_on table table.init before from step.0 found.0 leads found.1) steps all.1
     (subst (λ (list : List ℕ). IsRunFrom spec.next list steps)
     (ap (λ (p : List ℕ × ℕ). p.0) made) run.1) in
     (rest.0, (found.0, found.1, reply, rest.1))
 
--- each place of an order of the book's calls has an operation word of the book
-places_have_operations : (book : List Page) (ops : List ℕ) → AreOperationsOf book ops
-    → (order : List Place)
+-- the operation words of the places of an order of the book's calls are the book's
+places_have_words : (book : List Page) (order : List Place)
     → ((k : ℕ) (call : Call) → StandsAt order k call → IsCall book call)
-    → HaveOperations ops (map (step_at book) order)
-places_have_operations book ops known [] calls = tt
-places_have_operations book ops known (place ∷ order) calls =
-    let is_call : IsCall book (call_at place) = calls 0 (call_at place) (place, refl, refl) in
+    → HaveWords (IsWordOf book) (map (step_at book) order)
+places_have_words book [] calls = tt
+places_have_words book (place ∷ order) calls =
     let words = (page_of book place.caller).operations in
     let word : operation_of book (call_at place) ≡ Some (get_or words place.number 0) =
-    slice_get-get_or words place.number 0 is_call in (
-      subst (λ (o : Option ℕ). Contains ops (unwrap_or o 0)) (sym word)
-          (known (call_at place) (get_or words place.number 0) word),
-      places_have_operations book ops known order
+    slice_get-get_or words place.number 0 (calls 0 (call_at place) (place, refl, refl)) in (
+      (call_at place, word ∙ ap (λ (o : Option ℕ). Some (unwrap_or o 0)) (sym word)),
+      places_have_words book order
           (λ k call stands. calls (suc k) call (stands.0, stands.1, stands.2)),
     )
 
 pub closed_tables_decide : ClosedTablesDecide
-closed_tables_decide table ops book order a b closed known by_a by_b legal =
-    let told = run_is_told by_a.0 table ops a by_a.1 closed [] table.init tt refl
-    (map (step_at book) order) (places_have_operations book ops known order legal.calls)
-    (subst (λ (list : List ℕ). IsRunFrom a.next list (map (step_at book) order)) by_a.1.init legal.run) in
+closed_tables_decide table book order a b closed by_a by_b legal =
+    let steps = map (step_at book) order in
+    let told = run_is_told by_a.0 table (IsWordOf book) a by_a.1 closed [] table.init tt refl steps
+    (places_have_words book order legal.calls)
+    (subst (λ (list : List ℕ). IsRunFrom a.next list steps) by_a.1.init legal.run) in
     record {
       calls = legal.calls;
       once = legal.once;
       earlier = legal.earlier;
       answered = legal.answered;
-      run = subst (λ (list : List ℕ). IsRunFrom b.next list (map (step_at book) order))
-          (sym by_b.1.init) (told_steps_are_a_run by_b.0 table b by_b.1 table.init
-          (map (step_at book) order) told.0 told.1);
+      run = subst (λ (list : List ℕ). IsRunFrom b.next list steps) (sym by_b.1.init)
+          (told_steps_are_a_run by_b.0 table b by_b.1 table.init steps told.0 told.1);
       precedence = legal.precedence;
     }
+
+-- steps whose words are among others' have those words
+words_among : (IsWord IsOther : ℕ → Type 0) → ((op : ℕ) → IsWord op → IsOther op)
+    → (steps : List (ℕ × ℕ)) → HaveWords IsWord steps → HaveWords IsOther steps
+words_among IsWord IsOther among [] have = tt
+words_among IsWord IsOther among (step ∷ steps) have =
+    (among step.0 have.0, words_among IsWord IsOther among steps have.1)
+
+pub closed_for_books : ClosedForBooks
+closed_for_books table ops book among closed steps state op have leads word =
+    closed steps state op (words_among (IsWordOf book) (Contains ops) among steps have) leads
+    (among op word)
+
+-- at a closed table an order that is legal for its completion is legal for each object that agrees
+pub legal_for_all : (table : Table) (book : List Page) (ops : List ℕ)
+    → ((op : ℕ) → IsWordOf book op → Contains ops op) → IsClosed table (Contains ops)
+    → (order : List Place) → IsLegalOrder (completion table) book order → (spec : SeqSpec)
+    → Agrees table spec → IsLegalOrder spec book order
+legal_for_all table book ops among closed order legal spec agrees =
+    closed_tables_decide table book order (completion table) spec
+    (closed_for_books table ops book among closed) (completions_agree table) agrees legal
+
+-- at a closed table no object that agrees has a legal order where its completion has none
+pub legal_for_none : (table : Table) (book : List Page) (ops : List ℕ)
+    → ((op : ℕ) → IsWordOf book op → Contains ops op) → IsClosed table (Contains ops)
+    → (HasLegalOrder (completion table) book → ⊥) → (spec : SeqSpec) → Agrees table spec
+    → HasLegalOrder spec book → ⊥
+legal_for_none table book ops among closed none spec agrees has =
+    none (
+      has.0,
+      closed_tables_decide table book has.0 spec (completion table)
+          (closed_for_books table ops book among closed) agrees (completions_agree table) has.1,
+    )

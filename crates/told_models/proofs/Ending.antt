@@ -4,7 +4,7 @@ use Rattle.std.specs.Option.{option_map_or}
 use Rattle.std.proofs.lemmas.List.Sums.{sum_by-cons}
 use Rattle.told_models.specs.declared.table.Transition.{Transition}
 use Rattle.told_models.specs.Table.{Table, told_step, Extends}
-use Rattle.told_models.specs.Closed.{Leads, HaveOperations}
+use Rattle.told_models.specs.Closed.{Leads, HaveWords}
 use Rattle.told_models.specs.Dialogue.{IsDialogue, word_lists}
 use Rattle.told_models.specs.Laws.{DialoguesEnd}
 use Rattle.told_models.proofs.Telling.{extends-tells}
@@ -106,7 +106,7 @@ left_at-falls old new extends ops (suc most) state = sum-at_most
 -- where a step is told at a state to which told steps lead, fewer are left than before
 left_at-less : (old new : Table) → Extends old new → (ops : List ℕ) (op : ℕ) → Contains ops op
     → (transition : Transition) (most from : ℕ) (steps : List (ℕ × ℕ)) (to : ℕ)
-    → length steps < most → HaveOperations ops steps → Leads old from steps to
+    → length steps < most → HaveWords (Contains ops) steps → Leads old from steps to
     → told_step old to op ≡ None → told_step new to op ≡ Some transition
     → left_at new ops most from < left_at old ops most from
 unfolding left_at
@@ -163,12 +163,13 @@ dialogue-bounded ops most table (next ∷ later) dialogue =
     let state = dialogue.0 in
     let op = dialogue.1 in
     let ask = dialogue.3 in
-    let tells = dialogue.4 in
-    let rest = dialogue-bounded ops most next later dialogue.5 in
+    let near = dialogue.4 in
+    let tells = dialogue.5 in
+    let rest = dialogue-bounded ops most next later dialogue.6 in
     let same : left_at next ops most next.init ≡ left_at next ops most table.init =
     ap (left_at next ops most) tells.init in
     let less = left_at-less table next (extends-tells table next state op dialogue.2 ask.untold tells)
-    ops op ask.among dialogue.2 most table.init ask.steps state ask.few ask.known ask.reached
+    ops op ask.word dialogue.2 most table.init near.steps state near.few near.words near.reached
     ask.untold tells.told in
     omega (arith, rest, same, less)
 

@@ -1,6 +1,6 @@
 //! Laws of tables. Each is the contract of a function with nothing in it.
 
-ghost use Rattle.told_models.specs.Laws.{CompletionsAgree, AgreesWithFewer, ClosedTablesDecide, DialoguesEnd};
+ghost use Rattle.told_models.specs.Laws.{CompletionsAgree, AgreesWithFewer, ClosedTablesDecide, ClosedForBooks, DialoguesEnd};
 
 /// Each table has an object that agrees with it.
 pub fn some_object_agrees()
@@ -16,6 +16,11 @@ pub fn telling_more_leaves_fewer_objects()
 /// orders of the book.
 pub fn closed_tables_decide()
     ensures { ClosedTablesDecide }
+{}
+
+/// A table that is closed under some operation words is closed for all books of these words.
+pub fn closed_tables_serve_all_books()
+    ensures { ClosedForBooks }
 {}
 
 /// A dialogue ends, whatever is told.

@@ -1,11 +1,14 @@
-ghost use Rattle.std.specs.Prelude.{◌≡◌, ℕ, ◌+◌, ◌≤◌, true, [], length, Some, None, IfOk, IfErr, OnErr};
+ghost use Rattle.std.specs.Prelude.{◌≡◌, ℕ, ◌+◌, ◌<◌, ◌≤◌, true, [], length, slice_index, Contains, Some, None, IsSome, IfSome, IfNone, IfOk, IfErr, OnErr};
 ghost use Rattle.book_base.specs.declared.TheConstants.{BAD};
 ghost use Rattle.told_models.specs.Table.{told_step, Extends, TellsStep, IsTellFault};
+ghost use Rattle.told_models.specs.Closed.{IsClosed};
+ghost use Rattle.told_models.specs.Dialogue.{IsAsk};
 ghost use Rattle.told_models.specs.Completion.{completion, step_at_list, completion-begins_small, length-made_or_bad, completion-knows_all};
 
 use crate::fault::TellFault;
 use book_base::{BAD, OpWord, SeqObject, State};
 use indexmap::IndexMap;
+use search_hints::SearchHints;
 use std::alloc::Global;
 use std::marker::Model;
 
@@ -74,6 +77,42 @@ impl ToldTable {
         self.add(state, op, transition)
     }
 
+    /// A pair of a state of the table and one of these operation words whose step wasn't told, where
+    /// there is one. Once none is left the table is closed under these words.
+    pub fn untold(&self, ops: &[OpWord]) -> Option<(u64, OpWord)>
+        // A pair in the answer may be asked for.
+        ensures ask { IfSome result (λ pair. IsAsk self.now (Contains ops.now) pair.0 pair.1) }
+        // Where no pair is left, the table is closed under these words.
+        ensures closed { IfNone result (IsClosed self.now (Contains ops.now)) }
+    {
+        if let Some(op) = self.untold_at(self.init, ops) {
+            return Some((self.init, op));
+        }
+        for k in 0..self.steps.len() {
+            let transition = self.steps[k];
+            if let Some(op) = self.untold_at(transition.next, ops) {
+                return Some((transition.next, op));
+            }
+        }
+        None
+    }
+
+    // One of these operation words whose step wasn't told at a state.
+    fn untold_at(&self, state: u64, ops: &[OpWord]) -> Option<OpWord>
+        ensures ask { IfSome result
+            (λ op. Contains ops.now op × (told_step self.now state op ≡ None)) }
+        ensures told { IfNone result
+            ((k : ℕ) → k < length ops.now
+            → IsSome (told_step self.now state (slice_index ops.now k))) }
+    {
+        for op in ops {
+            if self.get(state, *op).is_none() {
+                return Some(*op);
+            }
+        }
+        None
+    }
+
     // Puts in the transition of a pair at which none was told.
     fn add(&mut self, state: u64, op: OpWord, transition: Transition) -> Result<(), TellFault>
         requires { told_step self.old state op ≡ None }
@@ -123,3 +162,5 @@ impl SeqObject for ToldTable {
         }
     }
 }
+
+impl SearchHints for ToldTable {}

@@ -1,0 +1,23 @@
+use Rattle.std.proofs.Common.{inl, inr, arith}
+use Rattle.told_models.proofs.Words.{caller_inside, words_below-more}
+use Rattle.told_models.proofs.judging.operations.Goals as goal
+
+pub loop-caller-preserved : goal.loop-caller-preserved
+loop-caller-preserved c =
+    let adds = c.in_ok-add_operations.ensures in (
+      words_below-more c.args.book.now c.loop-caller.caller c.loop-caller.ops.items
+          c.add_operations.new.ops.items c.loop-caller.invariant.0 adds,
+      λ op has. elim (adds.own op has) [
+        | inl old ↦ c.loop-caller.invariant.1 op old
+        | inr is ↦ is
+      ],
+    )
+
+pub returns-clause-all : goal.returns-clause-all
+returns-clause-all c op word = c.loop-caller.invariant.0 word.0 op
+    (omega (
+      arith,
+      c.callers-caller-end.ensures.count,
+      c.loop-caller-test.false,
+      caller_inside c.args.book.now word.0 op word.1,
+    )) word.1

@@ -1,0 +1,202 @@
+//! Two objects of one's own, told step by step while books of them are judged: a queue with two
+//! places, which refuses a put while it is full, and a lock with an owner.
+ghost use Rattle.std.specs.Prelude.{◌≡◌, length};
+
+use crate::{Answer, ToldTable, Transition, judge};
+use book_base::{Book, Cut, OpWord};
+use std::alloc::Global;
+use std::test::Fail;
+
+// The queue's operations put 1, 2 or 3 in, or take the oldest value out.
+const TAKE: OpWord = 10;
+
+const DONE: u64 = 1;
+
+const FULL: u64 = 2;
+
+const EMPTY: u64 = 3;
+// A take that gives a value replies the value and this.
+const VALUE: u64 = 10;
+
+// A state of the queue has the number `4 * second + first` of its values, where 0 stands for none.
+fn queue_step(state: u64, op: OpWord) -> Transition {
+    let first = state % 4;
+    let second = state / 4 % 4;
+    if op == TAKE {
+        if first == 0 {
+            return to(state, EMPTY);
+        }
+        return to(second, VALUE + first);
+    }
+    let value = (op % 4) as u64;
+    if first == 0 {
+        to(value, DONE)
+    } else if second == 0 {
+        to(4 * value + first, DONE)
+    } else {
+        to(state, FULL)
+    }
+}
+
+// The lock's operations: caller A or B acquires it or releases it. State 0 is free, 1 is held by A,
+// and 2 by B.
+const ACQUIRE_A: OpWord = 1;
+
+const ACQUIRE_B: OpWord = 2;
+
+const RELEASE_A: OpWord = 3;
+
+const RELEASE_B: OpWord = 4;
+
+const YES: u64 = 1;
+
+const NO: u64 = 0;
+
+fn lock_step(state: u64, op: OpWord) -> Transition {
+    match (state, op) {
+        (0, ACQUIRE_A) => to(1, YES),
+        (0, ACQUIRE_B) => to(2, YES),
+        (1, RELEASE_A) => to(0, YES),
+        (2, RELEASE_B) => to(0, YES),
+        _ => to(state, NO),
+    }
+}
+
+fn to(next: u64, reply: u64) -> Transition {
+    Transition { next, reply }
+}
+
+fn view(first: u64, second: u64) -> Cut
+    ensures { length result ≡ 2 }
+{
+    let mut cut = Cut::zero(2);
+    cut.set(0, first);
+    cut.set(1, second);
+    cut
+}
+
+// Whether a book is legal, for the object with these steps, which are told where they are asked for.
+// Each object here has at most 21 states and 4 operations, so that 100 asks suffice.
+fn is_legal(alloc: Global, is_queue: bool, book: &Book) -> Result<bool, Fail> {
+    let mut table = ToldTable::new(alloc, 0);
+    for _ in 0..100 {
+        match judge(alloc, &table, book)? {
+            Answer::Legal(_) => return Ok(true),
+            Answer::Illegal => return Ok(false),
+            Answer::Ask(state, op) => {
+                let transition = if is_queue {
+                    queue_step(state, op)
+                } else {
+                    lock_step(state, op)
+                };
+                table.tell(state, op, transition)?;
+            }
+        }
+    }
+    Err("more asks than there are steps".into())
+}
+
+// The first caller puts 1, 2 and 3 in, one after another, and then the second one takes. The third
+// put has the reply `third`, and the take the reply `taken`, with these views.
+fn queue_book(alloc: Global, third: u64, third_view: Cut, taken: u64) -> Result<Book, Fail>
+    requires { length third_view ≡ 2 }
+{
+    let mut book = Book::new(alloc, 2)?;
+    book.add_call(0, 1)?;
+    book.add_answer(0, DONE, view(1, 0))?;
+    book.add_call(0, 2)?;
+    book.add_answer(0, DONE, view(2, 0))?;
+    book.add_call(0, 3)?;
+    book.add_call(1, TAKE)?;
+    book.add_answer(0, third, third_view)?;
+    book.add_answer(1, taken, view(3, 1))?;
+    Ok(book)
+}
+
+#[test]
+fn a_queue_of_two_places_refuses_a_third_value(rt: HostRuntime) -> Result<(), Fail> {
+    let alloc = rt.alloc();
+    let refused = queue_book(alloc, FULL, view(3, 0), VALUE + 1)?;
+    assert!(rt; is_legal(alloc, true, &refused)?);
+    let taken_over = queue_book(alloc, DONE, view(3, 0), VALUE + 1)?;
+    assert!(rt;
+        !is_legal(alloc, true, &taken_over)?,
+        "a third value, with no take before it"
+    );
+    let newest = queue_book(alloc, FULL, view(3, 0), VALUE + 2)?;
+    assert!(rt;
+        !is_legal(alloc, true, &newest)?,
+        "a take of the second value"
+    );
+    Ok(())
+}
+
+#[test]
+fn a_put_may_wait_for_a_take_that_overlaps(rt: HostRuntime) -> Result<(), Fail> {
+    let alloc = rt.alloc();
+    let after_the_take = queue_book(alloc, DONE, view(3, 1), VALUE + 1)?;
+    assert!(rt; is_legal(alloc, true, &after_the_take)?);
+    let before_the_take = queue_book(alloc, FULL, view(3, 1), VALUE + 1)?;
+    assert!(rt; is_legal(alloc, true, &before_the_take)?);
+    let nothing = queue_book(alloc, DONE, view(3, 1), EMPTY)?;
+    assert!(rt; !is_legal(alloc, true, &nothing)?);
+    Ok(())
+}
+
+// A acquires the lock, then B asks for it, with this reply.
+fn second_acquire(alloc: Global, reply: u64) -> Result<Book, Fail> {
+    let mut book = Book::new(alloc, 2)?;
+    book.add_call(0, ACQUIRE_A)?;
+    book.add_answer(0, YES, view(1, 0))?;
+    book.add_call(1, ACQUIRE_B)?;
+    book.add_answer(1, reply, view(1, 1))?;
+    Ok(book)
+}
+
+// A acquires the lock and begins to release it, without an answer. B's call of this operation, which
+// begins after the release began, has this reply.
+fn while_released(alloc: Global, op: OpWord, reply: u64) -> Result<Book, Fail> {
+    let mut book = Book::new(alloc, 2)?;
+    book.add_call(0, ACQUIRE_A)?;
+    book.add_answer(0, YES, view(1, 0))?;
+    book.add_call(0, RELEASE_A)?;
+    book.add_call(1, op)?;
+    book.add_answer(1, reply, view(2, 1))?;
+    Ok(book)
+}
+
+#[test]
+fn a_lock_has_one_owner(rt: HostRuntime) -> Result<(), Fail> {
+    let alloc = rt.alloc();
+    assert!(rt; is_legal(alloc, false, &second_acquire(alloc, NO)?)?);
+    assert!(rt; !is_legal(alloc, false, &second_acquire(alloc, YES)?)?);
+    Ok(())
+}
+
+#[test]
+fn an_unanswered_release_may_have_taken_effect(rt: HostRuntime) -> Result<(), Fail> {
+    let alloc = rt.alloc();
+    assert!(rt; is_legal(alloc, false, &while_released(alloc, ACQUIRE_B, YES)?)?);
+    assert!(rt; is_legal(alloc, false, &while_released(alloc, ACQUIRE_B, NO)?)?);
+    assert!(rt; !is_legal(alloc, false, &while_released(alloc, RELEASE_B, YES)?)?);
+    Ok(())
+}
+
+#[test]
+fn a_book_without_calls_is_legal_without_an_ask(rt: HostRuntime) -> Result<(), Fail> {
+    let alloc = rt.alloc();
+    let table = ToldTable::new(alloc, 7);
+    let book = Book::new(alloc, 1)?;
+    assert!(rt; matches!(judge(alloc, &table, &book)?, Answer::Legal(_)));
+    Ok(())
+}
+
+#[test]
+fn the_first_ask_is_at_the_initial_state(rt: HostRuntime) -> Result<(), Fail> {
+    let alloc = rt.alloc();
+    let table = ToldTable::new(alloc, 7);
+    let mut book = Book::new(alloc, 1)?;
+    book.add_call(0, 5)?;
+    assert!(rt; matches!(judge(alloc, &table, &book)?, Answer::Ask(7, 5)));
+    Ok(())
+}
