@@ -1,0 +1,40 @@
+-- Locality: a product of objects, one for each key, and the parts of a book by key (Herlihy and
+-- Wing 1990).
+use Rattle.std.specs.Prelude.{◌≡◌, ℕ, ◌↔◌, List, Some}
+use Rattle.book_base.specs.declared.call.Call.{Call}
+use Rattle.book_base.specs.SeqSpec.{SeqSpec}
+use Rattle.book_base.specs.Book.{Page, operation_of}
+use Rattle.book_base.specs.Order.{HasLegalOrder}
+use Rattle.smaller_book.specs.Part.{IsNamed, IsPart, KeepsAnswers}
+
+-- An object is a product of objects, one for each key: `key` gives the key of each operation word,
+-- and `list_of` gives for a key and a list of the product the list of the key's object. The product
+-- begins where its objects begin. An operation has the reply of its key's object, changes its list
+-- as this object does, and changes the list of no other key.
+pub record IsProduct (key : ℕ → ℕ) (list_of : ℕ → List ℕ → List ℕ) (objects : ℕ → SeqSpec)
+    (product : SeqSpec) : Type 0 where
+  pub init : (k : ℕ) → list_of k product.init ≡ (objects k).init
+  pub reply : (list : List ℕ) (op : ℕ)
+      → (product.next list op).1 ≡ ((objects (key op)).next (list_of (key op) list) op).1
+  pub own : (list : List ℕ) (op : ℕ) → list_of (key op) (product.next list op).0
+      ≡ ((objects (key op)).next (list_of (key op) list) op).0
+  pub others : (list : List ℕ) (op k : ℕ) → (key op ≡ k → ⊥)
+      → list_of k (product.next list op).0 ≡ list_of k list
+
+-- A part of a book is the part of a key: it has exactly the calls whose operation words have this
+-- key, and all their answers.
+pub record IsPartOfKey (key : ℕ → ℕ) (k : ℕ) (book : List Page) (names : List (List ℕ))
+    (part : List Page) : Type 0 where
+  pub is_part : IsPart book names part
+  pub answers : KeepsAnswers book names part
+  pub calls : (call : Call) (op : ℕ) → operation_of book call ≡ Some op
+      → (IsNamed names call ↔ (key op ≡ k))
+
+-- Where a product has a legal order of a valid book, each of its objects has one of the part of its
+-- key.
+abbrev pub LegalWholesHaveLegalParts : Type 0
+LegalWholesHaveLegalParts =
+    (key : ℕ → ℕ) (list_of : ℕ → List ℕ → List ℕ) (objects : ℕ → SeqSpec) (product : SeqSpec)
+    (k : ℕ) (book : List Page) (names : List (List ℕ)) (part : List Page)
+    → IsProduct key list_of objects product → IsPartOfKey key k book names part
+    → HasLegalOrder product book → HasLegalOrder (objects k) part
