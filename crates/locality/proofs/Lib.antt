@@ -1,1 +1,2 @@
 pub mod Restricting
+pub mod Running

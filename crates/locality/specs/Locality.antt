@@ -1,9 +1,10 @@
 -- Locality: a product of objects, one for each key, and the parts of a book by key (Herlihy and
 -- Wing 1990).
-use Rattle.std.specs.Prelude.{◌≡◌, ℕ, ◌↔◌, List, Some}
+use Rattle.std.specs.Prelude.{◌≡◌, ℕ, nat_eq, ◌↔◌, List, filter, Some}
 use Rattle.book_base.specs.declared.call.Call.{Call}
 use Rattle.book_base.specs.SeqSpec.{SeqSpec}
 use Rattle.book_base.specs.Book.{Page, operation_of}
+use Rattle.book_base.specs.Sequential.{IsRunFrom}
 use Rattle.book_base.specs.Order.{HasLegalOrder}
 use Rattle.smaller_book.specs.Part.{IsNamed, IsPart, KeepsAnswers}
 
@@ -38,3 +39,16 @@ LegalWholesHaveLegalParts =
     (k : ℕ) (book : List Page) (names : List (List ℕ)) (part : List Page)
     → IsProduct key list_of objects product → IsPartOfKey key k book names part
     → HasLegalOrder product book → HasLegalOrder (objects k) part
+
+-- The steps of a key among some steps, each an operation word and its reply.
+abbrev pub steps_of_key : (ℕ → ℕ) → ℕ → List (ℕ × ℕ) → List (ℕ × ℕ)
+steps_of_key key k steps = filter (λ step. nat_eq (key step.0) k) steps
+
+-- Steps are a run of a product from a list exactly where the steps of each key are a run of the
+-- key's object from its list.
+abbrev pub RunsOfProducts : Type 0
+RunsOfProducts =
+    (key : ℕ → ℕ) (list_of : ℕ → List ℕ → List ℕ) (objects : ℕ → SeqSpec) (product : SeqSpec)
+    (list : List ℕ) (steps : List (ℕ × ℕ)) → IsProduct key list_of objects product
+    → (IsRunFrom product.next list steps ↔ ((k : ℕ)
+    → IsRunFrom (objects k).next (list_of k list) (steps_of_key key k steps)))
