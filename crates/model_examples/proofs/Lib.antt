@@ -1,0 +1,3 @@
+pub mod TwoCalls
+pub mod Lock
+pub mod Counters

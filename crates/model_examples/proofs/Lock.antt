@@ -1,0 +1,123 @@
+-- The lock that is told step by step.
+use Rattle.std.proofs.Common.{◌≡◌, ℕ, zero, suc, Bool, false, cond, nat_eq, List, [], ◌∷◌, Contains, None, Some, refl, sym, ap, subst, ◌∙◌, inl, inr, arith}
+use Rattle.std.proofs.lemmas.Bool.{cases_Bool, and_parts, and_from, eqb-true, eq-eqb, true≢false}
+use Rattle.std.proofs.lemmas.Option.{same_Some, none-some}
+use Rattle.book_base.specs.Book.{operation_of}
+use Rattle.told_models.specs.declared.table.Transition.{Transition}
+use Rattle.told_models.specs.Table.{is_same_pair, told_step, Extends, TellsStep}
+use Rattle.told_models.specs.Agreement.{Agrees}
+use Rattle.told_models.specs.Closed.{IsClosed, IsWordOf}
+use Rattle.told_models.specs.Dialogue.{IsDialogue}
+use Rattle.told_models.proofs.Telling.{tells_step, extends-tells}
+use Rattle.told_models.proofs.Closing.{AreTold, AreToldBelow, closed_from_steps}
+use Rattle.model_examples.specs.Locks.{nothing_told, acquired, refused, other_after, other_lock, two_calls, to}
+
+among : Contains {X = ℕ} (1 ∷ []) 1
+among = (0, omega arith, refl)
+
+-- pairs are told apart either way round
+apart_back : (a b : ℕ × ℕ) → is_same_pair a b ≡ false → is_same_pair b a ≡ false
+apart_back a b apart = elim (cases_Bool (is_same_pair b a)) [
+  | inr differs ↦ differs
+  | inl same ↦ let parts = and_parts (nat_eq b.0 a.0) (nat_eq b.1 a.1) same in
+      absurd (true≢false (sym (and_from (nat_eq a.0 b.0) (nat_eq a.1 b.1)
+      (eq-eqb a.0 b.0 (sym (eqb-true b.0 a.0 parts.0)))
+      (eq-eqb a.1 b.1 (sym (eqb-true b.1 a.1 parts.1)))) ∙ apart))
+]
+
+first_tells : TellsStep nothing_told acquired 0 1 (to 1 1)
+first_tells = tells_step nothing_told acquired 0 1 (to 1 1) refl refl
+    (λ q apart. ap (λ (b : Bool). cond b (Some (to 1 1)) None) (apart_back (0, 1) q apart))
+
+second_tells : TellsStep acquired refused 1 1 (to 1 0)
+second_tells = tells_step acquired refused 1 1 (to 1 0) refl refl
+    (λ q apart. ap (λ (b : Bool). cond (is_same_pair q (0, 1)) (Some (to 1 1))
+    (cond b (Some (to 1 0)) None)) (apart_back (1, 1) q apart))
+
+pub lock_extends : Extends acquired refused
+lock_extends = extends-tells acquired refused 1 1 (to 1 0) refl second_tells
+
+pub lock_dialogue : IsDialogue (1 ∷ []) 2 nothing_told (acquired ∷ refused ∷ [])
+lock_dialogue = (
+  0,
+  1,
+  to 1 1,
+  record { untold = refl; word = among; named = inl refl },
+  record { steps = []; few = omega arith; words = tt; reached = refl },
+  first_tells,
+  (
+    1,
+    1,
+    to 1 0,
+    record { untold = refl; word = among; named = inr (0, to 1 1, refl, refl) },
+    record {
+      steps = (1, 1) ∷ [];
+      few = omega arith;
+      words = (among, tt);
+      reached = (to 1 1, refl, refl, refl);
+    },
+    second_tells,
+    tt,
+  ),
+)
+
+told_at_free : AreTold refused (1 ∷ []) 0
+told_at_free zero less = refl
+told_at_free (suc k) less = absurd (omega (arith, less))
+
+told_at_held : AreTold refused (1 ∷ []) 1
+told_at_held zero less = refl
+told_at_held (suc k) less = absurd (omega (arith, less))
+
+told_after : AreToldBelow refused (1 ∷ []) 2
+told_after zero transition less at =
+    subst (λ (t : Transition). AreTold refused (1 ∷ []) t.next) (same_Some _ transition at)
+    told_at_held
+told_after (suc zero) transition less at =
+    subst (λ (t : Transition). AreTold refused (1 ∷ []) t.next) (same_Some _ transition at)
+    told_at_held
+told_after (suc (suc k)) transition less at = absurd (omega (arith, less))
+
+pub lock_closed : IsClosed refused (Contains (1 ∷ []))
+lock_closed = closed_from_steps refused (1 ∷ []) 2 told_at_free told_after (omega arith)
+
+other_makes : (state op : ℕ) (transition : Transition)
+    → told_step refused state op ≡ Some transition
+    → other_lock.next (state ∷ []) op ≡ (transition.next ∷ [], transition.reply)
+other_makes state op t told =
+    let pair : ℕ × ℕ = (state, op) in
+    let later = cond (is_same_pair pair (1, 1)) (Some (to 1 0)) None in
+    let image : Transition → List ℕ × ℕ = λ x. (x.next ∷ [], x.reply) in
+    elim (cases_Bool (is_same_pair pair (0, 1))) [
+      | inl free ↦
+          let parts = and_parts (nat_eq state 0) (nat_eq op 1) free in
+          ap (λ (i : ℕ). other_after (i ∷ []) op) (eqb-true state 0 parts.0)
+          ∙ ap (λ (j : ℕ). other_after (0 ∷ []) j) (eqb-true op 1 parts.1)
+          ∙ ap image (same_Some (to 1 1) t
+          (ap (λ (b : Bool). cond b (Some (to 1 1)) later) (sym free) ∙ told))
+      | inr not_free ↦
+          let rest = ap (λ (b : Bool). cond b (Some (to 1 1)) later) (sym not_free) ∙ told in
+          elim (cases_Bool (is_same_pair pair (1, 1))) [
+            | inl held ↦
+                let parts = and_parts (nat_eq state 1) (nat_eq op 1) held in
+                ap (λ (i : ℕ). other_after (i ∷ []) op) (eqb-true state 1 parts.0)
+                ∙ ap (λ (j : ℕ). other_after (1 ∷ []) j) (eqb-true op 1 parts.1)
+                ∙ ap image (same_Some (to 1 0) t
+                (ap (λ (b : Bool). cond b (Some (to 1 0)) None) (sym held) ∙ rest))
+            | inr not_held ↦ absurd (none-some t
+                (ap (λ (b : Bool). cond b (Some (to 1 0)) None) (sym not_held) ∙ rest))
+          ]
+    ]
+
+pub lock_agrees : Agrees refused other_lock
+lock_agrees = (λ state. state ∷ [], record { init = refl; steps = other_makes })
+
+pub lock_words : (op : ℕ) → IsWordOf (two_calls 1 1 1 0) op → Contains (1 ∷ []) op
+lock_words op word = word_at word.0.caller word.0.number word.1
+  where
+    word_at : (i k : ℕ) → operation_of (two_calls 1 1 1 0) (record { caller = i; number = k })
+        ≡ Some op → Contains (1 ∷ []) op
+    word_at zero zero at = (0, omega arith, same_Some 1 op at)
+    word_at zero (suc zero) at = (0, omega arith, same_Some 1 op at)
+    word_at zero (suc (suc k)) at = absurd (none-some op at)
+    word_at (suc i) k at = absurd (none-some op at)

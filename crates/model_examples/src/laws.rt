@@ -1,0 +1,44 @@
+//! Worked cases: what the definitions of told tables and of products say of small ones.
+
+ghost use Rattle.std.specs.Prelude.{◌≡◌, ℕ, [], ◌∷◌, Contains};
+ghost use Rattle.book_base.specs.Order.{IsLegalOrder, HasLegalOrder};
+ghost use Rattle.told_models.specs.declared.fault.TellFault.TheVariants.{Contradicts};
+ghost use Rattle.told_models.specs.Table.{Extends, IsTellFault};
+ghost use Rattle.told_models.specs.Agreement.{Agrees};
+ghost use Rattle.told_models.specs.Completion.{completion};
+ghost use Rattle.told_models.specs.Closed.{IsClosed, IsWordOf};
+ghost use Rattle.told_models.specs.Dialogue.{IsDialogue, word_lists};
+ghost use Rattle.locality.specs.Locality.{IsProduct, IsPartOfKey};
+ghost use Rattle.model_examples.specs.Locks.{nothing_told, acquired, refused, other_lock, two_calls, two_places, to};
+ghost use Rattle.model_examples.specs.Counters.{side_key, side_list, side_counter, both_counters, first_part};
+
+/// A lock whose operation 1 acquires it: at the free state 0 the reply is 1, and at the held state 1
+/// it is 0. Both steps are asked for, and then the table is closed.
+pub fn a_lock_is_told_step_by_step()
+    // The two steps are told in a dialogue, which has as many asks as the bound allows.
+    ensures dialogue { IsDialogue (1 ∷ []) 2 nothing_told (acquired ∷ refused ∷ []) }
+    ensures bound { word_lists 1 2 ≡ 2 }
+    // After the first step another one at the free state contradicts it.
+    ensures contradicted { IsTellFault acquired 0 1 (to 0 1) (Contradicts (to 1 1)) }
+    // The table with both steps extends the one with the first step.
+    ensures extends { Extends acquired refused }
+    // The table with both steps is closed under the operation word 1.
+    ensures closed { IsClosed refused (Contains (1 ∷ [])) }
+    // An object agrees with the table and isn't its completion.
+    ensures agrees { Agrees refused other_lock }
+    ensures other { (completion refused).next (5 ∷ []) 1 ≡ other_lock.next (5 ∷ []) 1 → ⊥ }
+    // A book in which one caller acquires the lock twice has only this operation word, and an order
+    // of it is legal for that object, and so for each that agrees.
+    ensures words { (op : ℕ) → IsWordOf (two_calls 1 1 1 0) op → Contains (1 ∷ []) op }
+    ensures legal { IsLegalOrder other_lock (two_calls 1 1 1 0) (two_places 1 0) }
+{}
+
+/// Two counters side by side, and a book in which one caller increments each of them once.
+pub fn two_counters_are_a_product()
+    // They are a product of counters.
+    ensures product { IsProduct side_key side_list side_counter both_counters }
+    // The part of the first counter's key has the first call alone.
+    ensures part { IsPartOfKey side_key 0 (two_calls 0 0 1 0) ((0 ∷ []) ∷ []) first_part }
+    // The two counters have a legal order of the book.
+    ensures legal { HasLegalOrder both_counters (two_calls 0 0 1 0) }
+{}

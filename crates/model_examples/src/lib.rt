@@ -1,0 +1,4 @@
+//! Worked cases of told tables and of locality.
+#![tactic(auto)]
+
+pub mod laws;
