@@ -15,8 +15,9 @@ ghost use Rattle.model_examples.specs.Counters.{side_key, side_list, side_counte
 /// A lock whose operation 1 acquires it: at the free state 0 the reply is 1, and at the held state 1
 /// it is 0. Both steps are asked for, and then the table is closed.
 pub fn a_lock_is_told_step_by_step()
-    // The two steps are told in a dialogue, which has as many asks as the bound allows.
+    // The two steps are told in a dialogue.
     ensures dialogue { IsDialogue (1 ∷ []) 2 nothing_told (acquired ∷ refused ∷ []) }
+    // The bound allows two asks.
     ensures bound { word_lists 1 2 ≡ 2 }
     // After the first step another one at the free state contradicts it.
     ensures contradicted { IsTellFault acquired 0 1 (to 0 1) (Contradicts (to 1 1)) }
@@ -24,12 +25,13 @@ pub fn a_lock_is_told_step_by_step()
     ensures extends { Extends acquired refused }
     // The table with both steps is closed under the operation word 1.
     ensures closed { IsClosed refused (Contains (1 ∷ [])) }
-    // An object agrees with the table and isn't its completion.
+    // Another object than the completion agrees with the table.
     ensures agrees { Agrees refused other_lock }
+    // It differs from the completion at a list that is no state.
     ensures other { (completion refused).next (5 ∷ []) 1 ≡ other_lock.next (5 ∷ []) 1 → ⊥ }
-    // A book in which one caller acquires the lock twice has only this operation word, and an order
-    // of it is legal for that object, and so for each that agrees.
+    // A book in which one caller acquires the lock twice has only this operation word.
     ensures words { (op : ℕ) → IsWordOf (two_calls 1 1 1 0) op → Contains (1 ∷ []) op }
+    // An order of this book is legal for that object, and so for each that agrees.
     ensures legal { IsLegalOrder other_lock (two_calls 1 1 1 0) (two_places 1 0) }
 {}
 

@@ -7,7 +7,8 @@ pub fn some_object_agrees()
     ensures { CompletionsAgree }
 {}
 
-/// Telling more leaves fewer objects.
+/// An object that agrees with a table agrees with each table that it extends: telling more leaves
+/// fewer objects.
 pub fn telling_more_leaves_fewer_objects()
     ensures { AgreesWithFewer }
 {}
@@ -23,7 +24,9 @@ pub fn closed_tables_serve_all_books()
     ensures { ClosedForBooks }
 {}
 
-/// A dialogue ends, whatever is told.
+/// A dialogue ends, whatever is told, where each ask is for a step that wasn't told, at a state that
+/// fewer than a given number of told steps reach: it has at most as many asks as there are lists of
+/// operation words of at most this length.
 pub fn dialogues_end()
     ensures { DialoguesEnd }
 {}

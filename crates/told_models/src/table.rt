@@ -48,7 +48,7 @@ impl ToldTable {
         }
     }
 
-    /// The transition that an operation was told to make at a state.
+    /// The transition that an operation was told to make at a state, where one was told.
     pub fn get(&self, state: u64, op: OpWord) -> Option<Transition>
         ensures { result ≡ told_step self.now state op }
     {
@@ -62,8 +62,8 @@ impl ToldTable {
         ensures told { IfOk result (λ _. TellsStep self.old self.new state op transition) }
         // What was told stays told.
         ensures kept { Extends self.old self.new }
-        // A step is refused where another transition was told there, which the refusal names, or
-        // where memory for a new step lacks.
+        // A step is refused only where another transition was told there, which the refusal names,
+        // or for want of memory for a new step.
         ensures refusal { IfErr result (IsTellFault self.old state op transition) }
         // A refusal changes nothing.
         ensures refused { OnErr result (self.new ≡ self.old) }
