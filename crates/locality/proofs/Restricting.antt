@@ -111,7 +111,8 @@ matched_with key list_of objects product k whole few op is same matched =
     ≡ (zero ∷ (product.next list op).0, (product.next list op).1) =
     unfold Embeds in first_embeds product.next (objects k).next list op in
     let mine : both (suc zero ∷ list_of k list) op
-    ≡ (suc zero ∷ ((objects k).next (list_of k list) op).0, ((objects k).next (list_of k list) op).1)
+    ≡
+    (suc zero ∷ ((objects k).next (list_of k list) op).0, ((objects k).next (list_of k list) op).1)
     = unfold Embeds in second_embeds product.next (objects k).next (list_of k list) op in
     let reply : (product.next list op).1 ≡ ((objects k).next (list_of k list) op).1 =
     subst (λ (n : ℕ). (product.next list op).1 ≡ ((objects n).next (list_of n list) op).1) same

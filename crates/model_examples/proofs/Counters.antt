@@ -74,7 +74,8 @@ same_records : (i k : ℕ) (small : Record)
     → IsSomeAnd (record_of book (original names (record { caller = i; number = k })))
     (λ whole. IsRenumbered names whole small)
 same_records zero zero small at =
-    subst (IsRenumbered names kept) (same_Some kept small at) (record { reply = refl; view = counts })
+    subst (IsRenumbered names kept) (same_Some kept small at)
+    (record { reply = refl; view = counts })
 same_records zero (suc k) small at = absurd (none-some small at)
 same_records (suc i) k small at = absurd (none-some small at)
 

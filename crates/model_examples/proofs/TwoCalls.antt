@@ -16,9 +16,15 @@ call_of i k = record { caller = i; number = k }
 first_is_free : (a r b s i k : ℕ) → Precedes (two_calls a r b s) (call_of i k) (call_of 0 0)
     → Holds (0 ∷ []) (call_of i k)
 first_is_free a r b s zero zero p =
-    elim p [ inl answered ↦ absurd (omega (arith, answered)) | inr own ↦ absurd (omega (arith, own.1)) ]
+    elim p [
+      | inl answered ↦ absurd (omega (arith, answered))
+      | inr own ↦ absurd (omega (arith, own.1))
+    ]
 first_is_free a r b s zero (suc zero) p =
-    elim p [ inl answered ↦ absurd (omega (arith, answered)) | inr own ↦ absurd (omega (arith, own.1)) ]
+    elim p [
+      | inl answered ↦ absurd (omega (arith, answered))
+      | inr own ↦ absurd (omega (arith, own.1))
+    ]
 first_is_free a r b s zero (suc (suc k)) p =
     elim p [ inl answered ↦ absurd answered | inr own ↦ absurd (omega (arith, own.1)) ]
 first_is_free a r b s (suc i) k p =
@@ -28,7 +34,10 @@ second_is_next : (a r b s i k : ℕ) → Precedes (two_calls a r b s) (call_of i
     → Holds (1 ∷ []) (call_of i k)
 second_is_next a r b s zero zero p = omega arith
 second_is_next a r b s zero (suc zero) p =
-    elim p [ inl answered ↦ absurd (omega (arith, answered)) | inr own ↦ absurd (omega (arith, own.1)) ]
+    elim p [
+      | inl answered ↦ absurd (omega (arith, answered))
+      | inr own ↦ absurd (omega (arith, own.1))
+    ]
 second_is_next a r b s zero (suc (suc k)) p =
     elim p [ inl answered ↦ absurd answered | inr own ↦ absurd (omega (arith, own.1)) ]
 second_is_next a r b s (suc i) k p =

@@ -12,8 +12,8 @@ ghost use Rattle.locality.specs.Locality.{IsProduct, IsPartOfKey};
 ghost use Rattle.model_examples.specs.Locks.{nothing_told, acquired, refused, other_lock, two_calls, two_places, to};
 ghost use Rattle.model_examples.specs.Counters.{side_key, side_list, side_counter, both_counters, first_part};
 
-/// A lock whose operation 1 acquires it: at the free state 0 the reply is 1, and at the held state 1
-/// it is 0. Both steps are asked for, and then the table is closed.
+/// A lock whose operation 1 acquires it: at the free state 0 the reply is 1, and at the held state
+/// 1 it is 0. Both steps are asked for, and then the table is closed.
 pub fn a_lock_is_told_step_by_step()
     // The two steps are told in a dialogue.
     ensures dialogue { IsDialogue (1 ∷ []) 2 nothing_told (acquired ∷ refused ∷ []) }

@@ -58,11 +58,13 @@ told_steps_are_a_run list_of table spec agrees from (step ∷ steps) to leads =
 
 -- in a closed table a run of an object that agrees is of told steps
 run_is_told : (list_of : ℕ → List ℕ) (table : Table) (IsWord : ℕ → Type 0)
-    (spec : SeqSpec) → AgreesBy list_of table spec → IsClosed table IsWord → (before : List (ℕ × ℕ)) (from : ℕ)
+    (spec : SeqSpec) → AgreesBy list_of table spec → IsClosed table IsWord
+    → (before : List (ℕ × ℕ)) (from : ℕ)
     → HaveWords IsWord before → Leads table table.init before from → (steps : List (ℕ × ℕ))
     → HaveWords IsWord steps → IsRunFrom spec.next (list_of from) steps
     → (to : ℕ) × Leads table from steps to
-run_is_told list_of table IsWord spec agrees closed before from known leads [] all run = (from, refl)
+run_is_told list_of table IsWord spec agrees closed before from known leads [] all run =
+    (from, refl)
 run_is_told list_of table IsWord spec agrees closed before from known leads (step ∷ steps) all run =
     let found = closed before from step.0 known leads all.0 in
     let made = agrees.steps from step.0 found.0 found.1 in

@@ -74,7 +74,8 @@ pub closed_from_steps : (table : Table) (ops : List ℕ) (below : ℕ) → AreTo
     → AreToldBelow table ops below → length table.steps ≤ below → IsClosed table (Contains ops)
 closed_from_steps table ops below first told all steps state op have leads among =
     elim (leads_to_states table table.init steps state (inl refl) leads) [
-      | inl initial ↦ word_is_told table ops state op (subst (AreTold table ops) initial first) among
+      | inl initial ↦
+          word_is_told table ops state op (subst (AreTold table ops) initial first) among
       | inr named ↦
           let inside = slice_get_within (values_of table.steps) named.0 named.1 named.2 in
           word_is_told table ops state op (subst (AreTold table ops) named.3

@@ -110,7 +110,8 @@ left_at-less : (old new : Table) → Extends old new → (ops : List ℕ) (op : 
     → told_step old to op ≡ None → told_step new to op ≡ Some transition
     → left_at new ops most from < left_at old ops most from
 unfolding left_at
-left_at-less old new extends ops op among transition zero from steps to few known leads untold told =
+left_at-less old new extends ops op among transition zero from steps to few known leads
+    untold told =
     absurd (omega arith)
 left_at-less old new extends ops op among transition (suc most) from [] to few known leads untold
     told =
@@ -168,7 +169,8 @@ dialogue-bounded ops most table (next ∷ later) dialogue =
     let rest = dialogue-bounded ops most next later dialogue.6 in
     let same : left_at next ops most next.init ≡ left_at next ops most table.init =
     ap (left_at next ops most) tells.init in
-    let less = left_at-less table next (extends-tells table next state op dialogue.2 ask.untold tells)
+    let less =
+    left_at-less table next (extends-tells table next state op dialogue.2 ask.untold tells)
     ops op ask.word dialogue.2 most table.init near.steps state near.few near.words near.reached
     ask.untold tells.told in
     omega (arith, rest, same, less)

@@ -11,8 +11,8 @@ IsState table state = (table.init ≡ state)
     ⊎ ((k : ℕ) × (transition : Transition)
     × (slice_get (values_of table.steps) k ≡ Some transition) × (transition.next ≡ state))
 
--- A pair of a state and an operation word may be asked for: its step wasn't told, the word is one of
--- these words, and the state is one of the table.
+-- A pair of a state and an operation word may be asked for: its step wasn't told, the word is one
+-- of these words, and the state is one of the table.
 pub record IsAsk (table : Table) (IsWord : ℕ → Type 0) (state op : ℕ) : Type 0 where
   pub untold : told_step table state op ≡ None
   pub word : IsWord op

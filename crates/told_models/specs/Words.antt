@@ -3,8 +3,8 @@ use Rattle.std.specs.Prelude.{◌≡◌, ◌⊎◌, ℕ, ◌<◌, List, Contains
 use Rattle.book_base.specs.Book.{Page, operation_of}
 use Rattle.told_models.specs.Closed.{IsWordOf}
 
--- The list `words` has the operation words of the list `old` and those of a caller's calls with numbers
--- below `below`, and no others.
+-- The list `words` has the operation words of the list `old` and those of a caller's calls with
+-- numbers below `below`, and no others.
 pub record AddsWords (book : List Page) (caller below : ℕ) (old words : List ℕ) : Type 0 where
   pub kept : (op : ℕ) → Contains old op → Contains words op
   pub all : (number op : ℕ) → number < below

@@ -16,8 +16,8 @@ use std::alloc::Global;
 /// order. So the asks end where finitely many states can be reached by the book's operations.
 pub fn judge(alloc: Global, table: &ToldTable, book: &Book) -> Result<Answer, NoMemory>
     // An order in the answer is legal for each object that agrees with the table, `Illegal` comes
-    // only where no object that agrees has a legal order, and `Ask` names a state of the table and an
-    // operation word of the book whose step wasn't told.
+    // only where no object that agrees has a legal order, and `Ask` names a state of the table and
+    // an operation word of the book whose step wasn't told.
     ensures { IfOk result (IsRightAnswer table.now book.now) }
 {
     let ops = operations(alloc, book)?;

@@ -24,9 +24,9 @@ pub fn closed_tables_serve_all_books()
     ensures { ClosedForBooks }
 {}
 
-/// A dialogue ends, whatever is told, where each ask is for a step that wasn't told, at a state that
-/// fewer than a given number of told steps reach: it has at most as many asks as there are lists of
-/// operation words of at most this length.
+/// A dialogue ends, whatever is told, where each ask is for a step that wasn't told, at a state
+/// that fewer than a given number of told steps reach: it has at most as many asks as there are
+/// lists of operation words of at most this length.
 pub fn dialogues_end()
     ensures { DialoguesEnd }
 {}

@@ -1,5 +1,5 @@
-//! Objects of one's own: tables of the steps that were told of an object, the sequential object of a
-//! table, and judgements that ask for the steps that they lack.
+//! Objects of one's own: tables of the steps that were told of an object, the sequential object of
+//! a table, and judgements that ask for the steps that they lack.
 #![tactic(auto)]
 
 mod answer;

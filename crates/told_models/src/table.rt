@@ -77,8 +77,8 @@ impl ToldTable {
         self.add(state, op, transition)
     }
 
-    /// A pair of a state of the table and one of these operation words whose step wasn't told, where
-    /// there is one. Once none is left the table is closed under these words.
+    /// A pair of a state of the table and one of these operation words whose step wasn't told,
+    /// where there is one. Once none is left the table is closed under these words.
     pub fn untold(&self, ops: &[OpWord]) -> Option<(u64, OpWord)>
         // A pair in the answer may be asked for.
         ensures ask { IfSome result (λ pair. IsAsk self.now (Contains ops.now) pair.0 pair.1) }

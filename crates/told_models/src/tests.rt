@@ -75,8 +75,8 @@ fn view(first: u64, second: u64) -> Cut
     cut
 }
 
-// Whether a book is legal, for the object with these steps, which are told where they are asked for.
-// Each object here has at most 21 states and 4 operations, so that 100 asks suffice.
+// Whether a book is legal, for the object with these steps, which are told where they are asked
+// for. Each object here has at most 21 states and 4 operations, so that 100 asks suffice.
 fn is_legal(alloc: Global, is_queue: bool, book: &Book) -> Result<bool, Fail> {
     let mut table = ToldTable::new(alloc, 0);
     for _ in 0..100 {
@@ -153,8 +153,8 @@ fn second_acquire(alloc: Global, reply: u64) -> Result<Book, Fail> {
     Ok(book)
 }
 
-// A acquires the lock and begins to release it, without an answer. B's call of this operation, which
-// begins after the release began, has this reply.
+// A acquires the lock and begins to release it, without an answer. B's call of this operation,
+// which begins after the release began, has this reply.
 fn while_released(alloc: Global, op: OpWord, reply: u64) -> Result<Book, Fail> {
     let mut book = Book::new(alloc, 2)?;
     book.add_call(0, ACQUIRE_A)?;
