@@ -1,3 +1,6 @@
 pub mod Handing
 pub mod Published
 pub mod Watched
+pub mod Values
+pub mod Loosened
+pub mod Sorts

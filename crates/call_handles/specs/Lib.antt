@@ -5,3 +5,5 @@ pub mod Callers
 pub mod Monitors
 pub mod Tables
 pub mod Handles
+pub mod Ownership
+pub mod Slots

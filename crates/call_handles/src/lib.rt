@@ -1,24 +1,35 @@
 //! Handles for objects outside the library: a table, and each of its callers, as a value. A call is
 //! announced, its reply is handed in, and the call is judged, by its caller or by a monitor of the
-//! table.
+//! table. Slots hold handles in the memory of a program in another language.
 #![tactic(auto)]
 
 mod announcing;
 mod caller_handle;
+mod calls;
 mod finishing;
 mod handed;
 mod handle;
+mod held;
 mod judging;
 mod kept;
+mod loose;
 mod monitor_handle;
+mod opening;
 mod publishing;
+mod role;
 mod rounds;
+mod slot;
 mod stage;
 mod table_handle;
 
 pub use caller_handle::{CallAnswer, CallerHandle};
+pub use calls::{announce, answered, close, judge, publish, witness};
 pub use handle::Handle;
+pub use held::Held;
 pub use kept::KeptByHandle;
 pub use monitor_handle::{Judgement, MonitorHandle};
+pub use opening::{give, open};
+pub use role::CallerRole;
+pub use slot::Slot;
 pub use stage::{HandleStage, Wrong};
 pub use table_handle::TableHandle;

@@ -1,3 +1,9 @@
+pub mod OwnCalls
+pub mod Answers
+pub mod Logging
+pub mod CoreLogs
+pub mod OneWordReplies
+pub mod LogLaws
 pub mod Passes
 pub mod Errors
 pub mod LoggedReports

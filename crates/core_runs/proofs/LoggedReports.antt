@@ -19,10 +19,10 @@ use Rattle.object_orders.specs.TallyAndCell.{tally, cell}
 use Rattle.log_program.specs.LogProgram.{log_shape}
 use Rattle.lawful_objects.specs.Replays.{last_reply}
 use Rattle.lawful_objects.specs.Forms.{IsTallyReply, IsCellReply}
-use Rattle.logged_calls.specs.Logged.{IsLoggedBy, AreFormed}
-use Rattle.logged_calls.specs.Runs.{HaveMadePhases}
-use Rattle.logged_calls.proofs.CoreLogs.{runs_of_logs_are_logged}
-use Rattle.logged_calls.proofs.OneWordReplies.{runs_of_tallies_are_formed, runs_of_cells_are_formed}
+use Rattle.core_runs.specs.Logged.{IsLoggedBy, AreFormed}
+use Rattle.core_runs.specs.Runs.{HaveMadePhases}
+use Rattle.core_runs.proofs.CoreLogs.{runs_of_logs_are_logged}
+use Rattle.core_runs.proofs.OneWordReplies.{runs_of_tallies_are_formed, runs_of_cells_are_formed}
 use Rattle.run_report.specs.Reporting.{IsReportOf}
 use Rattle.core_runs.specs.LoggedReports.{phases_in, calls_of_lines, ReportsOfLogsAreLogged, ReportsOfTalliesAreFormed, ReportsOfCellsAreFormed}
 

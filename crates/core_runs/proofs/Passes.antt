@@ -8,7 +8,7 @@ use Rattle.row_table.specs.declared.rows.Rows.{Rows}
 use Rattle.drv_wrapper.specs.Growth.{Grows}
 use Rattle.core_objects.specs.CoreObjects.{with_steps, after_steps, ArePassesFor}
 use Rattle.client_calls.specs.Asking.{ComesNoFurther}
-use Rattle.script_workers.specs.Starts.{AreFreshPasses}
+use Rattle.run_report.specs.Starts.{AreFreshPasses}
 use Rattle.core_runs.specs.Inside.{fits_inside}
 
 -- the progress of a caller that has made some more object steps is as before, but for these

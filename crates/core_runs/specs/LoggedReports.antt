@@ -13,7 +13,7 @@ use Rattle.object_orders.specs.TallyAndCell.{tally, cell}
 use Rattle.log_program.specs.LogProgram.{log_shape}
 use Rattle.lawful_objects.specs.Replays.{last_reply}
 use Rattle.lawful_objects.specs.Forms.{IsTallyReply, IsCellReply}
-use Rattle.logged_calls.specs.Logged.{IsLoggedBy, AreFormed}
+use Rattle.core_runs.specs.Logged.{IsLoggedBy, AreFormed}
 use Rattle.run_report.specs.Reporting.{IsReportOf}
 
 -- How many phases each caller of a report has made.

@@ -3,8 +3,8 @@ ghost use Rattle.std.specs.List.{list_any};
 ghost use Rattle.report_lines.specs.Lines.{any_error};
 ghost use Rattle.row_table.specs.Callers.{shape_of, locals_on, IsBenchOf, HoldsAll};
 ghost use Rattle.core_objects.specs.CoreObjects.{AreOpenedWith, ArePassesFor};
-ghost use Rattle.script_workers.specs.Starts.{run_allotments, MayBegin};
-ghost use Rattle.script_workers.specs.Returns.{IsBackOn};
+ghost use Rattle.run_report.specs.Starts.{run_allotments, MayBegin};
+ghost use Rattle.run_report.specs.Returns.{IsBackOn};
 ghost use Rattle.run_report.specs.Reporting.{IsReportOf, IsFreeAgain};
 ghost use Rattle.core_runs.specs.Inside.{fits_inside};
 

@@ -3,8 +3,7 @@
 use book_base::{BAD, NoMemory, OpWord};
 use client_scripts::Script;
 use drv_wrapper::{Announced, BlackBox};
-use hunts::Maker;
-use object_kit::{CounterCall, CountingPass, Noise, NoisyCell};
+use hunts::{CounterCall, CountingPass, Maker, Noise, NoisyCell};
 use seq_objects::value_reply;
 use std::alloc::Global;
 
@@ -35,7 +34,7 @@ impl Counter {
 }
 
 impl BlackBox for Counter {
-    ghost use Rattle.object_kit.specs.Silence.{tells_none};
+    ghost use Rattle.hunts.specs.Silence.{tells_none};
 
     type Pass = CountingPass;
 

@@ -4,8 +4,7 @@ use crate::trial::calls_of_script;
 use book_base::{BAD, MAX_ROOM, NoMemory, OpWord, SeqObject, State};
 use client_scripts::Script;
 use drv_wrapper::{Announced, BlackBox};
-use hunts::Maker;
-use object_kit::{CountingPass, Noise, NoisyLock};
+use hunts::{CountingPass, Maker, Noise, NoisyLock};
 use seq_objects::Kind;
 use std::alloc::Global;
 
@@ -27,7 +26,7 @@ impl Locked {
 }
 
 impl BlackBox for Locked {
-    ghost use Rattle.object_kit.specs.Silence.{tells_none};
+    ghost use Rattle.hunts.specs.Silence.{tells_none};
 
     type Pass = CountingPass;
 

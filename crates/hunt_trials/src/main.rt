@@ -14,7 +14,7 @@ mod trial;
 mod trials;
 
 use anyhow::{Context, Result, bail};
-use object_kit::Loudness;
+use hunts::Loudness;
 use std::env;
 use std::process::ExitCode;
 use std::rt::Env;

@@ -3,8 +3,7 @@
 use book_base::{BAD, NoMemory, OpWord};
 use client_scripts::Script;
 use drv_wrapper::{Announced, BlackBox};
-use hunts::Maker;
-use object_kit::{CountingPass, Noise, NoisyLock, QueueCall};
+use hunts::{CountingPass, Maker, Noise, NoisyLock, QueueCall};
 use seq_objects::{DONE, NONE, value_reply};
 use std::alloc::Global;
 use std::collections::VecDeque;
@@ -43,7 +42,7 @@ impl TwoQueues {
 }
 
 impl BlackBox for TwoQueues {
-    ghost use Rattle.object_kit.specs.Silence.{tells_none};
+    ghost use Rattle.hunts.specs.Silence.{tells_none};
 
     type Pass = CountingPass;
 

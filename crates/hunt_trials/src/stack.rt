@@ -4,8 +4,7 @@ use crate::trial::calls_of_script;
 use book_base::{BAD, NoMemory, OpWord};
 use client_scripts::Script;
 use drv_wrapper::{Announced, BlackBox};
-use hunts::Maker;
-use object_kit::{CountingPass, Noise, NoisyCell, StackCall};
+use hunts::{CountingPass, Maker, Noise, NoisyCell, StackCall};
 use seq_objects::{DONE, NONE, value_reply};
 use std::alloc::Global;
 
@@ -84,7 +83,7 @@ impl Stack {
 }
 
 impl BlackBox for Stack {
-    ghost use Rattle.object_kit.specs.Silence.{tells_none};
+    ghost use Rattle.hunts.specs.Silence.{tells_none};
 
     type Pass = CountingPass;
 

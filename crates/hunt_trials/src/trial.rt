@@ -6,8 +6,7 @@ ghost use Rattle.text_fields.specs.declared.TheConstants.{TEXT_CALLERS, TEXT_CAL
 use book_base::{Book, NoMemory};
 use client_scripts::Script;
 use drv_wrapper::BlackBox;
-use hunts::{Maker, Settings, Unwatched, hunt};
-use object_kit::Loudness;
+use hunts::{Loudness, Maker, Settings, Unwatched, hunt};
 use random_scripts::{Weights, Workload};
 use seq_objects::Kind;
 use smaller_book::shrink;

@@ -1,2 +1,6 @@
+pub mod Calling
+pub mod Listings
 pub mod Made
 pub mod Heard
+pub mod Written
+pub mod Changes

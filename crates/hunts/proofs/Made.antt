@@ -13,8 +13,8 @@ use Rattle.report_lines.specs.Lawful.{IsLawful}
 use Rattle.reports.specs.Findings.{Findings, IsWitness}
 use Rattle.lawful_reports.proofs.Errors.{witnesses_have_no_order}
 use Rattle.client_calls.specs.Asking.{own_count}
-use Rattle.script_workers.specs.Places.{AreInOrder}
-use Rattle.script_workers.specs.Starts.{run_allotments}
+use Rattle.run_report.specs.Places.{AreInOrder}
+use Rattle.run_report.specs.Starts.{run_allotments}
 use Rattle.run_report.specs.Reporting.{outside_shape, IsReportOf, IsCountedIn}
 use Rattle.run_report.proofs.Workers.{counted_told}
 use Rattle.hunts.specs.Hunting.{IsRun, IsMade}

@@ -7,8 +7,8 @@ use Rattle.client_scripts.specs.Plans.{Plan}
 use Rattle.random_scripts.specs.declared.workload.Workload.{Workload}
 use Rattle.random_scripts.specs.Drawn.{drawn_plan}
 use Rattle.reports.specs.Findings.{Findings, IsWitness, HasNoError}
-use Rattle.script_workers.specs.Places.{AreInOrder}
-use Rattle.script_workers.specs.Starts.{run_allotments}
+use Rattle.run_report.specs.Places.{AreInOrder}
+use Rattle.run_report.specs.Starts.{run_allotments}
 use Rattle.run_report.specs.Reporting.{outside_shape, IsToldIn}
 use Rattle.hunts.specs.declared.trial.Catch.{Catch}
 use Rattle.hunts.specs.declared.runs.Settings.{Settings}

@@ -1,2 +1,9 @@
+pub mod Passes
+pub mod Silence
+pub mod Calls
+pub mod Listing
 pub mod Hunting
 pub mod Watching
+pub mod Caught
+pub mod Asking
+pub mod AskedHunts

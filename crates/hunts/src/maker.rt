@@ -1,10 +1,10 @@
 ghost use Rattle.std.specs.Prelude.{IfOk};
 ghost use Rattle.run_report.specs.Passes.{AreUnusedPasses};
 
+use crate::Noise;
 use book_base::NoMemory;
 use client_scripts::Script;
 use drv_wrapper::{BlackBox, ObjectPass};
-use object_kit::Noise;
 use std::alloc::Global;
 
 /// Makes the objects that a hunt runs over: a new one for each run.

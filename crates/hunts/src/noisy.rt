@@ -6,9 +6,9 @@ ghost use Rattle.drv_wrapper.specs.Growth.{Grows};
 ghost use Rattle.drv_wrapper.specs.States.{caller_announced, who_announced, op_announced, announced_local, caller_answered, op_answered, reply_answered, answered_local};
 ghost use Rattle.client_calls.specs.Asking.{FitsCaller, HasCallLeft, count_after, ComesNoFurther};
 
+use crate::Noise;
 use client_calls::Asks;
 use drv_wrapper::{Announced, Answered};
-use object_kit::Noise;
 
 /// An object that its callers ask just as they do without noise, and the noise that pauses them
 /// between their phases.

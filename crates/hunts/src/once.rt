@@ -4,13 +4,13 @@ ghost use Rattle.std.specs.Prelude.{IfOk};
 ghost use Rattle.run_report.specs.Passes.{AreUnusedPasses};
 ghost use Rattle.hunts.specs.Hunting.{IsRun};
 
+use crate::Noise;
 use crate::noisy::Noisy;
 use book_base::{MAX_CALLS, NoMemory};
 use client_calls::{OutsideObject, Shared};
 use client_scripts::Script;
 use drv_wrapper::{BlackBox, ObjectPass};
 use kind_search::SearchedKind;
-use object_kit::Noise;
 use reports::Report;
 use row_table::Rows;
 use run_report::{passes_are_fresh, run_asked};

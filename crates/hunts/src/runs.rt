@@ -5,12 +5,12 @@ ghost use Rattle.random_scripts.specs.Drawn.{IsWorkload};
 ghost use Rattle.hunts.specs.Hunting.{first_news, IsHunted};
 ghost use Rattle.hunts.specs.Watching.{Hears};
 
+use crate::Loudness;
 use crate::maker::Maker;
 use crate::onlooker::Onlooker;
 use crate::trial::{Catch, run_seed};
 use book_base::NoMemory;
 use drv_wrapper::{BlackBox, ObjectPass};
-use object_kit::Loudness;
 use random_scripts::Workload;
 use std::alloc::Global;
 use std::thread::Threads;

@@ -2,3 +2,8 @@ pub mod Resting
 pub mod Rounds
 pub mod Judged
 pub mod Taken
+pub mod Deferred
+pub mod AllPublished
+pub mod Monitoring
+pub mod Returning
+pub mod AnswerLemmas

@@ -4,3 +4,7 @@ pub mod Monitors
 pub mod Worlds
 pub mod Watching
 pub mod Beside
+pub mod Deferred
+pub mod Published
+pub mod Monitoring
+pub mod MonitorTexts

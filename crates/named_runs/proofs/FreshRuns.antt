@@ -12,11 +12,11 @@ use Rattle.row_table.specs.declared.rows.Rows.{Rows}
 use Rattle.row_table.specs.declared.bench.Bench.{Bench}
 use Rattle.reports.specs.Findings.{Findings}
 use Rattle.faulty_objects.specs.declared.behaviour.Behaviour.{Behaviour}
-use Rattle.run_writer.specs.declared.form.Form.{Form}
+use Rattle.named_runs.specs.declared.form.Form.{Form}
 use Rattle.byte_streams.specs.declared.status.Status.{Status}
 use Rattle.run_report.specs.Reporting.{outside_shape}
-use Rattle.run_writer.specs.Running.{IsToldBenchReport}
-use Rattle.run_writer.specs.Runs.{RunEnds, IsRunOutput}
+use Rattle.named_runs.specs.Running.{IsToldBenchReport}
+use Rattle.named_runs.specs.Runs.{RunEnds, IsRunOutput}
 use Rattle.core_runs.specs.LoggedReports.{phases_in, calls_of_lines}
 use Rattle.named_runs.specs.NamedObjects.{TellOwnCalls, IsOfBehaviour}
 use Rattle.named_runs.specs.BehaviourRuns.{IsToldReport, IsNamedReport}

@@ -14,15 +14,15 @@ use Rattle.row_table.specs.declared.rows.Rows.{Rows}
 use Rattle.row_table.specs.declared.bench.Bench.{Bench}
 use Rattle.row_table.specs.Callers.{shape_of, locals_on}
 use Rattle.core_objects.specs.CoreObjects.{shape_with, AreOpenedWith, ArePassesFor}
-use Rattle.script_workers.specs.Returns.{IsBackOn}
-use Rattle.script_workers.specs.Starts.{run_allotments}
+use Rattle.run_report.specs.Returns.{IsBackOn}
+use Rattle.run_report.specs.Starts.{run_allotments}
 use Rattle.run_report.specs.Reporting.{outside_shape, IsReportOf}
 use Rattle.run_report.proofs.Workers.{the_local}
 use Rattle.faulty_objects.specs.declared.behaviour.Behaviour.{Behaviour}
 use Rattle.byte_streams.specs.declared.status.Status.{Status}
-use Rattle.run_writer.specs.declared.form.Form.{Form}
-use Rattle.run_writer.specs.Runs.{RunEnds}
-use Rattle.run_writer.specs.Running.{IsCoreReport}
+use Rattle.named_runs.specs.declared.form.Form.{Form}
+use Rattle.named_runs.specs.Runs.{RunEnds}
+use Rattle.named_runs.specs.Running.{IsCoreReport}
 use Rattle.core_runs.specs.Inside.{fits_inside}
 use Rattle.core_runs.specs.LoggedReports.{phases_in, calls_of_lines}
 use Rattle.named_runs.specs.NamedObjects.{IsOfBehaviour}

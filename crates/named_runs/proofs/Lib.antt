@@ -1,3 +1,8 @@
+pub mod Deliveries
+pub mod CertificateLaws
+pub mod RunLemmas
+pub mod RunningLemmas
+pub mod Statuses
 pub mod FreshRuns
 pub mod InsideRuns
 pub mod OpenedPasses

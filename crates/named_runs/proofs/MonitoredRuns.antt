@@ -9,13 +9,13 @@ use Rattle.row_table.specs.declared.rows.Rows.{Rows}
 use Rattle.row_table.specs.declared.bench.Bench.{Bench}
 use Rattle.row_table.specs.Callers.{shape_of, locals_on, IsBenchOf, HoldsAll}
 use Rattle.row_table.proofs.Parting.{whole_is_together}
-use Rattle.script_workers.specs.Places.{AreInOrder}
+use Rattle.run_report.specs.Places.{AreInOrder}
 use Rattle.byte_streams.specs.declared.status.Status.{Status}
 use Rattle.byte_streams.specs.declared.status.Status.TheVariants.{Fine, Found, Usage, Refused, ReadFault, WriteFault, NoMemory}
 use Rattle.byte_streams.specs.Writing.{EndsWriting}
 use Rattle.byte_streams.proofs.WritingLemmas.{EndsWriting-weaker}
-use Rattle.monitored_runs.specs.Monitoring.{HaveMadeAll, IsToldAll}
-use Rattle.monitor_writer.specs.MonitorTexts.{IsMonitorText}
+use Rattle.monitor.specs.Monitoring.{HaveMadeAll, IsToldAll}
+use Rattle.monitor.specs.MonitorTexts.{IsMonitorText}
 use Rattle.run_report.specs.Reporting.{outside_shape}
 use Rattle.named_runs.specs.Monitored.{AreToldMonitored, IsMonitorOutput}
 

@@ -7,10 +7,10 @@ use Rattle.std.proofs.lemmas.List.FromFn.{length-range_with_len, get_or-range_wi
 use Rattle.std.proofs.lemmas.Option.{slice_get-map, slice_get_within, slice_get-get_or, get_or_from_slice_get}
 use Rattle.text_fields.specs.declared.version.Version.TheVariants.{Second}
 use Rattle.client_scripts.specs.Plans.{Plan, IsPlan}
-use Rattle.script_workers.specs.Places.{AreInOrder}
+use Rattle.run_report.specs.Places.{AreInOrder}
 use Rattle.run_report.specs.Passes.{IsOwnPass, AreUnusedPasses}
 use Rattle.named_runs.specs.NamedObjects.{AreOwnPasses}
-use Rattle.script_workers.proofs.Starts.{operations_within}
+use Rattle.run_report.proofs.Starts.{operations_within}
 
 module _ {T : Type 0} (caller : T → ℕ) (passes : List T) (n : ℕ) where
   -- there is a pass for each caller

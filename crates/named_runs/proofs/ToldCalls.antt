@@ -10,10 +10,10 @@ use Rattle.shared_words.specs.Deeds.{Deed, AreCalls}
 use Rattle.shared_words.specs.Passes.{caller_of_pass, deeds_of, pairs_in, IsPassOf}
 use Rattle.world_core.specs.Calls.{Made}
 use Rattle.report_lines.specs.Phases.{IsTold, answered}
-use Rattle.script_workers.proofs.Places.{item_at}
+use Rattle.run_report.proofs.Places.{item_at}
 use Rattle.lawful_objects.specs.Pairs.{pairs_of}
 use Rattle.lawful_objects.proofs.Pairing.{pairs_have_the_calls}
-use Rattle.logged_calls.specs.Logged.{IsLoggedBy, AreFormed}
+use Rattle.core_runs.specs.Logged.{IsLoggedBy, AreFormed}
 use Rattle.named_runs.specs.NamedObjects.{AreOwnPasses, TellOwnCalls}
 use Rattle.named_runs.proofs.OpenedPasses.{passes_count, pass_at}
 

@@ -10,8 +10,8 @@ use Rattle.world_core.specs.Calls.{local_at}
 use Rattle.report_lines.specs.Lawful.{IsLawful}
 use Rattle.report_lines.specs.Lines.{any_error}
 use Rattle.client_scripts.specs.Plans.{Plan}
-use Rattle.script_workers.specs.Places.{AreInOrder}
-use Rattle.script_workers.specs.Starts.{run_allotments, replay_allotments}
+use Rattle.run_report.specs.Places.{AreInOrder}
+use Rattle.run_report.specs.Starts.{run_allotments, replay_allotments}
 use Rattle.reports.specs.Findings.{Findings}
 use Rattle.run_report.specs.Reporting.{outside_shape, IsReportOf, IsToldIn}
 use Rattle.faulty_objects.specs.declared.behaviour.Behaviour.{Behaviour}

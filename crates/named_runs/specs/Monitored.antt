@@ -6,9 +6,9 @@ use Rattle.world_core.specs.Calls.{Made, AreTogether, calls_in, local_at}
 use Rattle.client_scripts.specs.Plans.{Plan}
 use Rattle.faulty_objects.specs.declared.behaviour.Behaviour.{Behaviour}
 use Rattle.byte_streams.specs.declared.status.Status.{Status}
-use Rattle.script_workers.specs.Starts.{run_allotments}
-use Rattle.monitored_runs.specs.Monitoring.{HaveMadeAll}
-use Rattle.monitor_writer.specs.MonitorTexts.{IsMonitorText}
+use Rattle.run_report.specs.Starts.{run_allotments}
+use Rattle.monitor.specs.Monitoring.{HaveMadeAll}
+use Rattle.monitor.specs.MonitorTexts.{IsMonitorText}
 use Rattle.run_report.specs.Reporting.{outside_shape}
 use Rattle.named_runs.specs.NamedObjects.{TellOwnCalls, IsOfBehaviour}
 

@@ -15,8 +15,8 @@ use Rattle.faulty_objects.specs.Invent.{invent_reply}
 use Rattle.faulty_objects.specs.Forms.{IsQueueReply}
 use Rattle.faulty_objects.specs.declared.behaviour.Behaviour.{Behaviour}
 use Rattle.faulty_objects.specs.declared.behaviour.Behaviour.TheVariants.{Lawful, Tally, Cell, Lossy, Twice, Late, Invent, Split, Onepass}
-use Rattle.script_workers.specs.Places.{AreInOrder}
-use Rattle.logged_calls.specs.Logged.{IsLoggedBy, AreFormed}
+use Rattle.run_report.specs.Places.{AreInOrder}
+use Rattle.core_runs.specs.Logged.{IsLoggedBy, AreFormed}
 
 -- These are the passes of n callers, in order, and each is the object's own.
 pub record AreOwnPasses {T : Type 0} (is_own : T → Type 0) (caller : T → ℕ) (n : ℕ)

@@ -3,10 +3,11 @@
 ghost use Rattle.std.specs.Prelude.{◌≡◌, ◌⊎◌, None, IfSome, IfNone};
 ghost use Rattle.seq_objects.specs.Objects.{kind_spec};
 ghost use Rattle.byte_streams.specs.Fault.{LeavesSink};
-ghost use Rattle.run_writer.specs.Runs.{RunEnds};
+ghost use Rattle.named_runs.specs.Runs.{RunEnds};
 ghost use Rattle.named_runs.specs.Worlds.{inside_of};
 ghost use Rattle.named_runs.specs.BehaviourRuns.{IsNamedRunReport};
 
+use crate::Form;
 use crate::fresh::core_fresh;
 use book_base::MAX_CALLS;
 use byte_streams::{Sink, Status};
@@ -14,7 +15,6 @@ use client_scripts::Script;
 use core_objects::{CoreCell, CoreLog, CoreTally};
 use faulty_objects::Behaviour;
 use kind_search::SearchedKind;
-use run_writer::Form;
 use seq_objects::Kind;
 use std::alloc::Global;
 use std::thread::Threads;

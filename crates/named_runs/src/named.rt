@@ -6,18 +6,18 @@ ghost use Rattle.book_base.specs.declared.TheConstants.{MAX_CALLERS};
 ghost use Rattle.seq_objects.specs.Objects.{kind_spec};
 ghost use Rattle.byte_streams.specs.Fault.{LeavesSink};
 ghost use Rattle.byte_streams.specs.Writing.{EndsWriting};
-ghost use Rattle.run_writer.specs.Runs.{RunEnds};
-ghost use Rattle.script_workers.specs.Starts.{run_allotments, replay_allotments};
+ghost use Rattle.named_runs.specs.Runs.{RunEnds};
+ghost use Rattle.run_report.specs.Starts.{run_allotments, replay_allotments};
 ghost use Rattle.run_report.specs.Reporting.{outside_shape};
 ghost use Rattle.named_runs.specs.BehaviourRuns.{IsNamedReport};
 ghost use Rattle.named_runs.specs.Monitored.{AreNamedMonitored, IsMonitorOutput};
 
+use crate::Form;
 use crate::fresh::{monitor_fresh, replay_fresh, run_fresh};
 use crate::named_object::NamedObject;
 use byte_streams::{Sink, Status};
 use client_scripts::Script;
 use faulty_objects::Behaviour;
-use run_writer::Form;
 use std::alloc::Global;
 use std::thread::Threads;
 

@@ -2,7 +2,7 @@
 
 ghost use Rattle.std.specs.Prelude.{ℕ, List};
 ghost use Rattle.world_core.specs.Calls.{Made};
-ghost use Rattle.logged_calls.specs.Logged.{IsLoggedBy};
+ghost use Rattle.core_runs.specs.Logged.{IsLoggedBy};
 ghost use Rattle.faulty_objects.specs.declared.behaviour.Behaviour.{Behaviour as TheBehaviour};
 ghost use Rattle.faulty_objects.specs.declared.behaviour.Behaviour.TheVariants as behaviours;
 ghost use Rattle.named_runs.specs.NamedObjects.{IsOfBehaviour};

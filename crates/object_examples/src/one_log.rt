@@ -1,6 +1,6 @@
 //! Worked calls of one caller and of two, and whether all of them are in one log.
 
-ghost use Rattle.logged_calls.specs.Logged.{IsLoggedBy};
+ghost use Rattle.core_runs.specs.Logged.{IsLoggedBy};
 ghost use Rattle.object_examples.specs.OneLog.{count_before, one_answered, others_made, answered_backwards, both_made};
 
 /// In which logs caller 0's answered call can be, where the object replies with the number of calls

@@ -5,7 +5,7 @@ use std::alloc::Global;
 use std::marker::Brand;
 use std::sync::ledger::Blank;
 use std::thread::Threads;
-use whole_calls::{CallFindings, Calls, End, Turns, queue_calls};
+use whole_runs::{CallFindings, Calls, End, Turns, queue_calls};
 
 /// The reply of a dequeue that finds 5.
 const VALUE_5: u64 = 8_589_934_597;

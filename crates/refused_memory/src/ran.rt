@@ -1,5 +1,5 @@
 ghost use Rattle.std.specs.Prelude.{◌≡◌, length, vec_len};
-ghost use Rattle.script_workers.specs.Places.{AreInOrder};
+ghost use Rattle.run_report.specs.Places.{AreInOrder};
 ghost use Rattle.run_report.specs.Passes.{IsOwnPass, AreUnusedPasses};
 
 use crate::came::Came;

@@ -5,7 +5,7 @@ use crate::ran::Ran;
 use anyhow::{Context, Result};
 use std::alloc::Global;
 use std::thread::Threads;
-use whole_calls::Turns;
+use whole_runs::Turns;
 
 /// A piece of work that takes memory.
 #[derive(Drop)]

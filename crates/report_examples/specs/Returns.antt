@@ -3,7 +3,7 @@
 use Rattle.std.specs.Prelude.{◌≡◌, ℕ, List, [], ◌∷◌, length, Option, Some, None}
 use Rattle.world_core.specs.Local.{Local, fresh}
 use Rattle.world_core.specs.Programs.{outside}
-use Rattle.script_workers.specs.Returns.{IsBackWith}
+use Rattle.run_report.specs.Returns.{IsBackWith}
 
 -- The local of a caller that has announced its second call, with the operation `second`, and
 -- published `published` records. The first call had the operation 5 and the reply 50, and the

@@ -1,3 +1,8 @@
+pub mod Places
+pub mod Starts
+pub mod Returns
+pub mod Turning
+pub mod Settled
 pub mod Reports
 pub mod Workers
 pub mod Reported

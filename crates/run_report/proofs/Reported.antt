@@ -21,9 +21,9 @@ use Rattle.row_table.proofs.Parting.{whole_is_together}
 use Rattle.client_scripts.specs.Plans.{Plan, IsPlan}
 use Rattle.client_calls.specs.Asking.{Fits, PassCount}
 use Rattle.client_calls.specs.Ends.{SaysJudged}
-use Rattle.script_workers.specs.Places.{AreInOrder}
-use Rattle.script_workers.specs.Starts.{course_of}
-use Rattle.script_workers.specs.Returns.{AreBack}
+use Rattle.run_report.specs.Places.{AreInOrder}
+use Rattle.run_report.specs.Starts.{course_of}
+use Rattle.run_report.specs.Returns.{AreBack}
 use Rattle.reports.specs.declared.report.Own.{Own}
 use Rattle.reports.specs.ReportLayout.{lines_in, findings_in}
 use Rattle.reports.specs.Findings.{Findings, IsReport}

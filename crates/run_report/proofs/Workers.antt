@@ -24,11 +24,11 @@ use Rattle.client_calls.specs.Finishing.{KeepsAsked}
 use Rattle.client_calls.proofs.Told.{if_some_as}
 use Rattle.client_calls.proofs.Worked.{judging_clients_have_worked}
 use Rattle.run_report.specs.Reporting.{IsFreeAgain, IsToldIn, IsCountIn, IsCountedIn}
-use Rattle.script_workers.specs.Places.{AreInOrder}
-use Rattle.script_workers.specs.Starts.{RunCourse, MayBegin, AreFreshPasses}
+use Rattle.run_report.specs.Places.{AreInOrder}
+use Rattle.run_report.specs.Starts.{RunCourse, MayBegin, AreFreshPasses}
 use Rattle.client_scripts.specs.Plans.{Plan}
 use Rattle.run_report.specs.Passes.{IsOwnPass, IsUnusedPass, AreUnusedPasses}
-use Rattle.script_workers.specs.Returns.{IsCountOf, IsBack, AreBack, IsBackOn}
+use Rattle.run_report.specs.Returns.{IsCountOf, IsBack, AreBack, IsBackOn}
 
 -- the local that a view has of a caller is at this caller's place among the view's locals
 pub the_local : (v : View) (i : ℕ) (l : Local) → has v i ≡ Some l

@@ -1,7 +1,7 @@
 -- The passes by which the callers of a run ask the object.
 use Rattle.std.specs.Prelude.{◌≡◌, ℕ, ◌≤◌, List, length}
 use Rattle.report_lines.specs.Allotments.{operations_at}
-use Rattle.script_workers.specs.Places.{AreInOrder}
+use Rattle.run_report.specs.Places.{AreInOrder}
 
 -- A pass is the object's own, and the one of caller i.
 pub record IsOwnPass {T : Type 0} (is_own : T → Type 0) (caller : T → ℕ) (i : ℕ)

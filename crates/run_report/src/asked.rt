@@ -1,17 +1,17 @@
 ghost use Rattle.std.specs.Prelude.{◌≡◌, ℕ, ◌<◌, length, vec_len, IfOk};
 ghost use Rattle.row_table.specs.Callers.{shape_of, locals_on, IsBenchOf, HoldsAll};
-ghost use Rattle.script_workers.specs.Places.{AreInOrder};
-ghost use Rattle.script_workers.specs.Starts.{run_allotments, MayBegin, AreFreshPasses};
-ghost use Rattle.script_workers.specs.Returns.{IsBackOn};
+ghost use Rattle.run_report.specs.Places.{AreInOrder};
+ghost use Rattle.run_report.specs.Starts.{run_allotments, MayBegin, AreFreshPasses};
+ghost use Rattle.run_report.specs.Returns.{IsBackOn};
 ghost use Rattle.run_report.specs.Reporting.{IsReportOf, IsFreeAgain, IsCountedIn};
 
 use crate::report::report_of;
+use crate::{Pace, end_all, run_workers, settle_all, start_all};
 use book_base::NoMemory;
 use client_calls::{Asks, Judging, Shared};
 use client_scripts::Script;
 use reports::Report;
 use row_table::Bench;
-use script_workers::{Pace, end_all, run_workers, settle_all, start_all};
 use search_hints::SearchHints;
 use std::alloc::Global;
 use std::thread::Threads;

@@ -1,5 +1,5 @@
 ghost use Rattle.client_calls.specs.Asking.{fits_own, own_count};
-ghost use Rattle.script_workers.specs.Starts.{AreFreshPasses};
+ghost use Rattle.run_report.specs.Starts.{AreFreshPasses};
 ghost use Rattle.run_report.specs.Passes.{AreUnusedPasses};
 
 use client_scripts::Script;

@@ -1,21 +1,21 @@
 ghost use Rattle.std.specs.Prelude.{◌≡◌, ℕ, ◌<◌, length, vec_len, IfOk};
 ghost use Rattle.row_table.specs.Callers.{shape_of, locals_on, IsBenchOf, HoldsAll};
 ghost use Rattle.client_calls.specs.Asking.{fits_own, own_count};
-ghost use Rattle.script_workers.specs.Places.{AreInOrder};
-ghost use Rattle.script_workers.specs.Starts.{replay_allotments, MayBegin};
-ghost use Rattle.script_workers.specs.Returns.{IsBackOn};
+ghost use Rattle.run_report.specs.Places.{AreInOrder};
+ghost use Rattle.run_report.specs.Starts.{replay_allotments, MayBegin};
+ghost use Rattle.run_report.specs.Returns.{IsBackOn};
 ghost use Rattle.run_report.specs.Passes.{IsOwnPass, AreUnusedPasses};
 ghost use Rattle.run_report.specs.Reporting.{IsReportOf, IsFreeAgain, IsToldIn};
 
 use crate::passes::passes_are_fresh;
 use crate::report::report_of;
+use crate::{Pace, end_all, settle_all, start_all, take_turns};
 use book_base::NoMemory;
 use client_calls::{Judging, OutsideObject, Shared};
 use client_scripts::Script;
 use drv_wrapper::BlackBox;
 use reports::Report;
 use row_table::{Bench, Rows};
-use script_workers::{Pace, end_all, settle_all, start_all, take_turns};
 use search_hints::SearchHints;
 use std::alloc::Global;
 use std::marker::Brand;

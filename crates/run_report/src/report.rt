@@ -3,18 +3,18 @@ ghost use Rattle.std.specs.List.{All};
 ghost use Rattle.row_table.specs.Callers.{shape_of, locals_on, IsBenchOf};
 ghost use Rattle.client_calls.specs.Ends.{SaysJudged};
 ghost use Rattle.reports.specs.ReportLayout.{lines_in};
-ghost use Rattle.script_workers.specs.Places.{AreInOrder};
-ghost use Rattle.script_workers.specs.Starts.{allotments_by, course_of};
-ghost use Rattle.script_workers.specs.Returns.{AreBack};
+ghost use Rattle.run_report.specs.Places.{AreInOrder};
+ghost use Rattle.run_report.specs.Starts.{allotments_by, course_of};
+ghost use Rattle.run_report.specs.Returns.{AreBack};
 ghost use Rattle.run_report.specs.Replies.{HasWord};
 ghost use Rattle.run_report.specs.Reporting.{IsReportOf, IsFreeAgain, IsCountedIn};
 
+use crate::Pace;
 use client_calls::{Asks, Shared};
 use client_scripts::Script;
 use report_lines::{Line, LineEnd};
 use reports::{Own, Report};
 use row_table::Bench;
-use script_workers::Pace;
 use search_hints::SearchHints;
 use world_core::Program;
 

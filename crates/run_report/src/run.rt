@@ -1,9 +1,9 @@
 ghost use Rattle.std.specs.Prelude.{◌≡◌, ℕ, ◌<◌, length, vec_len, IfOk};
 ghost use Rattle.row_table.specs.Callers.{shape_of, locals_on, IsBenchOf, HoldsAll};
 ghost use Rattle.client_calls.specs.Asking.{fits_own, own_count};
-ghost use Rattle.script_workers.specs.Places.{AreInOrder};
-ghost use Rattle.script_workers.specs.Starts.{run_allotments, MayBegin};
-ghost use Rattle.script_workers.specs.Returns.{IsBackOn};
+ghost use Rattle.run_report.specs.Places.{AreInOrder};
+ghost use Rattle.run_report.specs.Starts.{run_allotments, MayBegin};
+ghost use Rattle.run_report.specs.Returns.{IsBackOn};
 ghost use Rattle.run_report.specs.Passes.{IsOwnPass, AreUnusedPasses};
 ghost use Rattle.run_report.specs.Reporting.{IsReportOf, IsFreeAgain, IsToldIn};
 

@@ -29,7 +29,7 @@ use Rattle.world_core.specs.Local.{Local}
 use Rattle.byte_streams.specs.declared.status.Status.{Status}
 use Rattle.byte_streams.specs.declared.status.Status.TheVariants.{Fine, Found}
 use Rattle.byte_streams.specs.declared.TheConstants.{INPUT_LIMIT}
-use Rattle.monitor_writer.specs.MonitorTexts.{IsMonitorText}
+use Rattle.monitor.specs.MonitorTexts.{IsMonitorText}
 use Rattle.selfcheck.specs.Refusal.{IsReadFault}
 use Rattle.selfcheck.specs.MonitorInput.{LeavesTwo, IsMonitorInput, IsOpening, IsCrowded, IsFirstMonitorFault}
 

@@ -21,8 +21,8 @@ use Rattle.byte_streams.specs.declared.status.Status.TheVariants.{Fine, Found, U
 use Rattle.byte_streams.specs.declared.TheConstants.{INPUT_LIMIT}
 use Rattle.selfcheck.specs.Command.{command_of}
 use Rattle.faulty_objects.specs.declared.behaviour.Behaviour.TheVariants.{Lawful}
-use Rattle.run_writer.specs.declared.form.Form.TheVariants.{Report, Counts, Certificate}
-use Rattle.run_writer.specs.Runs.{counts_text}
+use Rattle.named_runs.specs.declared.form.Form.TheVariants.{Report, Counts, Certificate}
+use Rattle.named_runs.specs.Runs.{counts_text}
 use Rattle.named_runs.specs.BehaviourRuns.{IsNamedRunReport, IsNamedReplayReport}
 use Rattle.selfcheck.specs.ScriptInput.{soak_plan}
 use Rattle.text_fields.specs.Refusal.{refusal_text}

@@ -11,8 +11,8 @@ use Rattle.text_fields.specs.declared.version.Version.TheVariants.{Second}
 use Rattle.reports.specs.Findings.{Findings}
 use Rattle.byte_streams.specs.declared.status.Status.{Status}
 use Rattle.byte_streams.specs.declared.status.Status.TheVariants.{Fine, Found}
-use Rattle.run_writer.specs.declared.form.Form.{Form}
-use Rattle.run_writer.specs.Runs.{IsRunOutput}
+use Rattle.named_runs.specs.declared.form.Form.{Form}
+use Rattle.named_runs.specs.Runs.{IsRunOutput}
 use Rattle.selfcheck.specs.ScriptInput.{IsScriptInput, IsShownOf}
 
 pub script_input_or_fault : (bytes : List ℕ) (fault : TextFault) → IsScriptInput bytes

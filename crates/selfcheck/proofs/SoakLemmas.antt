@@ -14,9 +14,9 @@ use Rattle.report_lines.specs.Allotments.{phases_of}
 use Rattle.reports.specs.Findings.{Findings}
 use Rattle.reports.specs.Tally.{is_delivered, counts_of}
 use Rattle.faulty_objects.specs.declared.behaviour.Behaviour.TheVariants.{Lawful}
-use Rattle.script_workers.specs.Starts.{run_allotments}
-use Rattle.run_writer.specs.Runs.{counts_text}
-use Rattle.run_writer.proofs.RunLemmas.{no_error_of}
+use Rattle.run_report.specs.Starts.{run_allotments}
+use Rattle.named_runs.specs.Runs.{counts_text}
+use Rattle.named_runs.proofs.RunLemmas.{no_error_of}
 use Rattle.named_runs.specs.BehaviourRuns.{IsNamedRunReport}
 use Rattle.selfcheck.specs.ScriptInput.{soak_plan}
 

@@ -10,8 +10,8 @@ use Rattle.byte_streams.specs.declared.TheConstants.{INPUT_LIMIT}
 use Rattle.byte_streams.specs.Writing.{EndsWriting}
 use Rattle.faulty_objects.specs.declared.behaviour.Behaviour.{Behaviour}
 use Rattle.faulty_objects.specs.declared.behaviour.Behaviour.TheVariants.{Lawful}
-use Rattle.run_writer.specs.declared.form.Form.TheVariants.{Counts}
-use Rattle.run_writer.specs.Runs.{IsRunOutput, RunEnds}
+use Rattle.named_runs.specs.declared.form.Form.TheVariants.{Counts}
+use Rattle.named_runs.specs.Runs.{IsRunOutput, RunEnds}
 use Rattle.selfcheck.specs.declared.command.Command.TheVariants.{Monitor, Soak}
 use Rattle.selfcheck.specs.declared.script_task.ScriptTask.{ScriptTask}
 use Rattle.selfcheck.specs.declared.script_task.ScriptTask.TheVariants.{Run, Replay, Certify}

@@ -10,12 +10,12 @@ use Rattle.text_fields.specs.declared.version.Version.TheVariants.{Second}
 use Rattle.reports.specs.Findings.{Findings}
 use Rattle.faulty_objects.specs.declared.behaviour.Behaviour.{Behaviour}
 use Rattle.faulty_objects.specs.declared.behaviour.Behaviour.TheVariants.{Lawful}
-use Rattle.run_writer.specs.declared.form.Form.{Form}
-use Rattle.run_writer.specs.declared.form.Form.TheVariants.{Report, Counts, Certificate}
+use Rattle.named_runs.specs.declared.form.Form.{Form}
+use Rattle.named_runs.specs.declared.form.Form.TheVariants.{Report, Counts, Certificate}
 use Rattle.byte_streams.specs.declared.status.Status.{Status}
 use Rattle.named_runs.specs.Worlds.{inside_of}
 use Rattle.named_runs.specs.BehaviourRuns.{IsNamedRunReport, IsNamedReplayReport}
-use Rattle.run_writer.specs.Runs.{IsRunOutput}
+use Rattle.named_runs.specs.Runs.{IsRunOutput}
 
 -- the bytes are the text of a script
 unfoldable pub IsScriptInput : List ℕ → Type 0

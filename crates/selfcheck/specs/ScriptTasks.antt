@@ -2,8 +2,8 @@
 use Rattle.client_scripts.specs.Plans.{Plan}
 use Rattle.faulty_objects.specs.declared.behaviour.Behaviour.{Behaviour}
 use Rattle.reports.specs.Findings.{Findings}
-use Rattle.run_writer.specs.declared.form.Form.{Form}
-use Rattle.run_writer.specs.declared.form.Form.TheVariants.{Report, Certificate}
+use Rattle.named_runs.specs.declared.form.Form.{Form}
+use Rattle.named_runs.specs.declared.form.Form.TheVariants.{Report, Certificate}
 use Rattle.selfcheck.specs.declared.command.Command.{Command}
 use Rattle.selfcheck.specs.declared.command.Command.TheVariants as commands
 use Rattle.selfcheck.specs.declared.script_task.ScriptTask.{ScriptTask}

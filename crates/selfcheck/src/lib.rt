@@ -31,13 +31,10 @@ pub use laws::{
     sets_has_one_output, sketch_has_one_output, soak_has_one_output, upgrade_has_one_output,
     verify_has_one_output, what_is_not_taken_is_refused, words_have_their_command,
 };
-pub use monitor_writer::monitor_and_write;
+pub use monitor::monitor_and_write;
 pub use named_runs::{
-    core_fresh, monitor_behaviour, monitor_fresh, replay_behaviour, replay_fresh, run_behaviour,
-    run_fresh,
-};
-pub use run_writer::{
     Form, a_report_and_its_counts_have_one_text, certificates_are_legal_and_tell_one_book,
-    core_and_write, replay_and_write, run_and_write, write_report,
+    core_and_write, core_fresh, monitor_behaviour, monitor_fresh, replay_and_write,
+    replay_behaviour, replay_fresh, run_and_write, run_behaviour, run_fresh, write_report,
 };
 pub use top::selfcheck;

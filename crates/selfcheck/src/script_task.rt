@@ -1,14 +1,13 @@
 ghost use Rattle.std.specs.Prelude.{◌≡◌, ◌≤◌};
 ghost use Rattle.seq_objects.specs.Objects.{kind_spec};
 ghost use Rattle.byte_streams.specs.Fault.{LeavesSink};
-ghost use Rattle.run_writer.specs.Runs.{RunEnds};
+ghost use Rattle.named_runs.specs.Runs.{RunEnds};
 ghost use Rattle.selfcheck.specs.ScriptTasks.{IsReportBy, form_by};
 
 use byte_streams::{Sink, Status};
 use client_scripts::Script;
 use faulty_objects::Behaviour;
-use named_runs::{replay_behaviour, run_behaviour};
-use run_writer::Form;
+use named_runs::{Form, replay_behaviour, run_behaviour};
 use std::alloc::Global;
 use std::thread::Threads;
 

@@ -2,15 +2,15 @@ ghost use Rattle.std.specs.Prelude.{◌≡◌, ◌↔◌, ◌⊎◌, ℕ, ◌<�
 ghost use Rattle.book_base.specs.OperationWord.{joined};
 ghost use Rattle.call_handles.specs.Callers.{MayAnnounce, HasAnnounced};
 ghost use Rattle.call_handles.specs.Monitors.{MayJudge};
-ghost use Rattle.handle_slots.specs.Slots.{handle_in, IsSized, IsOpened, MayGive, HasGiven, IsCallers, Begins, Ends, Publishes, IsMonitors, Judges, HasWitness, Witnesses};
+ghost use Rattle.call_handles.specs.Slots.{handle_in, IsSized, IsOpened, MayGive, HasGiven, IsCallers, Begins, Ends, Publishes, IsMonitors, Judges, HasWitness, Witnesses};
 ghost use Rattle.selfcheck_c.specs.declared.TheConstants.{LEGAL, ILLEGAL, NO_MEMORY, NO_ROOM};
 
 use crate::buffer::put;
 use crate::{ILLEGAL, LEGAL, NO_MEMORY, NO_ROOM};
 use book_base::{NoMemory, join};
-use call_handles::{CallAnswer, Judgement};
-use handle_slots::{
-    CallerRole, Slot, announce, answered, close, give, judge, open, publish, witness,
+use call_handles::{
+    CallAnswer, CallerRole, Judgement, Slot, announce, answered, close, give, judge, open, publish,
+    witness,
 };
 use std::alloc::Global;
 

@@ -1,1 +1,2 @@
 pub mod MadeScripts
+pub mod Passes

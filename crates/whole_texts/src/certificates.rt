@@ -2,9 +2,9 @@
 use book_text::read_book;
 use frontier_check::{Verdict, check};
 use kind_search::SearchedKind;
+use named_runs::report_certificate;
 use order_check::check_order;
 use report_text::read_report;
-use run_writer::report_certificate;
 use std::alloc::Global;
 use std::test::Fail;
 

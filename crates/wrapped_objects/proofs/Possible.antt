@@ -12,7 +12,7 @@ use Rattle.seq_objects.specs.RegisterSteps.{register_after}
 use Rattle.seq_objects.specs.CounterSteps.{counter_after}
 use Rattle.seq_objects.proofs.Arguments.{word_of-parts}
 use Rattle.wrapped_objects.specs.Replies.{IsPossible}
-use Rattle.object_kit.proofs.Calling.{found-first}
+use Rattle.hunts.proofs.Calling.{found-first}
 
 -- A word that the kind doesn't know can have the reply bad.
 pub unknown-possible : (kind : Kind) (op : ℕ) → is_known_word kind op ≡ false

@@ -3,7 +3,7 @@ ghost use Rattle.std.specs.Prelude.{◌<◌};
 use book_base::{BAD, NoMemory, OpWord};
 use crossbeam_queue::ArrayQueue;
 use drv_wrapper::{Announced, BlackBox};
-use object_kit::{CountingPass, QueueCall};
+use hunts::{CountingPass, QueueCall};
 use seq_objects::{DONE, NONE, value_reply};
 use std::alloc::Global;
 use std::sync::Wait;
@@ -42,7 +42,7 @@ impl<R: Wait + Copy> BoundedQueue<R> {
 }
 
 impl<R: Wait> BlackBox for BoundedQueue<R> {
-    ghost use Rattle.object_kit.specs.Silence.{tells_none};
+    ghost use Rattle.hunts.specs.Silence.{tells_none};
 
     type Pass = CountingPass;
 

@@ -4,7 +4,7 @@ ghost use Rattle.wrapped_objects.specs.Replies.{IsPossible};
 use book_base::{BAD, OpWord, SeqObject};
 use crossbeam_utils::atomic::AtomicCell;
 use drv_wrapper::{Announced, BlackBox};
-use object_kit::CountingPass;
+use hunts::CountingPass;
 use seq_objects::{Kind, value_reply};
 
 /// A counter over crossbeam's `AtomicCell`, with the count 0 at first: an increment is one
@@ -29,7 +29,7 @@ impl CellCounter {
 }
 
 impl BlackBox for CellCounter {
-    ghost use Rattle.object_kit.specs.Silence.{tells_none};
+    ghost use Rattle.hunts.specs.Silence.{tells_none};
 
     type Pass = CountingPass;
 

@@ -4,7 +4,7 @@ ghost use Rattle.wrapped_objects.specs.Replies.{IsPossible};
 use book_base::{BAD, OpWord};
 use crossbeam_utils::atomic::AtomicCell;
 use drv_wrapper::{Announced, BlackBox};
-use object_kit::{CountingPass, RegisterCall};
+use hunts::{CountingPass, RegisterCall};
 use seq_objects::{DONE, value_reply};
 
 /// A register over crossbeam's `AtomicCell`, which holds 0 at first: a write is one store, and a
@@ -33,7 +33,7 @@ impl CellRegister {
 }
 
 impl BlackBox for CellRegister {
-    ghost use Rattle.object_kit.specs.Silence.{tells_none};
+    ghost use Rattle.hunts.specs.Silence.{tells_none};
 
     type Pass = CountingPass;
 

@@ -4,7 +4,7 @@ use crate::bounded_queue::reply_of;
 use book_base::NoMemory;
 use crossbeam_queue::ArrayQueue;
 use drv_wrapper::{Announced, BlackBox};
-use object_kit::CountingPass;
+use hunts::CountingPass;
 use std::alloc::Global;
 use std::sync::Wait;
 
@@ -29,7 +29,7 @@ impl<R: Wait + Copy> TwinQueues<R> {
 }
 
 impl<R: Wait> BlackBox for TwinQueues<R> {
-    ghost use Rattle.object_kit.specs.Silence.{tells_none};
+    ghost use Rattle.hunts.specs.Silence.{tells_none};
 
     type Pass = CountingPass;
 

@@ -1,7 +1,7 @@
 use Rattle.std.proofs.Common.{◌≡◌, subst, arith, false}
 use Rattle.std.specs.Prelude.{IfOk}
 use Rattle.std.specs.List.{list_any}
-use Rattle.script_workers.specs.Starts.{run_allotments}
+use Rattle.run_report.specs.Starts.{run_allotments}
 use Rattle.report_lines.specs.Lines.{any_error}
 use Rattle.reports.specs.Findings.{Findings}
 use Rattle.row_table.specs.Callers.{shape_of, locals_on}

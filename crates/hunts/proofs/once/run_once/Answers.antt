@@ -1,7 +1,7 @@
 use Rattle.std.proofs.Common.{◌∙◌, arith}
 use Rattle.reports.specs.Findings.{Findings}
 use Rattle.row_table.specs.Callers.{locals_on}
-use Rattle.script_workers.proofs.Starts.{may_begin}
+use Rattle.run_report.proofs.Starts.{may_begin}
 use Rattle.run_report.proofs.Reported.{outside_shapes}
 use Rattle.hunts.proofs.Made.{if_ok_both, told_report}
 use Rattle.hunts.proofs.once.run_once.Goals as goal

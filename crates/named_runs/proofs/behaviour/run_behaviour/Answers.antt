@@ -1,5 +1,5 @@
 use Rattle.seq_objects.specs.Objects.{kind_spec}
-use Rattle.run_writer.specs.Runs.{RunEnds}
+use Rattle.named_runs.specs.Runs.{RunEnds}
 use Rattle.named_runs.specs.BehaviourRuns.{IsNamedRunReport}
 use Rattle.named_runs.proofs.FreshRuns.{RunEnds-weaker}
 use Rattle.named_runs.proofs.InsideRuns.{named_outside}

@@ -1,5 +1,5 @@
 use Rattle.std.proofs.Common.{◌∙◌, arith}
-use Rattle.script_workers.proofs.Starts.{may_begin}
+use Rattle.run_report.proofs.Starts.{may_begin}
 use Rattle.named_runs.proofs.FreshRuns.{RunEnds-weaker}
 use Rattle.named_runs.proofs.InsideRuns.{opened_with, passes_for_rows, inside_report}
 use Rattle.named_runs.proofs.fresh.core_fresh.Goals as goal

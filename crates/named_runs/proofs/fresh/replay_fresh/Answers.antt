@@ -1,5 +1,5 @@
 use Rattle.std.proofs.Common.{◌∙◌, arith}
-use Rattle.script_workers.proofs.Starts.{may_begin}
+use Rattle.run_report.proofs.Starts.{may_begin}
 use Rattle.run_report.proofs.Reported.{outside_shapes}
 use Rattle.run_report.proofs.Workers.{unused_own}
 use Rattle.named_runs.proofs.FreshRuns.{RunEnds-weaker, fresh_report}

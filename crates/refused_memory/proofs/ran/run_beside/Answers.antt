@@ -1,5 +1,5 @@
 use Rattle.std.proofs.Common.{arith}
-use Rattle.script_workers.proofs.Starts.{may_begin}
+use Rattle.run_report.proofs.Starts.{may_begin}
 use Rattle.run_report.proofs.Workers.{unused_own}
 use Rattle.refused_memory.proofs.ran.run_beside.Goals as goal
 

@@ -1,9 +1,9 @@
 use Rattle.std.proofs.Common.{rules, arith}
 use denote.Param.Send.{sendable}
-use Rattle.script_workers.specs.Starts.{run_allotments}
+use Rattle.run_report.specs.Starts.{run_allotments}
 use Rattle.std.proofs.lemmas.Slice.Zip.{AllZip-long}
-use Rattle.script_workers.proofs.Places.{down_all, down_across}
-use Rattle.script_workers.proofs.Returns.{unused_back, start_ready, start_spent}
+use Rattle.run_report.proofs.Places.{down_all, down_across}
+use Rattle.run_report.proofs.Returns.{unused_back, start_ready, start_spent}
 use Rattle.run_report.proofs.Workers.{all_held}
 use Rattle.run_report.proofs.Sending.{judging_send}
 use Rattle.run_report.proofs.asked.run_asked.Goals as goal

@@ -1,6 +1,6 @@
 use Rattle.std.proofs.Common.{arith}
-use Rattle.script_workers.specs.Starts.{replay_allotments}
-use Rattle.script_workers.proofs.Returns.{unused_back}
+use Rattle.run_report.specs.Starts.{replay_allotments}
+use Rattle.run_report.proofs.Returns.{unused_back}
 use Rattle.run_report.proofs.Workers.{all_held, own_passes, counted_told}
 use Rattle.run_report.proofs.replay.replay_over.Goals as goal
 

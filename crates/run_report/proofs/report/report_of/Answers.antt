@@ -2,7 +2,7 @@ use Rattle.std.proofs.Common.{◌∙◌, sym, subst, ap, List, arith}
 use Rattle.std.specs.List.{All}
 use Rattle.seq_objects.specs.declared.kind.Kind.{Kind}
 use Rattle.reports.specs.Findings.{IsReport}
-use Rattle.script_workers.specs.Starts.{allotments_by}
+use Rattle.run_report.specs.Starts.{allotments_by}
 use Rattle.reports.specs.declared.report.Own.{Own}
 use Rattle.reports.specs.ReportLayout.{findings_in}
 use Rattle.run_report.specs.Replies.{HasWord}

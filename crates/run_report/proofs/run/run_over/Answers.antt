@@ -1,8 +1,8 @@
 use Rattle.std.proofs.Common.{arith}
 use Rattle.reports.specs.Findings.{Findings}
 use Rattle.client_calls.specs.Asking.{own_count}
-use Rattle.script_workers.specs.Places.{AreInOrder}
-use Rattle.script_workers.specs.Starts.{run_allotments}
+use Rattle.run_report.specs.Places.{AreInOrder}
+use Rattle.run_report.specs.Starts.{run_allotments}
 use Rattle.run_report.specs.Reporting.{IsToldIn, IsCountedIn}
 use Rattle.run_report.proofs.Workers.{own_passes, counted_told, if_ok_as}
 use Rattle.run_report.proofs.run.run_over.Goals as goal

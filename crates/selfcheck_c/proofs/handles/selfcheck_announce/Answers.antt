@@ -1,5 +1,5 @@
 use Rattle.std.proofs.Common.{ℕ, refl, subst}
-use Rattle.handle_slots.specs.Slots.{handle_in, Begins}
+use Rattle.call_handles.specs.Slots.{handle_in, Begins}
 use Rattle.selfcheck_c.proofs.handles.selfcheck_announce.Goals as goal
 
 pub returns-then-announce-clause-when : goal.returns-then-announce-clause-when

@@ -1,6 +1,6 @@
 use Rattle.std.proofs.Common.{subst}
 use Rattle.call_handles.specs.declared.caller_handle.CallAnswer.{CallAnswer}
-use Rattle.handle_slots.specs.Slots.{handle_in, Ends}
+use Rattle.call_handles.specs.Slots.{handle_in, Ends}
 use Rattle.selfcheck_c.proofs.handles.selfcheck_answered.Goals as goal
 
 pub returns-in-Some-Delivered-clause-delivered : goal.returns-in-Some-Delivered-clause-delivered

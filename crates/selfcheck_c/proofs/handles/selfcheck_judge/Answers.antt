@@ -1,6 +1,6 @@
 use Rattle.std.proofs.Common.{subst}
 use Rattle.call_handles.specs.declared.monitor_handle.Judgement.{Judgement}
-use Rattle.handle_slots.specs.Slots.{handle_in, Judges}
+use Rattle.call_handles.specs.Slots.{handle_in, Judges}
 use Rattle.selfcheck_c.proofs.handles.selfcheck_judge.Goals as goal
 
 pub returns-in-Some-Legal-clause-legal : goal.returns-in-Some-Legal-clause-legal

@@ -1,5 +1,5 @@
 use Rattle.std.proofs.Common.{arith, ◌≡◌, ℕ, List, length, take, sym, subst, ap, ◌∙◌}
-use Rattle.handle_slots.specs.Slots.{handle_in, Witnesses}
+use Rattle.call_handles.specs.Slots.{handle_in, Witnesses}
 use Rattle.selfcheck_c.proofs.handles.selfcheck_witness.Goals as goal
 
 pub returns-then-put-clause-text : goal.returns-then-put-clause-text

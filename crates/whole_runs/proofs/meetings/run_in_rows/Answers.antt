@@ -1,5 +1,5 @@
 use Rattle.std.proofs.Common.{arith}
-use Rattle.script_workers.proofs.Starts.{may_begin}
+use Rattle.run_report.proofs.Starts.{may_begin}
 use Rattle.whole_runs.proofs.meetings.run_in_rows.Goals as goal
 
 pub run_and_write-status-requires-clause-begins : goal.run_and_write-status-requires-clause-begins

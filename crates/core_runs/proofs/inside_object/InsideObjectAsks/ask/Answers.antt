@@ -3,8 +3,8 @@ use Rattle.report_lines.specs.Phases.{Progress}
 use Rattle.row_table.specs.declared.rows.Rows.{Rows}
 use Rattle.row_table.specs.Callers.{IsCallerOf}
 use Rattle.drv_wrapper.specs.States.{caller_announced, announced_local, caller_answered, answered_local}
-use Rattle.script_workers.proofs.Starts.{fits_known}
-use Rattle.script_workers.proofs.Returns.{fits_back}
+use Rattle.run_report.proofs.Starts.{fits_known}
+use Rattle.run_report.proofs.Returns.{fits_back}
 use Rattle.core_runs.specs.Inside.{fits_inside}
 use Rattle.core_runs.proofs.Passes.{comes_no_further, grows_by_steps}
 use Rattle.core_runs.proofs.inside_object.InsideObjectAsks.ask.Goals as goal

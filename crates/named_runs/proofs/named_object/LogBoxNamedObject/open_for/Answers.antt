@@ -1,6 +1,6 @@
 use Rattle.std.proofs.Common.{subst}
 use Rattle.std.proofs.lemmas.Result.{IfOk-weaker}
-use Rattle.logged_calls.specs.Logged.{IsLoggedBy}
+use Rattle.core_runs.specs.Logged.{IsLoggedBy}
 use Rattle.named_runs.proofs.named_object.LogBoxNamedObject.open_for.Goals as goal
 
 pub returns-clause-opened : goal.returns-clause-opened

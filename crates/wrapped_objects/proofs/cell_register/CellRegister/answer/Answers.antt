@@ -1,6 +1,6 @@
 use Rattle.std.proofs.Common.{◌∙◌, sym, ap, subst, rules}
 use Rattle.seq_objects.specs.declared.kind.Kind.TheVariants.{Register}
-use Rattle.object_kit.specs.Calls.{register_word}
+use Rattle.hunts.specs.Calls.{register_word}
 use Rattle.wrapped_objects.specs.Replies.{IsPossible}
 use Rattle.wrapped_objects.proofs.Possible.{unknown-possible, write-possible, read-possible}
 use Rattle.wrapped_objects.proofs.cell_register.CellRegister.answer.Goals as goal

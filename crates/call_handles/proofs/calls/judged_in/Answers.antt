@@ -1,0 +1,23 @@
+use Rattle.std.proofs.Common.{◌≡◌, ◌↔◌, IsSome, IfSome, Option, Some, sym, subst, ap, ◌∙◌}
+use Rattle.call_handles.specs.declared.handle.Handle.{Handle}
+use Rattle.call_handles.specs.Monitors.{MayJudge}
+use Rattle.call_handles.specs.Slots.{handle_in, IsMonitors, Judges}
+use Rattle.call_handles.proofs.calls.judged_in.Goals as goal
+
+pub returns-clause-when : goal.returns-clause-when
+returns-clause-when c =
+    let was : handle_in c.args.slot ≡ Some c.deref_mut.result.now =
+    c.take-handle.ensures.value ∙ ap Some (sym c.deref_mut.ensures.value) in
+    subst
+    (λ (found : Option Handle). IsSome c.replace_with-found.result ↔ IsMonitors MayJudge found)
+    (sym was) c.replace_with-found.ensures.1.0
+
+pub returns-clause-judged : goal.returns-clause-judged
+returns-clause-judged c =
+    let was : handle_in c.args.slot ≡ Some c.deref_mut.result.now =
+    c.take-handle.ensures.value ∙ ap Some (sym c.deref_mut.ensures.value) in
+    subst (λ (found : Option Handle).
+    IfSome c.replace_with-found.result (λ one. Judges one found (handle_in c.of.result))) (sym was)
+    (subst (λ (left : Option Handle). IfSome c.replace_with-found.result
+    (λ one. Judges one (Some c.deref_mut.result.now) left)) (sym c.of.ensures)
+    c.replace_with-found.ensures.1.1.0)

@@ -1,0 +1,26 @@
+use Rattle.std.proofs.Common.{IfSome, Option, refl, sym, subst}
+use Rattle.call_handles.specs.declared.caller_handle.CallerHandle.{CallerHandle}
+use Rattle.call_handles.specs.declared.monitor_handle.MonitorHandle.{MonitorHandle}
+use Rattle.call_handles.specs.declared.handle.Handle.TheVariants.{Caller, Monitor}
+use Rattle.call_handles.specs.Tables.{next_of, IsFreshOf, IsFreshMonitorOf}
+use Rattle.call_handles.specs.declared.role.CallerRole.{CallerRole}
+use Rattle.call_handles.specs.Slots.{IsFreshAs}
+use Rattle.call_handles.proofs.opening.next_in.Goals as goal
+
+pub returns-in-Some-clause-given : goal.returns-in-Some-clause-given
+returns-in-Some-clause-given c =
+    let t = c.args.table.now in
+    let h = c.in-Some.caller in
+    let fresh = subst (λ (o : Option CallerHandle). IfSome o (IsFreshOf t (next_of t))) c.in-Some.is
+    c.in_ok-caller-in-Caller.ensures.given in
+    subst (λ (role : CallerRole). IsFreshAs role t (next_of t) (Caller h)) (sym c.in-Caller.is)
+    (h, refl, fresh)
+
+pub returns-in-Some-2-clause-given : goal.returns-in-Some-2-clause-given
+returns-in-Some-2-clause-given c =
+    let t = c.args.table.now in
+    let m = c.in-Some-2.monitor in
+    let fresh = subst (λ (o : Option MonitorHandle). IfSome o (IsFreshMonitorOf t (next_of t)))
+    c.in-Some-2.is c.in_ok-monitor-in-Monitor.ensures.given in
+    subst (λ (role : CallerRole). IsFreshAs role t (next_of t) (Monitor m)) (sym c.in-Monitor.is)
+    (m, refl, fresh)

@@ -1,3 +1,0 @@
-pub mod Values
-pub mod Loosened
-pub mod Sorts

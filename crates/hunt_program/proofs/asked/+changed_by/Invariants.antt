@@ -1,5 +1,0 @@
-use Rattle.std.proofs.Common.{length}
-use Rattle.hunt_program.proofs.asked.+changed_by.Given as goal
-
-abbrev pub decreases-changed_by : goal.decreases-changed_by
-decreases-changed_by l = length l.words.now

@@ -1,3 +1,0 @@
-pub mod Caught
-pub mod Asking
-pub mod AskedHunts

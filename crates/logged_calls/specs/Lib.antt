@@ -1,3 +1,0 @@
-pub mod Logged
-pub mod Runs
-pub mod LogLaws

@@ -1,4 +1,0 @@
-pub mod Deferred
-pub mod AllPublished
-pub mod Monitoring
-pub mod Returning

@@ -1,3 +1,0 @@
-pub mod Deferred
-pub mod Published
-pub mod Monitoring

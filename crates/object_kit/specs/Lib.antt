@@ -1,4 +1,0 @@
-pub mod Passes
-pub mod Silence
-pub mod Calls
-pub mod Listing

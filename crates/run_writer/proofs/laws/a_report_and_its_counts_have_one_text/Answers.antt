@@ -1,5 +1,0 @@
-use Rattle.run_writer.proofs.RunLemmas.{forms_write_one_text}
-use Rattle.run_writer.proofs.laws.a_report_and_its_counts_have_one_text.Goals as goal
-
-pub returns : goal.returns
-returns c = forms_write_one_text

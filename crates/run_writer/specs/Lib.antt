@@ -1,4 +1,0 @@
-pub mod Certificates
-pub mod CertificateLaws
-pub mod Running
-pub mod Runs

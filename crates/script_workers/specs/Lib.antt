@@ -1,5 +1,0 @@
-pub mod Places
-pub mod Work
-pub mod Starts
-pub mod Returns
-pub mod Turns
