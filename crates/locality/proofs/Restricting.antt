@@ -132,8 +132,8 @@ matched_with key list_of objects product k whole few op is same matched =
       },
     )
 
--- the operation word of a call of a book
-word_is : (book : List Page) (call : Call) → IsCall book call
+-- A call of a book has an operation word.
+pub word_is : (book : List Page) (call : Call) → IsCall book call
     → operation_of book call ≡ Some (unwrap_or (operation_of book call) 0)
 word_is book call is_call =
     let words = (page_of book call.caller).operations in

@@ -3,9 +3,10 @@
 use Rattle.std.specs.Prelude.{◌≡◌, ℕ, nat_eq, ◌↔◌, List, filter, Some}
 use Rattle.book_base.specs.declared.call.Call.{Call}
 use Rattle.book_base.specs.SeqSpec.{SeqSpec}
-use Rattle.book_base.specs.Book.{Page, operation_of}
+use Rattle.book_base.specs.Book.{Page, IsValid, operation_of}
 use Rattle.book_base.specs.Sequential.{IsRunFrom}
 use Rattle.book_base.specs.Order.{HasLegalOrder}
+use Rattle.book_base.specs.Pruning.{HasOneOpen}
 use Rattle.smaller_book.specs.Part.{IsNamed, IsPart, KeepsAnswers}
 
 -- An object is a product of objects, one for each key: `key` gives the key of each operation word,
@@ -52,3 +53,14 @@ RunsOfProducts =
     (list : List ℕ) (steps : List (ℕ × ℕ)) → IsProduct key list_of objects product
     → (IsRunFrom product.next list steps ↔ ((k : ℕ)
     → IsRunFrom (objects k).next (list_of k list) (steps_of_key key k steps)))
+
+-- Where each view of a valid book holds at most one unanswered call of each caller, a product has a
+-- legal order of the book exactly where each of its objects has one of the part of its key (Herlihy
+-- and Wing 1990, theorem 1).
+abbrev pub Locality : Type 0
+Locality =
+    (key : ℕ → ℕ) (list_of : ℕ → List ℕ → List ℕ) (objects : ℕ → SeqSpec) (product : SeqSpec)
+    (book : List Page) (names : ℕ → List (List ℕ)) (parts : ℕ → List Page)
+    → IsProduct key list_of objects product → IsValid book → HasOneOpen book
+    → ((k : ℕ) → IsPartOfKey key k book (names k) (parts k))
+    → (HasLegalOrder product book ↔ ((k : ℕ) → HasLegalOrder (objects k) (parts k)))

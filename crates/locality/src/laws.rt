@@ -1,6 +1,6 @@
 //! Laws of locality. Each is the contract of a function with nothing in it.
 
-ghost use Rattle.locality.specs.Locality.{LegalWholesHaveLegalParts, RunsOfProducts};
+ghost use Rattle.locality.specs.Locality.{LegalWholesHaveLegalParts, Locality, RunsOfProducts};
 
 /// Where a product has a legal order of a book, each of its objects has one of the part of its key.
 pub fn legal_wholes_have_legal_parts()
@@ -10,4 +10,11 @@ pub fn legal_wholes_have_legal_parts()
 /// The runs of a product are those whose steps of each key are a run of the key's object.
 pub fn runs_of_products()
     ensures { RunsOfProducts }
+{}
+
+/// Locality: where each view of a valid book holds at most one unanswered call of each caller, a
+/// product has a legal order of the book exactly where each of its objects has one of the part of
+/// its key (Herlihy and Wing 1990, theorem 1).
+pub fn locality()
+    ensures { Locality }
 {}
