@@ -1,3 +1,5 @@
 pub mod TwoCalls
 pub mod Lock
 pub mod Counters
+pub mod CrossedParts
+pub mod CrossedOrders

@@ -1,7 +1,9 @@
 //! Worked cases: what the definitions of told tables and of products say of small ones.
 
 ghost use Rattle.std.specs.Prelude.{◌≡◌, ℕ, [], ◌∷◌, Contains};
+ghost use Rattle.book_base.specs.Book.{IsValid};
 ghost use Rattle.book_base.specs.Order.{IsLegalOrder, HasLegalOrder};
+ghost use Rattle.book_base.specs.Pruning.{HasOneOpen};
 ghost use Rattle.told_models.specs.declared.fault.TellFault.TheVariants.{Contradicts};
 ghost use Rattle.told_models.specs.Table.{Extends, IsTellFault};
 ghost use Rattle.told_models.specs.Agreement.{Agrees};
@@ -11,6 +13,7 @@ ghost use Rattle.told_models.specs.Dialogue.{IsDialogue, word_lists};
 ghost use Rattle.locality.specs.Locality.{IsProduct, IsPartOfKey};
 ghost use Rattle.model_examples.specs.Locks.{nothing_told, acquired, refused, other_lock, two_calls, two_places, to};
 ghost use Rattle.model_examples.specs.Counters.{side_key, side_list, side_counter, both_counters, first_part};
+ghost use Rattle.model_examples.specs.OpenCalls.{crossed_calls, crossed_names, crossed_part};
 
 /// A lock whose operation 1 acquires it: at the free state 0 the reply is 1, and at the held state
 /// 1 it is 0. Both steps are asked for, and then the table is closed.
@@ -43,4 +46,37 @@ pub fn two_counters_are_a_product()
     ensures part { IsPartOfKey side_key 0 (two_calls 0 0 1 0) ((0 ∷ []) ∷ []) first_part }
     // The two counters have a legal order of the book.
     ensures legal { HasLegalOrder both_counters (two_calls 0 0 1 0) }
+{}
+
+/// Two callers on two counters, crossed: the first caller's calls are unanswered, and both views
+/// hold the first one alone. By locality the whole is legal, since each counter's part is.
+pub fn crossed_calls_are_legal_by_locality()
+    // The book is valid.
+    ensures valid { IsValid (crossed_calls 1 0 1) }
+    // Each view holds at most one unanswered call of each caller.
+    ensures one_open { HasOneOpen (crossed_calls 1 0 1) }
+    // The parts are those of the keys.
+    ensures parts { (k : ℕ)
+        → IsPartOfKey side_key k (crossed_calls 1 0 1) (crossed_names k) (crossed_part 1 0 1 k) }
+    // The object of each key has a legal order of its part.
+    ensures parts_legal { (k : ℕ) → HasLegalOrder (side_counter k) (crossed_part 1 0 1 k) }
+    // The two counters have a legal order of the book.
+    ensures legal { HasLegalOrder both_counters (crossed_calls 1 0 1) }
+{}
+
+/// Where the views hold both unanswered calls of the first caller, each counter's part is legal and
+/// the whole isn't: the second call stands in each order, so that the first one does too, but the
+/// first counter's replies leave no place for it.
+pub fn locality_needs_one_open()
+    // The book is valid.
+    ensures valid { IsValid (crossed_calls 2 1 0) }
+    // Not each view holds at most one unanswered call of each caller.
+    ensures several { HasOneOpen (crossed_calls 2 1 0) → ⊥ }
+    // The parts are those of the keys.
+    ensures parts { (k : ℕ)
+        → IsPartOfKey side_key k (crossed_calls 2 1 0) (crossed_names k) (crossed_part 2 1 0 k) }
+    // The object of each key has a legal order of its part.
+    ensures parts_legal { (k : ℕ) → HasLegalOrder (side_counter k) (crossed_part 2 1 0 k) }
+    // The two counters have no legal order of the book.
+    ensures illegal { HasLegalOrder both_counters (crossed_calls 2 1 0) → ⊥ }
 {}
