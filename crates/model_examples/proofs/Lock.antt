@@ -3,17 +3,21 @@ use Rattle.std.proofs.Common.{◌≡◌, ℕ, zero, suc, Bool, false, cond, nat_
 use Rattle.std.proofs.lemmas.Bool.{cases_Bool, and_parts, and_from, eqb-true, eq-eqb, true≢false}
 use Rattle.std.proofs.lemmas.Option.{same_Some, none-some}
 use Rattle.book_base.specs.Book.{operation_of}
+use Rattle.told_models.specs.declared.answer.Answer.TheVariants.{Ask}
 use Rattle.told_models.specs.declared.table.Transition.{Transition}
 use Rattle.told_models.specs.Table.{is_same_pair, told_step, Extends, TellsStep}
 use Rattle.told_models.specs.Agreement.{Agrees}
-use Rattle.told_models.specs.Closed.{IsClosed, IsWordOf}
+use Rattle.told_models.specs.Closed.{IsClosedTo, IsWordOf}
 use Rattle.told_models.specs.Dialogue.{IsDialogue}
+use Rattle.told_models.specs.Answers.{IsRightAnswer}
+use Rattle.told_models.specs.Search.{LeadsInto, AreExpanded}
 use Rattle.told_models.proofs.Telling.{tells_step, extends-tells}
-use Rattle.told_models.proofs.Closing.{AreTold, AreToldBelow, closed_from_steps}
+use Rattle.told_models.proofs.Inserting.{element_at}
+use Rattle.told_models.proofs.Searching.{expanded-closed}
 use Rattle.model_examples.specs.Locks.{nothing_told, acquired, refused, other_after, other_lock, two_calls, to}
 
-among : Contains {X = ℕ} (1 ∷ []) 1
-among = (0, omega arith, refl)
+first_word : IsWordOf (two_calls 1 1 1 0) 1
+first_word = (record { caller = 0; number = 0 }, refl)
 
 -- pairs are told apart either way round
 apart_back : (a b : ℕ × ℕ) → is_same_pair a b ≡ false → is_same_pair b a ≡ false
@@ -37,49 +41,58 @@ second_tells = tells_step acquired refused 1 1 (to 1 0) refl refl
 pub lock_extends : Extends acquired refused
 lock_extends = extends-tells acquired refused 1 1 (to 1 0) refl second_tells
 
-pub lock_dialogue : IsDialogue (1 ∷ []) 2 nothing_told (acquired ∷ refused ∷ [])
+pub lock_dialogue : IsDialogue (λ table state op. IsRightAnswer table (two_calls 1 1 1 0)
+    (Ask state op)) nothing_told (acquired ∷ refused ∷ [])
 lock_dialogue = (
   0,
   1,
   to 1 1,
-  record { untold = refl; word = among; named = inl refl },
-  record { steps = []; few = omega arith; words = tt; reached = refl },
-  first_tells,
+  record {
+    untold = refl;
+    word = first_word;
+    near = record { steps = []; few = omega arith; words = tt; reached = refl };
+  },
+  extends-tells nothing_told acquired 0 1 (to 1 1) refl first_tells,
+  refl,
   (
     1,
     1,
     to 1 0,
-    record { untold = refl; word = among; named = inr (0, to 1 1, refl, refl) },
     record {
-      steps = (1, 1) ∷ [];
-      few = omega arith;
-      words = (among, tt);
-      reached = (to 1 1, refl, refl, refl);
+      untold = refl;
+      word = first_word;
+      near = record {
+        steps = (1, 1) ∷ [];
+        few = omega arith;
+        words = (first_word, tt);
+        reached = (to 1 1, refl, refl, refl);
+      };
     },
-    second_tells,
+    lock_extends,
+    refl,
     tt,
   ),
 )
 
-told_at_free : AreTold refused (1 ∷ []) 0
-told_at_free zero less = refl
-told_at_free (suc k) less = absurd (omega (arith, less))
+-- the step of the one word leads from each state into both
+lock_leads : (state op : ℕ) → Contains (0 ∷ 1 ∷ []) state → Contains (1 ∷ []) op
+    → LeadsInto refused (0 ∷ 1 ∷ []) state op
+lock_leads state op (zero, less, is) (zero, inside, same) =
+    subst (λ (s : ℕ). LeadsInto refused (0 ∷ 1 ∷ []) s op) is
+    (subst (LeadsInto refused (0 ∷ 1 ∷ []) 0) same (to 1 1, refl, (1, omega arith, refl)))
+lock_leads state op (suc zero, less, is) (zero, inside, same) =
+    subst (λ (s : ℕ). LeadsInto refused (0 ∷ 1 ∷ []) s op) is
+    (subst (LeadsInto refused (0 ∷ 1 ∷ []) 1) same (to 1 0, refl, (1, omega arith, refl)))
+lock_leads state op (suc (suc k), less, is) (zero, inside, same) = absurd (omega (arith, less))
+lock_leads state op (k, less, is) (suc j, inside, same) = absurd (omega (arith, inside))
 
-told_at_held : AreTold refused (1 ∷ []) 1
-told_at_held zero less = refl
-told_at_held (suc k) less = absurd (omega (arith, less))
+lock_expanded : AreExpanded refused (1 ∷ []) (0 ∷ 1 ∷ []) 0 2
+lock_expanded k state op from to at among =
+    lock_leads state op (element_at (0 ∷ 1 ∷ []) k state at) among
 
-told_after : AreToldBelow refused (1 ∷ []) 2
-told_after zero transition less at =
-    subst (λ (t : Transition). AreTold refused (1 ∷ []) t.next) (same_Some _ transition at)
-    told_at_held
-told_after (suc zero) transition less at =
-    subst (λ (t : Transition). AreTold refused (1 ∷ []) t.next) (same_Some _ transition at)
-    told_at_held
-told_after (suc (suc k)) transition less at = absurd (omega (arith, less))
-
-pub lock_closed : IsClosed refused (Contains (1 ∷ []))
-lock_closed = closed_from_steps refused (1 ∷ []) 2 told_at_free told_after (omega arith)
+pub lock_closed : (most : ℕ) → IsClosedTo refused (Contains (1 ∷ [])) most
+lock_closed most = expanded-closed refused (1 ∷ []) (0 ∷ 1 ∷ []) most (0, omega arith, refl)
+    lock_expanded
 
 other_makes : (state op : ℕ) (transition : Transition)
     → told_step refused state op ≡ Some transition

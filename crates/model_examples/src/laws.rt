@@ -4,12 +4,14 @@ ghost use Rattle.std.specs.Prelude.{◌≡◌, ℕ, [], ◌∷◌, Contains};
 ghost use Rattle.book_base.specs.Book.{IsValid};
 ghost use Rattle.book_base.specs.Order.{IsLegalOrder, HasLegalOrder};
 ghost use Rattle.book_base.specs.Pruning.{HasOneOpen};
+ghost use Rattle.told_models.specs.declared.answer.Answer.TheVariants.{Ask};
 ghost use Rattle.told_models.specs.declared.fault.TellFault.TheVariants.{Contradicts};
 ghost use Rattle.told_models.specs.Table.{Extends, IsTellFault};
 ghost use Rattle.told_models.specs.Agreement.{Agrees};
 ghost use Rattle.told_models.specs.Completion.{completion};
-ghost use Rattle.told_models.specs.Closed.{IsClosed, IsWordOf};
+ghost use Rattle.told_models.specs.Closed.{IsClosedTo, IsWordOf};
 ghost use Rattle.told_models.specs.Dialogue.{IsDialogue, word_lists};
+ghost use Rattle.told_models.specs.Answers.{IsRightAnswer};
 ghost use Rattle.locality.specs.Locality.{IsProduct, IsPartOfKey};
 ghost use Rattle.model_examples.specs.Locks.{nothing_told, acquired, refused, other_lock, two_calls, two_places, to};
 ghost use Rattle.model_examples.specs.Counters.{side_key, side_list, side_counter, both_counters, first_part};
@@ -18,16 +20,18 @@ ghost use Rattle.model_examples.specs.OpenCalls.{crossed_calls, crossed_names, c
 /// A lock whose operation 1 acquires it: at the free state 0 the reply is 1, and at the held state
 /// 1 it is 0. Both steps are asked for, and then the table is closed.
 pub fn a_lock_is_told_step_by_step()
-    // The two steps are told in a dialogue.
-    ensures dialogue { IsDialogue (1 ∷ []) 2 nothing_told (acquired ∷ refused ∷ []) }
+    // The two steps are told in a dialogue about the book.
+    ensures dialogue { IsDialogue (λ table state op.
+        IsRightAnswer table (two_calls 1 1 1 0) (Ask state op)) nothing_told
+        (acquired ∷ refused ∷ []) }
     // The bound allows two asks.
     ensures bound { word_lists 1 2 ≡ 2 }
     // After the first step another one at the free state contradicts it.
     ensures contradicted { IsTellFault acquired 0 1 (to 0 1) (Contradicts (to 1 1)) }
     // The table with both steps extends the one with the first step.
     ensures extends { Extends acquired refused }
-    // The table with both steps is closed under the operation word 1.
-    ensures closed { IsClosed refused (Contains (1 ∷ [])) }
+    // The table with both steps is closed under the operation word 1, to each depth.
+    ensures closed { (most : ℕ) → IsClosedTo refused (Contains (1 ∷ [])) most }
     // Another object than the completion agrees with the table.
     ensures agrees { Agrees refused other_lock }
     // It differs from the completion at a list that is no state.

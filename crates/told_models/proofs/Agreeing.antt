@@ -1,19 +1,21 @@
 -- Objects that agree with a table.
-use Rattle.std.proofs.Common.{◌≡◌, ℕ, suc, List, [], ◌∷◌, ◌++◌, map, get_or, Contains, Option, Some, unwrap_or, refl, sym, ap, subst, ◌∙◌}
+use Rattle.std.proofs.Common.{◌≡◌, ℕ, suc, ◌+◌, ◌≤◌, List, [], ◌∷◌, length, map, get_or, Contains, Option, Some, unwrap_or, refl, sym, ap, subst, ◌∙◌, arith}
+use Rattle.std.proofs.lemmas.List.{length-map}
 use Rattle.std.proofs.lemmas.Option.{slice_get-get_or}
-use Rattle.list_laws.proofs.Elements.{AllByRecursion-append}
 use Rattle.book_base.specs.declared.call.Place.{Place}
 use Rattle.book_base.specs.SeqSpec.{SeqSpec}
 use Rattle.book_base.specs.declared.call.Call.{Call}
 use Rattle.book_base.specs.Book.{Page, page_of, IsCall, operation_of}
 use Rattle.book_base.specs.Sequential.{IsRunFrom}
 use Rattle.book_base.specs.Order.{IsLegalOrder, HasLegalOrder, StandsAt, step_at, call_at}
-use Rattle.told_models.specs.declared.table.Transition.{Transition}
-use Rattle.told_models.specs.Table.{Table, told_step}
+use Rattle.told_models.specs.Table.{Table}
 use Rattle.told_models.specs.Agreement.{AgreesBy, Agrees}
 use Rattle.told_models.specs.Completion.{completion, made_or_bad}
-use Rattle.told_models.specs.Closed.{Leads, HaveWords, IsClosed, IsWordOf}
-use Rattle.told_models.specs.Laws.{CompletionsAgree, AgreesWithFewer, ClosedTablesDecide, ClosedForBooks}
+use Rattle.told_models.specs.Closed.{Leads, HaveWords, IsNear, IsClosedTo, IsWordOf, number_of_calls}
+use Rattle.told_models.specs.Dialogue.{IsAsk}
+use Rattle.told_models.specs.Laws.{CompletionsAgree, AgreesWithFewer, ClosedTablesDecide, ClosedForBooks, AnswersExclude, VerdictsStand}
+use Rattle.told_models.proofs.Leading.{near_step, near_among}
+use Rattle.told_models.proofs.Counting.{order-bounded}
 
 pub completions_agree : CompletionsAgree
 completions_agree table = (
@@ -34,15 +36,6 @@ agrees_with_fewer old new spec extends agrees = (
   },
 )
 
--- told steps and one more lead on
-leads_on : (table : Table) (from : ℕ) (steps : List (ℕ × ℕ)) (to op : ℕ) (transition : Transition)
-    → Leads table from steps to → told_step table to op ≡ Some transition
-    → Leads table from (steps ++ (op, transition.reply) ∷ []) transition.next
-leads_on table from [] to op transition leads told =
-    (transition, ap (λ (s : ℕ). told_step table s op) leads ∙ told, refl, refl)
-leads_on table from (step ∷ steps) to op transition leads told =
-    (leads.0, leads.1, leads.2, leads_on table leads.0.next steps to op transition leads.3 told)
-
 -- told steps are a run of each object that agrees
 told_steps_are_a_run : (list_of : ℕ → List ℕ) (table : Table) (spec : SeqSpec)
     → AgreesBy list_of table spec → (from : ℕ) (steps : List (ℕ × ℕ)) (to : ℕ)
@@ -56,24 +49,24 @@ told_steps_are_a_run list_of table spec agrees from (step ∷ steps) to leads =
           (told_steps_are_a_run list_of table spec agrees leads.0.next steps to leads.3),
     )
 
--- in a closed table a run of an object that agrees is of told steps
-run_is_told : (list_of : ℕ → List ℕ) (table : Table) (IsWord : ℕ → Type 0)
-    (spec : SeqSpec) → AgreesBy list_of table spec → IsClosed table IsWord
-    → (before : List (ℕ × ℕ)) (from : ℕ)
-    → HaveWords IsWord before → Leads table table.init before from → (steps : List (ℕ × ℕ))
-    → HaveWords IsWord steps → IsRunFrom spec.next (list_of from) steps
-    → (to : ℕ) × Leads table from steps to
-run_is_told list_of table IsWord spec agrees closed before from known leads [] all run =
+-- in a closed table a run of an object that agrees, of no more steps than the depth, is of told steps
+run_is_told : (list_of : ℕ → List ℕ) (table : Table) (IsWord : ℕ → Type 0) (most : ℕ)
+    (spec : SeqSpec) → AgreesBy list_of table spec → IsClosedTo table IsWord most
+    → (depth from : ℕ) → IsNear table IsWord (depth + 1) from → (steps : List (ℕ × ℕ))
+    → depth + length steps ≤ most → HaveWords IsWord steps
+    → IsRunFrom spec.next (list_of from) steps → (to : ℕ) × Leads table from steps to
+run_is_told list_of table IsWord most spec agrees closed depth from near [] few all run =
     (from, refl)
-run_is_told list_of table IsWord spec agrees closed before from known leads (step ∷ steps) all run =
-    let found = closed before from step.0 known leads all.0 in
+run_is_told list_of table IsWord most spec agrees closed depth from near (step ∷ steps) few all
+    run =
+    let found = closed from step.0
+    (near_among table IsWord IsWord (depth + 1) most from (λ op is. is) (omega (arith, few)) near)
+    all.0 in
     let made = agrees.steps from step.0 found.0 found.1 in
     let reply : found.0.reply ≡ step.1 = sym (ap (λ (p : List ℕ × ℕ). p.1) made) ∙ run.0 in
-    let rest = run_is_told list_of table IsWord spec agrees closed
-    (before ++ (step.0, found.0.reply) ∷ []) found.0.next
-    (AllByRecursion-append (λ (s : ℕ × ℕ). IsWord s.0) before
-    ((step.0, found.0.reply) ∷ []) known (all.0, tt))
-    (leads_on table table.init before from step.0 found.0 leads found.1) steps all.1
+    let rest = run_is_told list_of table IsWord most spec agrees closed (depth + 1) found.0.next
+    (near_step table IsWord (depth + 1) from step.0 found.0 near all.0 found.1) steps
+    (omega (arith, few)) all.1
     (subst (λ (list : List ℕ). IsRunFrom spec.next list steps)
     (ap (λ (p : List ℕ × ℕ). p.0) made) run.1) in
     (rest.0, (found.0, found.1, reply, rest.1))
@@ -95,7 +88,9 @@ places_have_words book (place ∷ order) calls =
 pub closed_tables_decide : ClosedTablesDecide
 closed_tables_decide table book order a b closed by_a by_b legal =
     let steps = map (step_at book) order in
-    let told = run_is_told by_a.0 table (IsWordOf book) a by_a.1 closed [] table.init tt refl steps
+    let told = run_is_told by_a.0 table (IsWordOf book) (number_of_calls book) a by_a.1 closed 0
+    table.init (record { steps = []; few = omega arith; words = tt; reached = refl }) steps
+    (omega (arith, order-bounded a book order legal, length-map order (step_at book)))
     (places_have_words book order legal.calls)
     (subst (λ (list : List ℕ). IsRunFrom a.next list steps) by_a.1.init legal.run) in
     record {
@@ -108,35 +103,53 @@ closed_tables_decide table book order a b closed by_a by_b legal =
       precedence = legal.precedence;
     }
 
--- steps whose words are among others' have those words
-words_among : (IsWord IsOther : ℕ → Type 0) → ((op : ℕ) → IsWord op → IsOther op)
-    → (steps : List (ℕ × ℕ)) → HaveWords IsWord steps → HaveWords IsOther steps
-words_among IsWord IsOther among [] have = tt
-words_among IsWord IsOther among (step ∷ steps) have =
-    (among step.0 have.0, words_among IsWord IsOther among steps have.1)
-
 pub closed_for_books : ClosedForBooks
-closed_for_books table ops book among closed steps state op have leads word =
-    closed steps state op (words_among (IsWordOf book) (Contains ops) among steps have) leads
-    (among op word)
+closed_for_books table ops most book among few closed state op near word = closed state op
+    (near_among table (IsWordOf book) (Contains ops) (number_of_calls book) most state among few
+    near) (among op word)
 
 -- at a closed table an order that is legal for its completion is legal for each object that agrees
 pub legal_for_all : (table : Table) (book : List Page) (ops : List ℕ)
-    → ((op : ℕ) → IsWordOf book op → Contains ops op) → IsClosed table (Contains ops)
-    → (order : List Place) → IsLegalOrder (completion table) book order → (spec : SeqSpec)
-    → Agrees table spec → IsLegalOrder spec book order
+    → ((op : ℕ) → IsWordOf book op → Contains ops op)
+    → IsClosedTo table (Contains ops) (number_of_calls book) → (order : List Place)
+    → IsLegalOrder (completion table) book order → (spec : SeqSpec) → Agrees table spec
+    → IsLegalOrder spec book order
 legal_for_all table book ops among closed order legal spec agrees =
     closed_tables_decide table book order (completion table) spec
-    (closed_for_books table ops book among closed) (completions_agree table) agrees legal
+    (closed_for_books table ops (number_of_calls book) book among (omega arith) closed)
+    (completions_agree table) agrees legal
 
 -- at a closed table no object that agrees has a legal order where its completion has none
 pub legal_for_none : (table : Table) (book : List Page) (ops : List ℕ)
-    → ((op : ℕ) → IsWordOf book op → Contains ops op) → IsClosed table (Contains ops)
+    → ((op : ℕ) → IsWordOf book op → Contains ops op)
+    → IsClosedTo table (Contains ops) (number_of_calls book)
     → (HasLegalOrder (completion table) book → ⊥) → (spec : SeqSpec) → Agrees table spec
     → HasLegalOrder spec book → ⊥
 legal_for_none table book ops among closed none spec agrees has =
     none (
       has.0,
       closed_tables_decide table book has.0 spec (completion table)
-          (closed_for_books table ops book among closed) agrees (completions_agree table) has.1,
+          (closed_for_books table ops (number_of_calls book) book among (omega arith) closed)
+          agrees (completions_agree table) has.1,
     )
+
+-- a pair that may be asked for by words of a book may be asked for at the book
+pub ask_of_book : (table : Table) (book : List Page) (ops : List ℕ) (most state op : ℕ)
+    → ((word : ℕ) → Contains ops word → IsWordOf book word)
+    → IsAsk table (Contains ops) most state op → IsAsk table (IsWordOf book) most state op
+ask_of_book table book ops most state op own ask = record {
+  untold = ask.untold;
+  word = own op ask.word;
+  near = near_among table (Contains ops) (IsWordOf book) most most state own (omega arith) ask.near;
+}
+
+pub answers_exclude : AnswersExclude
+answers_exclude table book order legal illegal =
+    illegal (completion table) (completions_agree table)
+    (order.items, legal (completion table) (completions_agree table))
+
+pub verdicts_stand : VerdictsStand
+verdicts_stand old new book extends = (
+  λ order legal spec agrees. legal spec (agrees_with_fewer old new spec extends agrees),
+  λ illegal spec agrees has. illegal spec (agrees_with_fewer old new spec extends agrees) has,
+)

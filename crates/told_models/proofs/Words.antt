@@ -1,13 +1,13 @@
 -- The operation words of a book, added one by one.
-use Rattle.std.proofs.Common.{◌≡◌, ℕ, ◌+◌, ◌<◌, true, nat_eq, List, [], ◌∷◌, ◌++◌, length, slice_get, Contains, Some, inl, inr, sym, ap, subst, ◌∙◌, arith}
-use Rattle.std.specs.List.{list_any}
-use Rattle.std.proofs.lemmas.Bool.{cases_Bool, cases_lt, eqb-true, true≢false}
+use Rattle.std.proofs.Common.{◌≡◌, ℕ, ◌+◌, ◌<◌, nat_eq, List, [], length, slice_get, Contains, Some, inl, inr, sym, ap, subst, ◌∙◌, arith}
+use Rattle.std.proofs.lemmas.Bool.{cases_lt}
 use Rattle.std.proofs.lemmas.List.{get_or_past}
-use Rattle.std.proofs.lemmas.List.Elements.{Contains-append_left, Contains-append_right, Contains-push, Contains-push_cases}
 use Rattle.std.proofs.lemmas.Option.{none-some, same_Some, slice_get_within}
 use Rattle.book_base.specs.declared.call.Call.{Call}
 use Rattle.book_base.specs.Book.{Page, page_of, calls_of, operation_of}
+use Rattle.indexmap.specs.IndexSet.{insert_key}
 use Rattle.told_models.specs.Words.{AddsWords}
+use Rattle.told_models.proofs.Inserting.{continues_contains, insert_continues, insert_contains, insert_cases}
 
 -- what stands before one call more is there where its word is
 all_more : (book : List Page) (caller below op : ℕ) (words : List ℕ)
@@ -29,40 +29,27 @@ all_more book caller below op words here there before number word less at =
           subst (Contains words) is there
     ]
 
--- a word that is there needn't be added
-pub adds_words-there : (book : List Page) (caller below op : ℕ) (old words : List ℕ)
-    → operation_of book (record { caller = caller; number = below }) ≡ Some op → Contains words op
-    → AddsWords book caller below old words → AddsWords book caller (below + 1) old words
-adds_words-there book caller below op old words here there adds = record {
-  kept = adds.kept;
-  all = all_more book caller below op words here there adds.all;
-  own = adds.own;
-}
-
--- a word that is added at the end
-pub adds_words-push : (book : List Page) (caller below op : ℕ) (old words : List ℕ)
+-- the word of one call more is put in
+pub adds_words-insert : (book : List Page) (caller below op : ℕ) (old words : List ℕ)
     → operation_of book (record { caller = caller; number = below }) ≡ Some op
     → AddsWords book caller below old words
-    → AddsWords book caller (below + 1) old (words ++ op ∷ [])
-adds_words-push book caller below op old words here adds = record {
-  kept = λ word has. Contains-append_left words (op ∷ []) word (adds.kept word has);
-  all = all_more book caller below op (words ++ op ∷ []) here (Contains-push words op)
-      (λ number word less at. Contains-append_left words (op ∷ []) word
-      (adds.all number word less at));
-  own = λ word has. elim (Contains-push_cases words op word has) [
-    | inl before ↦ adds.own word before
-    | inr is ↦ inr (record { caller = caller; number = below }, here ∙ ap Some is)
+    → AddsWords book caller (below + 1) old (insert_key nat_eq words op)
+adds_words-insert book caller below op old words here adds = record {
+  kept = λ word has. kept word (adds.kept word has);
+  all = all_more book caller below op (insert_key nat_eq words op) here (insert_contains words op)
+      (λ number word less at. kept word (adds.all number word less at));
+  own = λ word has. elim (insert_cases words op word has) [
+    | inl before ↦ elim (adds.own word before) [
+      | inl earlier ↦ inl earlier
+      | inr made ↦ inr (made.0, omega (arith, made.1), made.2)
+    ]
+    | inr is ↦ inr (below, omega arith, here ∙ ap Some is)
   ];
 }
-
--- a list has a number where the test for some equal one passes
-pub contains_from_any : (xs : List ℕ) (x : ℕ) → list_any (λ y. nat_eq y x) xs ≡ true
-    → Contains xs x
-contains_from_any [] x any = absurd (true≢false (sym any))
-contains_from_any (y ∷ ys) x any = elim (cases_Bool (nat_eq y x)) [
-  | inl same ↦ (0, omega arith, eqb-true y x same)
-  | inr differs ↦ Contains-append_right (y ∷ []) ys x (contains_from_any ys x cc)
-]
+  where
+    kept : (word : ℕ) → Contains words word → Contains (insert_key nat_eq words op) word
+    kept word has = continues_contains words (insert_key nat_eq words op) word
+        (insert_continues words op) has
 
 -- the caller of a call with an operation word is one of the book's
 pub caller_inside : (book : List Page) (call : Call) (op : ℕ) → operation_of book call ≡ Some op

@@ -1,5 +1,5 @@
 -- Tables that are closed under the operations of a book.
-use Rattle.std.specs.Prelude.{◌≡◌, ℕ, List, [], ◌∷◌, Some}
+use Rattle.std.specs.Prelude.{◌≡◌, ℕ, ◌<◌, List, [], ◌∷◌, length, sum_by, Some}
 use Rattle.std.specs.List.{AllByRecursion}
 use Rattle.book_base.specs.declared.call.Call.{Call}
 use Rattle.book_base.specs.Book.{Page, operation_of}
@@ -18,13 +18,23 @@ Leads table from (step ∷ steps) to = (transition : Transition)
 abbrev pub HaveWords : (ℕ → Type 0) → List (ℕ × ℕ) → Type 0
 HaveWords IsWord steps = AllByRecursion (λ step. IsWord step.0) steps
 
--- A table is closed under some operation words: at each state to which told steps of these words
--- lead from the initial state, the step of each of these words is told.
-abbrev pub IsClosed : Table → (ℕ → Type 0) → Type 0
-IsClosed table IsWord = (steps : List (ℕ × ℕ)) (state op : ℕ) → HaveWords IsWord steps
-    → Leads table table.init steps state → IsWord op
+-- A state is near the initial one: fewer than `most` told steps of these words lead to it.
+pub record IsNear (table : Table) (IsWord : ℕ → Type 0) (most state : ℕ) : Type 0 where
+  pub steps : List (ℕ × ℕ)
+  pub few : length steps < most
+  pub words : HaveWords IsWord steps
+  pub reached : Leads table table.init steps state
+
+-- A table is closed to a depth under some operation words: at each state to which fewer than `most`
+-- told steps of these words lead from the initial state, the step of each of these words is told.
+abbrev pub IsClosedTo : Table → (ℕ → Type 0) → ℕ → Type 0
+IsClosedTo table IsWord most = (state op : ℕ) → IsNear table IsWord most state → IsWord op
     → (transition : Transition) × (told_step table state op ≡ Some transition)
 
 -- An operation word is a book's where some call of the book has it.
 abbrev pub IsWordOf : List Page → ℕ → Type 0
 IsWordOf book op = (call : Call) × (operation_of book call ≡ Some op)
+
+-- How many calls a book has, and so how many places a legal order has at most.
+abbrev pub number_of_calls : List Page → ℕ
+number_of_calls book = sum_by (λ page. length page.operations) book

@@ -1,14 +1,17 @@
 -- Laws of tables and of the objects that agree with them.
-use Rattle.std.specs.Prelude.{ℕ, ◌≤◌, List, length, Contains}
+use Rattle.std.specs.Prelude.{◌≡◌, ℕ, ◌*◌, ◌≤◌, List, length, Contains, None, Vec}
+use Rattle.std.specs.declared.alloc.Global.{Global}
 use Rattle.book_base.specs.declared.call.Place.{Place}
 use Rattle.book_base.specs.SeqSpec.{SeqSpec}
 use Rattle.book_base.specs.Book.{Page}
 use Rattle.book_base.specs.Order.{IsLegalOrder}
-use Rattle.told_models.specs.Table.{Table, Extends}
+use Rattle.told_models.specs.declared.answer.Answer.TheVariants.{Legal, Illegal, Ask}
+use Rattle.told_models.specs.Table.{Table, told_step, Extends}
 use Rattle.told_models.specs.Agreement.{Agrees}
 use Rattle.told_models.specs.Completion.{completion}
-use Rattle.told_models.specs.Closed.{IsClosed, IsWordOf}
+use Rattle.told_models.specs.Closed.{IsClosedTo, IsWordOf, number_of_calls}
 use Rattle.told_models.specs.Dialogue.{IsDialogue, word_lists}
+use Rattle.told_models.specs.Answers.{IsRightAnswer}
 
 -- The completion of a table agrees with the table, so that some object does.
 abbrev pub CompletionsAgree : Type 0
@@ -19,22 +22,47 @@ abbrev pub AgreesWithFewer : Type 0
 AgreesWithFewer = (old new : Table) (spec : SeqSpec) → Extends old new → Agrees new spec
     → Agrees old spec
 
--- Where a table is closed under the operation words of a book, an order of the book that is legal
--- for one object that agrees with the table is legal for each of them.
+-- Where a table is closed under the operation words of a book, to the number of the book's calls, an
+-- order of the book that is legal for one object that agrees with the table is legal for each of
+-- them.
 abbrev pub ClosedTablesDecide : Type 0
 ClosedTablesDecide = (table : Table) (book : List Page) (order : List Place) (a b : SeqSpec)
-    → IsClosed table (IsWordOf book) → Agrees table a → Agrees table b
+    → IsClosedTo table (IsWordOf book) (number_of_calls book) → Agrees table a → Agrees table b
     → IsLegalOrder a book order → IsLegalOrder b book order
 
--- A table that is closed under some operation words is closed under those of each book that has no
--- others.
+-- A table that is closed to a depth under some operation words is closed for each book that has no
+-- other words and no more calls.
 abbrev pub ClosedForBooks : Type 0
-ClosedForBooks = (table : Table) (ops : List ℕ) (book : List Page)
-    → ((op : ℕ) → IsWordOf book op → Contains ops op) → IsClosed table (Contains ops)
-    → IsClosed table (IsWordOf book)
+ClosedForBooks = (table : Table) (ops : List ℕ) (most : ℕ) (book : List Page)
+    → ((op : ℕ) → IsWordOf book op → Contains ops op) → number_of_calls book ≤ most
+    → IsClosedTo table (Contains ops) most
+    → IsClosedTo table (IsWordOf book) (number_of_calls book)
 
--- A dialogue has at most as many asks as there are lists of at most `most` of its operation words,
--- whatever is told.
+-- A dialogue in which each ask is a right answer on a book has at most as many asks as there are
+-- lists of at least one and at most as many operation words as the book has calls, of words that the
+-- book's are among, whatever is told.
 abbrev pub DialoguesEnd : Type 0
-DialoguesEnd = (ops : List ℕ) (most : ℕ) (table : Table) (tables : List Table)
-    → IsDialogue ops most table tables → length tables ≤ word_lists (length ops) most
+DialoguesEnd = (book : List Page) (ops : List ℕ) (table : Table) (tables : List Table)
+    → ((op : ℕ) → IsWordOf book op → Contains ops op)
+    → IsDialogue (λ table state op. IsRightAnswer table book (Ask state op)) table tables
+    → length tables ≤ word_lists (length ops) (number_of_calls book)
+
+-- A dialogue in which each ask is for a step that wasn't told, of one of some words at one of some
+-- states, has at most as many asks as there are pairs of these states and words.
+abbrev pub FewStatesFewAsks : Type 0
+FewStatesFewAsks = (states ops : List ℕ) (table : Table) (tables : List Table)
+    → IsDialogue (λ table state op. (told_step table state op ≡ None) × Contains states state
+    × Contains ops op) table tables
+    → length tables ≤ length states * length ops
+
+-- The answers `Legal` and `Illegal` on a book exclude one another.
+abbrev pub AnswersExclude : Type 0
+AnswersExclude = (table : Table) (book : List Page) (order : Vec Place Global)
+    → IsRightAnswer table book (Legal order) → IsRightAnswer table book Illegal → ⊥
+
+-- A verdict stays right where more was told.
+abbrev pub VerdictsStand : Type 0
+VerdictsStand = (old new : Table) (book : List Page) → Extends old new
+    → ((order : Vec Place Global) → IsRightAnswer old book (Legal order)
+    → IsRightAnswer new book (Legal order))
+    × (IsRightAnswer old book Illegal → IsRightAnswer new book Illegal)

@@ -3,6 +3,7 @@ pub mod Agreement
 pub mod Completion
 pub mod Closed
 pub mod Words
+pub mod Search
 pub mod Dialogue
 pub mod Answers
 pub mod Laws

@@ -1,7 +1,6 @@
 -- Lists of the operation words of a book.
 use Rattle.std.specs.Prelude.{◌≡◌, ◌⊎◌, ℕ, ◌<◌, List, Contains, Some}
 use Rattle.book_base.specs.Book.{Page, operation_of}
-use Rattle.told_models.specs.Closed.{IsWordOf}
 
 -- The list `words` has the operation words of the list `old` and those of a caller's calls with
 -- numbers below `below`, and no others.
@@ -10,4 +9,5 @@ pub record AddsWords (book : List Page) (caller below : ℕ) (old words : List �
   pub all : (number op : ℕ) → number < below
       → operation_of book (record { caller = caller; number = number }) ≡ Some op
       → Contains words op
-  pub own : (op : ℕ) → Contains words op → Contains old op ⊎ IsWordOf book op
+  pub own : (op : ℕ) → Contains words op → Contains old op ⊎ ((number : ℕ) × (number < below)
+      × (operation_of book (record { caller = caller; number = number }) ≡ Some op))

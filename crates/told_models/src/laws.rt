@@ -1,6 +1,6 @@
 //! Laws of tables. Each is the contract of a function with nothing in it.
 
-ghost use Rattle.told_models.specs.Laws.{CompletionsAgree, AgreesWithFewer, ClosedTablesDecide, ClosedForBooks, DialoguesEnd};
+ghost use Rattle.told_models.specs.Laws.{CompletionsAgree, AgreesWithFewer, ClosedTablesDecide, ClosedForBooks, DialoguesEnd, FewStatesFewAsks, AnswersExclude, VerdictsStand};
 
 /// Each table has an object that agrees with it.
 pub fn some_object_agrees()
@@ -13,20 +13,36 @@ pub fn telling_more_leaves_fewer_objects()
     ensures { AgreesWithFewer }
 {}
 
-/// All objects that agree with a table that is closed under a book's operations have the same legal
-/// orders of the book.
+/// All objects that agree with a table that is closed under a book's operations, to the number of the
+/// book's calls, have the same legal orders of the book.
 pub fn closed_tables_decide()
     ensures { ClosedTablesDecide }
 {}
 
-/// A table that is closed under some operation words is closed for all books of these words.
+/// A table that is closed to a depth under some operation words is closed for all books of these
+/// words with no more calls.
 pub fn closed_tables_serve_all_books()
     ensures { ClosedForBooks }
 {}
 
-/// A dialogue ends, whatever is told, where each ask is for a step that wasn't told, at a state
-/// that fewer than a given number of told steps reach: it has at most as many asks as there are
-/// lists of operation words of at most this length.
+/// A dialogue with `judge` ends, whatever is told: it has at most as many asks as there are lists of
+/// at least one and at most as many operation words as the book has calls.
 pub fn dialogues_end()
     ensures { DialoguesEnd }
+{}
+
+/// A dialogue has at most as many asks as there are pairs of the states and the operation words that
+/// are asked for.
+pub fn few_states_few_asks()
+    ensures { FewStatesFewAsks }
+{}
+
+/// At a table only one of the answers `Legal` and `Illegal` on a book is right.
+pub fn answers_exclude()
+    ensures { AnswersExclude }
+{}
+
+/// A verdict stays right, whatever else is told.
+pub fn verdicts_stand()
+    ensures { VerdictsStand }
 {}

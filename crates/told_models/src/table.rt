@@ -1,13 +1,14 @@
-ghost use Rattle.std.specs.Prelude.{◌≡◌, ℕ, ◌+◌, ◌<◌, ◌≤◌, true, [], length, slice_index, Contains, Some, None, IsSome, IfSome, IfNone, IfOk, IfErr, OnErr};
+ghost use Rattle.std.specs.Prelude.{◌≡◌, ℕ, ◌+◌, ◌<◌, ◌≤◌, true, [], length, Contains, Some, None, IfSome, IfNone, IfOk, OnOk, IfErr, OnErr};
 ghost use Rattle.book_base.specs.declared.TheConstants.{BAD};
 ghost use Rattle.told_models.specs.Table.{told_step, Extends, TellsStep, IsTellFault};
-ghost use Rattle.told_models.specs.Closed.{IsClosed};
+ghost use Rattle.told_models.specs.Closed.{IsNear, IsClosedTo};
 ghost use Rattle.told_models.specs.Dialogue.{IsAsk};
+ghost use Rattle.told_models.specs.Search.{Continues, LeadsInto, AreExpanded, AreNear};
 ghost use Rattle.told_models.specs.Completion.{completion, step_at_list, completion-begins_small, length-made_or_bad, completion-knows_all};
 
 use crate::fault::TellFault;
-use book_base::{BAD, OpWord, SeqObject, State};
-use indexmap::IndexMap;
+use book_base::{BAD, NoMemory, OpWord, SeqObject, State};
+use indexmap::{IndexMap, IndexSet};
 use search_hints::SearchHints;
 use std::alloc::Global;
 use std::marker::Model;
@@ -23,6 +24,11 @@ pub struct Transition {
 /// the transition that the object makes there.
 ///
 /// Whoever tells gives the numbers to the states of the object.
+///
+/// As a sequential object a table is its completion: where nothing was told the list stays as it is
+/// and the reply is `BAD`. What a check says of it holds for each object that agrees only where the
+/// table is closed under the book's operation words to the number of the book's calls
+/// (`laws::closed_tables_decide`).
 #[derive(Debug, Drop)]
 pub struct ToldTable {
     init: u64,
@@ -60,6 +66,8 @@ impl ToldTable {
     pub fn tell(&mut self, state: u64, op: OpWord, transition: Transition) -> Result<(), TellFault>
         // The table has the step now, and all other steps are as before.
         ensures told { IfOk result (λ _. TellsStep self.old self.new state op transition) }
+        // A step that the table has already leaves it as it is.
+        ensures again { told_step self.old state op ≡ Some transition → self.new ≡ self.old }
         // What was told stays told.
         ensures kept { Extends self.old self.new }
         // A step is refused only where another transition was told there, which the refusal names,
@@ -77,40 +85,90 @@ impl ToldTable {
         self.add(state, op, transition)
     }
 
-    /// A pair of a state of the table and one of these operation words whose step wasn't told,
-    /// where there is one. Once none is left the table is closed under these words.
-    pub fn untold(&self, ops: &[OpWord]) -> Option<(u64, OpWord)>
+    /// A pair of a state and one of these operation words whose step wasn't told, where fewer than
+    /// `most` told steps of these words lead from the initial state to the state; the first one of a
+    /// search that is breadth first. Once none is left the table is closed to this depth under these
+    /// words. At `most` no less than the number of a book's calls, it is so for the book.
+    pub fn untold(
+        &self,
+        alloc: Global,
+        ops: &IndexSet<OpWord>,
+        most: u64,
+    ) -> Result<Option<(u64, OpWord)>, NoMemory>
         // A pair in the answer may be asked for.
-        ensures ask { IfSome result (λ pair. IsAsk self.now (Contains ops.now) pair.0 pair.1) }
-        // Where no pair is left, the table is closed under these words.
-        ensures closed { IfNone result (IsClosed self.now (Contains ops.now)) }
+        ensures ask { IfOk result (λ found. IfSome found
+            (λ pair. IsAsk self.now (Contains ops.now.keys) most pair.0 pair.1)) }
+        // Where no pair is left, the table is closed to this depth under these words.
+        ensures closed { IfOk result
+            (λ found. IfNone found (IsClosedTo self.now (Contains ops.now.keys) most)) }
     {
-        if let Some(op) = self.untold_at(self.init, ops) {
-            return Some((self.init, op));
-        }
-        for k in 0..self.steps.len() {
-            let transition = self.steps[k];
-            if let Some(op) = self.untold_at(transition.next, ops) {
-                return Some((transition.next, op));
+        let mut states = IndexSet::new(alloc);
+        states.insert(self.init)?;
+        let mut first = 0;
+        for _steps in 0..most {
+            let end = states.len();
+            if first == end {
+                break;
             }
+            if let Some(pair) = self.expand(&mut states, first, ops)? {
+                return Ok(Some(pair));
+            }
+            first = end;
         }
-        None
+        Ok(None)
     }
 
-    // One of these operation words whose step wasn't told at a state.
-    fn untold_at(&self, state: u64, ops: &[OpWord]) -> Option<OpWord>
-        ensures ask { IfSome result
-            (λ op. Contains ops.now op × (told_step self.now state op ≡ None)) }
-        ensures told { IfNone result
-            ((k : ℕ) → k < length ops.now
-            → IsSome (told_step self.now state (slice_index ops.now k))) }
+    // Adds the states to which a step of these words leads from the states at `first` and later. Or
+    // finds a step there that wasn't told.
+    fn expand(
+        &self,
+        states: &mut IndexSet<u64>,
+        first: usize,
+        ops: &IndexSet<OpWord>,
+    ) -> Result<Option<(u64, OpWord)>, NoMemory>
+        ensures untold { IfOk result (λ found. IfSome found
+            (λ pair. Contains states.old.keys pair.0 × Contains ops.now.keys pair.1
+            × (told_step self.now pair.0 pair.1 ≡ None))) }
+        ensures continues { OnOk result (Continues states.old.keys states.new.keys) }
+        ensures expanded { IfOk result (λ found. IfNone found
+            (AreExpanded self.now ops.now.keys states.new.keys first (length states.old.keys))) }
+        ensures near { OnOk result ((most : ℕ) → AreNear self.now ops.now.keys most states.old.keys
+            → AreNear self.now ops.now.keys (most + 1) states.new.keys) }
     {
-        for op in ops {
-            if self.get(state, *op).is_none() {
-                return Some(*op);
+        for k in first..states.len() {
+            let state = states[k];
+            if let Some(op) = self.expand_at(states, state, ops)? {
+                return Ok(Some((state, op)));
             }
         }
-        None
+        Ok(None)
+    }
+
+    // Adds the states to which a step of these words leads from a state. Or finds one of these words
+    // whose step wasn't told there.
+    fn expand_at(
+        &self,
+        states: &mut IndexSet<u64>,
+        state: u64,
+        ops: &IndexSet<OpWord>,
+    ) -> Result<Option<OpWord>, NoMemory>
+        ensures untold { IfOk result (λ found. IfSome found
+            (λ op. Contains ops.now.keys op × (told_step self.now state op ≡ None))) }
+        ensures continues { OnOk result (Continues states.old.keys states.new.keys) }
+        ensures expanded { IfOk result (λ found. IfNone found ((op : ℕ) → Contains ops.now.keys op
+            → LeadsInto self.now states.new.keys state op)) }
+        ensures near { OnOk result ((most : ℕ) → IsNear self.now (Contains ops.now.keys) most state
+            → AreNear self.now ops.now.keys (most + 1) states.old.keys
+            → AreNear self.now ops.now.keys (most + 1) states.new.keys) }
+    {
+        for k in 0..ops.len() {
+            let op = ops[k];
+            let Some(transition) = self.get(state, op) else {
+                return Ok(Some(op));
+            };
+            states.insert(transition.next)?;
+        }
+        Ok(None)
     }
 
     // Puts in the transition of a pair at which none was told.

@@ -1,5 +1,5 @@
-//! Two objects of one's own, told step by step while books of them are judged: a queue with two
-//! places, which refuses a put while it is full, and a lock with an owner.
+//! Objects of one's own, told step by step while books of them are judged: a queue with two places,
+//! which refuses a put while it is full, a lock with an owner, and a counter.
 ghost use Rattle.std.specs.Prelude.{◌≡◌, length};
 
 use crate::{Answer, ToldTable, Transition, judge};
@@ -62,6 +62,28 @@ fn lock_step(state: u64, op: OpWord) -> Transition {
     }
 }
 
+// The counter's operation: it adds one, and replies the count before.
+const INCREMENT: OpWord = 0;
+
+fn counter_step(count: u64, _op: OpWord) -> Transition {
+    to(count.wrapping_add(1), count)
+}
+
+#[derive(Clone, Copy)]
+enum Object {
+    Queue,
+    Lock,
+    Counter,
+}
+
+fn step_of(object: Object, state: u64, op: OpWord) -> Transition {
+    match object {
+        Object::Queue => queue_step(state, op),
+        Object::Lock => lock_step(state, op),
+        Object::Counter => counter_step(state, op),
+    }
+}
+
 fn to(next: u64, reply: u64) -> Transition {
     Transition { next, reply }
 }
@@ -75,25 +97,28 @@ fn view(first: u64, second: u64) -> Cut
     cut
 }
 
-// Whether a book is legal, for the object with these steps, which are told where they are asked
-// for. Each object here has at most 21 states and 4 operations, so that 100 asks suffice.
-fn is_legal(alloc: Global, is_queue: bool, book: &Book) -> Result<bool, Fail> {
-    let mut table = ToldTable::new(alloc, 0);
-    for _ in 0..100 {
-        match judge(alloc, &table, book)? {
-            Answer::Legal(_) => return Ok(true),
-            Answer::Illegal => return Ok(false),
-            Answer::Ask(state, op) => {
-                let transition = if is_queue {
-                    queue_step(state, op)
-                } else {
-                    lock_step(state, op)
-                };
-                table.tell(state, op, transition)?;
-            }
+// Whether a book is legal, for an object whose steps are told where they are asked for, and after
+// how many asks. The queue has 13 states and 4 operations, so that 100 asks suffice.
+fn judged(
+    alloc: Global,
+    object: Object,
+    table: &mut ToldTable,
+    book: &Book,
+) -> Result<(bool, u64), Fail> {
+    for asks in 0..100 {
+        match judge(alloc, &*table, book)? {
+            Answer::Legal(_) => return Ok((true, asks)),
+            Answer::Illegal => return Ok((false, asks)),
+            Answer::Ask(state, op) => table.tell(state, op, step_of(object, state, op))?,
         }
     }
     Err("more asks than there are steps".into())
+}
+
+fn is_legal(alloc: Global, object: Object, book: &Book) -> Result<bool, Fail> {
+    let mut table = ToldTable::new(alloc, 0);
+    let (legal, _asks) = judged(alloc, object, &mut table, book)?;
+    Ok(legal)
 }
 
 // The first caller puts 1, 2 and 3 in, one after another, and then the second one takes. The third
@@ -117,15 +142,15 @@ fn queue_book(alloc: Global, third: u64, third_view: Cut, taken: u64) -> Result<
 fn a_queue_of_two_places_refuses_a_third_value(rt: HostRuntime) -> Result<(), Fail> {
     let alloc = rt.alloc();
     let refused = queue_book(alloc, FULL, view(3, 0), VALUE + 1)?;
-    assert!(rt; is_legal(alloc, true, &refused)?);
+    assert!(rt; is_legal(alloc, Object::Queue, &refused)?);
     let taken_over = queue_book(alloc, DONE, view(3, 0), VALUE + 1)?;
     assert!(rt;
-        !is_legal(alloc, true, &taken_over)?,
+        !is_legal(alloc, Object::Queue, &taken_over)?,
         "a third value, with no take before it"
     );
     let newest = queue_book(alloc, FULL, view(3, 0), VALUE + 2)?;
     assert!(rt;
-        !is_legal(alloc, true, &newest)?,
+        !is_legal(alloc, Object::Queue, &newest)?,
         "a take of the second value"
     );
     Ok(())
@@ -135,11 +160,11 @@ fn a_queue_of_two_places_refuses_a_third_value(rt: HostRuntime) -> Result<(), Fa
 fn a_put_may_wait_for_a_take_that_overlaps(rt: HostRuntime) -> Result<(), Fail> {
     let alloc = rt.alloc();
     let after_the_take = queue_book(alloc, DONE, view(3, 1), VALUE + 1)?;
-    assert!(rt; is_legal(alloc, true, &after_the_take)?);
+    assert!(rt; is_legal(alloc, Object::Queue, &after_the_take)?);
     let before_the_take = queue_book(alloc, FULL, view(3, 1), VALUE + 1)?;
-    assert!(rt; is_legal(alloc, true, &before_the_take)?);
+    assert!(rt; is_legal(alloc, Object::Queue, &before_the_take)?);
     let nothing = queue_book(alloc, DONE, view(3, 1), EMPTY)?;
-    assert!(rt; !is_legal(alloc, true, &nothing)?);
+    assert!(rt; !is_legal(alloc, Object::Queue, &nothing)?);
     Ok(())
 }
 
@@ -168,17 +193,17 @@ fn while_released(alloc: Global, op: OpWord, reply: u64) -> Result<Book, Fail> {
 #[test]
 fn a_lock_has_one_owner(rt: HostRuntime) -> Result<(), Fail> {
     let alloc = rt.alloc();
-    assert!(rt; is_legal(alloc, false, &second_acquire(alloc, NO)?)?);
-    assert!(rt; !is_legal(alloc, false, &second_acquire(alloc, YES)?)?);
+    assert!(rt; is_legal(alloc, Object::Lock, &second_acquire(alloc, NO)?)?);
+    assert!(rt; !is_legal(alloc, Object::Lock, &second_acquire(alloc, YES)?)?);
     Ok(())
 }
 
 #[test]
 fn an_unanswered_release_may_have_taken_effect(rt: HostRuntime) -> Result<(), Fail> {
     let alloc = rt.alloc();
-    assert!(rt; is_legal(alloc, false, &while_released(alloc, ACQUIRE_B, YES)?)?);
-    assert!(rt; is_legal(alloc, false, &while_released(alloc, ACQUIRE_B, NO)?)?);
-    assert!(rt; !is_legal(alloc, false, &while_released(alloc, RELEASE_B, YES)?)?);
+    assert!(rt; is_legal(alloc, Object::Lock, &while_released(alloc, ACQUIRE_B, YES)?)?);
+    assert!(rt; is_legal(alloc, Object::Lock, &while_released(alloc, ACQUIRE_B, NO)?)?);
+    assert!(rt; !is_legal(alloc, Object::Lock, &while_released(alloc, RELEASE_B, YES)?)?);
     Ok(())
 }
 
@@ -195,8 +220,50 @@ fn a_book_without_calls_is_legal_without_an_ask(rt: HostRuntime) -> Result<(), F
 fn the_first_ask_is_at_the_initial_state(rt: HostRuntime) -> Result<(), Fail> {
     let alloc = rt.alloc();
     let table = ToldTable::new(alloc, 7);
-    let mut book = Book::new(alloc, 1)?;
+    let mut book = Book::new(alloc, 2)?;
     book.add_call(0, 5)?;
+    book.add_answer(0, YES, view(1, 0))?;
     assert!(rt; matches!(judge(alloc, &table, &book)?, Answer::Ask(7, 5)));
+    Ok(())
+}
+
+// Caller 0 increments three times, one after another, with replies 0, 1 and `last`.
+fn three_increments(alloc: Global, last: u64) -> Result<Book, Fail> {
+    let mut book = Book::new(alloc, 2)?;
+    book.add_call(0, INCREMENT)?;
+    book.add_answer(0, 0, view(1, 0))?;
+    book.add_call(0, INCREMENT)?;
+    book.add_answer(0, 1, view(2, 0))?;
+    book.add_call(0, INCREMENT)?;
+    book.add_answer(0, last, view(3, 0))?;
+    Ok(book)
+}
+
+#[test]
+fn three_increments_of_a_counter_end_after_three_asks(rt: HostRuntime) -> Result<(), Fail> {
+    let alloc = rt.alloc();
+    let mut table = ToldTable::new(alloc, 0);
+    let counted = three_increments(alloc, 2)?;
+    let (legal, asks) = judged(alloc, Object::Counter, &mut table, &counted)?;
+    assert!(rt; legal && asks == 3);
+    let mut other = ToldTable::new(alloc, 0);
+    let lost = three_increments(alloc, 1)?;
+    let (legal, asks) = judged(alloc, Object::Counter, &mut other, &lost)?;
+    assert!(rt; !legal && asks == 3, "an increment was lost");
+    Ok(())
+}
+
+#[test]
+fn a_shared_table_is_not_asked_at_states_of_other_books(rt: HostRuntime) -> Result<(), Fail> {
+    let alloc = rt.alloc();
+    let mut table = ToldTable::new(alloc, 0);
+    // Another book's step leads to state 50, at which the acquires weren't told.
+    table.tell(0, RELEASE_A, to(50, YES))?;
+    let (legal, asks) = judged(alloc, Object::Lock, &mut table, &second_acquire(alloc, NO)?)?;
+    // The two acquires are asked for at the free lock, and where A holds it, and where B does. The
+    // book has two calls, so that no state further on is asked at.
+    assert!(rt; legal && asks == 6);
+    assert!(rt; table.get(50, ACQUIRE_A).is_none());
+    assert!(rt; table.get(50, ACQUIRE_B).is_none());
     Ok(())
 }

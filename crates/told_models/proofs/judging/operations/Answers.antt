@@ -5,11 +5,12 @@ use Rattle.told_models.proofs.judging.operations.Goals as goal
 pub loop-caller-preserved : goal.loop-caller-preserved
 loop-caller-preserved c =
     let adds = c.in_ok-add_operations.ensures in (
-      words_below-more c.args.book.now c.loop-caller.caller c.loop-caller.ops.items
-          c.add_operations.new.ops.items c.loop-caller.invariant.0 adds,
+      words_below-more c.args.book.now c.loop-caller.caller c.loop-caller.ops.keys
+          c.add_operations.new.ops.keys c.loop-caller.invariant.0 adds,
       λ op has. elim (adds.own op has) [
         | inl old ↦ c.loop-caller.invariant.1 op old
-        | inr is ↦ is
+        | inr made ↦
+            (record { caller = c.loop-caller.caller; number = made.0 }, made.2)
       ],
     )
 

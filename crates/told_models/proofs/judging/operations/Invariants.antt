@@ -6,5 +6,5 @@ use Rattle.told_models.proofs.judging.operations.Given as goal
 
 abbrev pub invariant-loop-caller : goal.invariant-loop-caller
 invariant-loop-caller l = ((call : Call) (op : ℕ) → call.caller < l.caller
-    → operation_of l.book call ≡ Some op → Contains l.ops.items op)
-    × ((op : ℕ) → Contains l.ops.items op → IsWordOf l.book op)
+    → operation_of l.book call ≡ Some op → Contains l.ops.keys op)
+    × ((op : ℕ) → Contains l.ops.keys op → IsWordOf l.book op)

@@ -1,5 +1,5 @@
-use Rattle.told_models.proofs.Closing.{AreTold, AreToldBelow}
+use Rattle.told_models.proofs.Searching.{IsSearched}
 use Rattle.told_models.proofs.table.ToldTable.untold.Given as goal
 
-abbrev pub invariant-loop-k : goal.invariant-loop-k
-invariant-loop-k l = AreTold l.self l.ops l.self.init × AreToldBelow l.self l.ops l.k
+abbrev pub invariant-loop-steps : goal.invariant-loop-steps
+invariant-loop-steps l = IsSearched l.self l.ops.keys l.states.keys l.first l._steps
