@@ -5,3 +5,5 @@ pub mod Ranking
 pub mod Gathering
 pub mod Renaming
 pub mod Merging
+pub mod Products
+pub mod Parts

@@ -1,12 +1,14 @@
 -- Locality: a product of objects, one for each key, and the parts of a book by key (Herlihy and
 -- Wing 1990).
-use Rattle.std.specs.Prelude.{◌≡◌, ℕ, nat_eq, ◌↔◌, List, filter, Some}
+use Rattle.std.specs.Prelude.{◌≡◌, ℕ, nat_eq, ◌↔◌, List, length, filter, Some}
 use Rattle.book_base.specs.declared.call.Call.{Call}
+use Rattle.book_base.specs.declared.call.Record.{Record}
 use Rattle.book_base.specs.SeqSpec.{SeqSpec}
-use Rattle.book_base.specs.Book.{Page, IsValid, operation_of}
+use Rattle.book_base.specs.Book.{Page, IsValid, operation_of, record_of}
 use Rattle.book_base.specs.Sequential.{IsRunFrom}
 use Rattle.book_base.specs.Order.{HasLegalOrder}
 use Rattle.book_base.specs.Pruning.{HasOneOpen}
+use Rattle.pruning_laws.specs.Keys.{IsKeyed}
 use Rattle.smaller_book.specs.Part.{IsNamed, IsPart, KeepsAnswers}
 
 -- An object is a product of objects, one for each key: `key` gives the key of each operation word,
@@ -23,6 +25,17 @@ pub record IsProduct (key : ℕ → ℕ) (list_of : ℕ → List ℕ → List �
   pub others : (list : List ℕ) (op k : ℕ) → (key op ≡ k → ⊥)
       → list_of k (product.next list op).0 ≡ list_of k list
 
+-- Each family of objects has a product.
+abbrev pub ProductsExist : Type 0
+ProductsExist = (key : ℕ → ℕ) (objects : ℕ → SeqSpec) → (list_of : ℕ → List ℕ → List ℕ)
+    × (product : SeqSpec) × IsProduct key list_of objects product
+
+-- A product is an object of keys.
+abbrev pub ProductsAreKeyed : Type 0
+ProductsAreKeyed =
+    (key : ℕ → ℕ) (list_of : ℕ → List ℕ → List ℕ) (objects : ℕ → SeqSpec) (product : SeqSpec)
+    → IsProduct key list_of objects product → IsKeyed (λ op. Some (key op)) list_of product.next
+
 -- A part of a book is the part of a key: it has exactly the calls whose operation words have this
 -- key, and all their answers.
 pub record IsPartOfKey (key : ℕ → ℕ) (k : ℕ) (book : List Page) (names : List (List ℕ))
@@ -32,8 +45,18 @@ pub record IsPartOfKey (key : ℕ → ℕ) (k : ℕ) (book : List Page) (names :
   pub calls : (call : Call) (op : ℕ) → operation_of book call ≡ Some op
       → (IsNamed names call ↔ (key op ≡ k))
 
--- Where a product has a legal order of a valid book, each of its objects has one of the part of its
--- key.
+-- The part of a key is a valid book where the book is and each view of the part has one count per
+-- caller, and each of its views holds at most one unanswered call of each caller where each view of
+-- the book does.
+abbrev pub PartsAreBooks : Type 0
+PartsAreBooks =
+    (key : ℕ → ℕ) (k : ℕ) (book : List Page) (names : List (List ℕ)) (part : List Page)
+    → IsPartOfKey key k book names part
+    → (IsValid book → ((call : Call) (r : Record) → record_of part call ≡ Some r
+    → length r.view ≡ length part) → IsValid part)
+    × (HasOneOpen book → HasOneOpen part)
+
+-- Where a product has a legal order of a book, each of its objects has one of the part of its key.
 abbrev pub LegalWholesHaveLegalParts : Type 0
 LegalWholesHaveLegalParts =
     (key : ℕ → ℕ) (list_of : ℕ → List ℕ → List ℕ) (objects : ℕ → SeqSpec) (product : SeqSpec)
