@@ -2,19 +2,25 @@
 use Rattle.std.proofs.Common.{◌≡◌, ℕ, zero, suc, Bool, false, cond, nat_eq, List, [], ◌∷◌, Contains, None, Some, refl, sym, ap, subst, ◌∙◌, inl, inr, arith}
 use Rattle.std.proofs.lemmas.Bool.{cases_Bool, and_parts, and_from, eqb-true, eq-eqb, true≢false}
 use Rattle.std.proofs.lemmas.Option.{same_Some, none-some}
+use Rattle.book_base.specs.SeqSpec.{SeqSpec}
 use Rattle.book_base.specs.Book.{operation_of}
+use Rattle.book_base.specs.Order.{IsLegalOrder}
 use Rattle.told_models.specs.declared.answer.Answer.TheVariants.{Ask}
 use Rattle.told_models.specs.declared.table.Transition.{Transition}
 use Rattle.told_models.specs.Table.{is_same_pair, told_step, Extends, TellsStep}
 use Rattle.told_models.specs.Agreement.{Agrees}
+use Rattle.told_models.specs.Completion.{completion}
 use Rattle.told_models.specs.Closed.{IsClosedTo, IsWordOf}
 use Rattle.told_models.specs.Dialogue.{IsDialogue}
 use Rattle.told_models.specs.Answers.{IsRightAnswer}
 use Rattle.told_models.specs.Search.{LeadsInto, AreExpanded}
 use Rattle.told_models.proofs.Telling.{tells_step, extends-tells}
 use Rattle.told_models.proofs.Inserting.{element_at}
+use Rattle.told_models.proofs.Agreeing.{agrees_with_fewer, legal_for_all}
+use Rattle.model_examples.proofs.Lookups.{found_step}
+use Rattle.model_examples.proofs.TwoCalls.{two_calls_are_legal}
 use Rattle.told_models.proofs.Searching.{expanded-closed}
-use Rattle.model_examples.specs.Locks.{nothing_told, acquired, refused, other_after, other_lock, two_calls, to}
+use Rattle.model_examples.specs.Locks.{nothing_told, acquired, refused, twice, twice_list, other_lock, two_calls, two_places, to}
 
 first_word : IsWordOf (two_calls 1 1 1 0) 1
 first_word = (record { caller = 0; number = 0 }, refl)
@@ -41,6 +47,18 @@ second_tells = tells_step acquired refused 1 1 (to 1 0) refl refl
 pub lock_extends : Extends acquired refused
 lock_extends = extends-tells acquired refused 1 1 (to 1 0) refl second_tells
 
+pub second_ask : IsRightAnswer acquired (two_calls 1 1 1 0) (Ask 1 1)
+second_ask = record {
+  untold = refl;
+  word = first_word;
+  near = record {
+    steps = (1, 1) ∷ [];
+    few = omega arith;
+    words = (first_word, tt);
+    reached = (to 1 1, refl, refl, refl);
+  };
+}
+
 pub lock_dialogue : IsDialogue (λ table state op. IsRightAnswer table (two_calls 1 1 1 0)
     (Ask state op)) nothing_told (acquired ∷ refused ∷ [])
 lock_dialogue = (
@@ -58,16 +76,7 @@ lock_dialogue = (
     1,
     1,
     to 1 0,
-    record {
-      untold = refl;
-      word = first_word;
-      near = record {
-        steps = (1, 1) ∷ [];
-        few = omega arith;
-        words = (first_word, tt);
-        reached = (to 1 1, refl, refl, refl);
-      };
-    },
+    second_ask,
     lock_extends,
     refl,
     tt,
@@ -94,36 +103,39 @@ pub lock_closed : (most : ℕ) → IsClosedTo refused (Contains (1 ∷ [])) most
 lock_closed most = expanded-closed refused (1 ∷ []) (0 ∷ 1 ∷ []) most (0, omega arith, refl)
     lock_expanded
 
-other_makes : (state op : ℕ) (transition : Transition)
-    → told_step refused state op ≡ Some transition
-    → other_lock.next (state ∷ []) op ≡ (transition.next ∷ [], transition.reply)
-other_makes state op t told =
-    let pair : ℕ × ℕ = (state, op) in
-    let later = cond (is_same_pair pair (1, 1)) (Some (to 1 0)) None in
-    let image : Transition → List ℕ × ℕ = λ x. (x.next ∷ [], x.reply) in
-    elim (cases_Bool (is_same_pair pair (0, 1))) [
-      | inl free ↦
-          let parts = and_parts (nat_eq state 0) (nat_eq op 1) free in
-          ap (λ (i : ℕ). other_after (i ∷ []) op) (eqb-true state 0 parts.0)
-          ∙ ap (λ (j : ℕ). other_after (0 ∷ []) j) (eqb-true op 1 parts.1)
-          ∙ ap image (same_Some (to 1 1) t
-          (ap (λ (b : Bool). cond b (Some (to 1 1)) later) (sym free) ∙ told))
-      | inr not_free ↦
-          let rest = ap (λ (b : Bool). cond b (Some (to 1 1)) later) (sym not_free) ∙ told in
-          elim (cases_Bool (is_same_pair pair (1, 1))) [
-            | inl held ↦
-                let parts = and_parts (nat_eq state 1) (nat_eq op 1) held in
-                ap (λ (i : ℕ). other_after (i ∷ []) op) (eqb-true state 1 parts.0)
-                ∙ ap (λ (j : ℕ). other_after (1 ∷ []) j) (eqb-true op 1 parts.1)
-                ∙ ap image (same_Some (to 1 0) t
-                (ap (λ (b : Bool). cond b (Some (to 1 0)) None) (sym held) ∙ rest))
-            | inr not_held ↦ absurd (none-some t
-                (ap (λ (b : Bool). cond b (Some (to 1 0)) None) (sym not_held) ∙ rest))
-          ]
-    ]
-
 pub lock_agrees : Agrees refused other_lock
-lock_agrees = (λ state. state ∷ [], record { init = refl; steps = other_makes })
+lock_agrees = (
+  λ state. state ∷ [],
+  record {
+    init = refl;
+    steps = found_step (λ state op t. other_lock.next (state ∷ []) op ≡ (t.next ∷ [], t.reply))
+        refused.steps (refl, (refl, tt));
+  },
+)
+
+pub first_agrees : Agrees acquired other_lock
+first_agrees = agrees_with_fewer acquired refused other_lock lock_extends lock_agrees
+
+pub twice_agrees : Agrees twice other_lock
+twice_agrees = (
+  twice_list,
+  record {
+    init = refl;
+    steps = found_step (λ state op t. other_lock.next (twice_list state) op
+        ≡ (twice_list t.next, t.reply)) twice.steps (refl, (refl, (refl, tt)));
+  },
+)
+
+-- the table with the first step isn't closed to two steps, since the step of the held state is untold
+pub first_is_open : IsClosedTo acquired (Contains (1 ∷ [])) 2 → ⊥
+first_is_open closed =
+    let told = closed 1 1 (record {
+      steps = (1, 1) ∷ [];
+      few = omega arith;
+      words = ((0, omega arith, refl), tt);
+      reached = (to 1 1, refl, refl, refl);
+    }) (0, omega arith, refl) in
+    absurd (none-some told.0 told.1)
 
 pub lock_words : (op : ℕ) → IsWordOf (two_calls 1 1 1 0) op → Contains (1 ∷ []) op
 lock_words op word = word_at word.0.caller word.0.number word.1
@@ -134,3 +146,9 @@ lock_words op word = word_at word.0.caller word.0.number word.1
     word_at zero (suc zero) at = (0, omega arith, same_Some 1 op at)
     word_at zero (suc (suc k)) at = absurd (none-some op at)
     word_at (suc i) k at = absurd (none-some op at)
+
+-- the order of the two calls is legal for each lock that agrees with both steps
+pub lock_legal : (spec : SeqSpec) → Agrees refused spec
+    → IsLegalOrder spec (two_calls 1 1 1 0) (two_places 1 0)
+lock_legal = legal_for_all refused (two_calls 1 1 1 0) (1 ∷ []) lock_words (lock_closed 2)
+    (two_places 1 0) (two_calls_are_legal (completion refused) 1 1 1 0 refl refl)

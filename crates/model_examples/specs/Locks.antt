@@ -22,6 +22,14 @@ acquired = record { init = 0; steps = ((0, 1), to 1 1) ∷ [] }
 abbrev pub refused : Table
 refused = record { init = 0; steps = ((0, 1), to 1 1) ∷ ((1, 1), to 1 0) ∷ [] }
 
+-- A table whose states 1 and 2 are one state of the lock: acquiring it leads from each of them to
+-- the other one.
+abbrev pub twice : Table
+twice = record {
+  init = 0;
+  steps = ((0, 1), to 1 1) ∷ ((1, 1), to 2 0) ∷ ((2, 1), to 1 0) ∷ [];
+}
+
 -- What another lock does: it replies 7 at all other lists and to all other operations.
 abbrev pub other_after : List ℕ → ℕ → List ℕ × ℕ
 other_after (zero ∷ []) (suc zero) = (1 ∷ [], 1)
@@ -43,3 +51,8 @@ two_calls a r b s = record {
 abbrev pub two_places : ℕ → ℕ → List Place
 two_places r s = record { caller = 0; number = 0; reply = r }
     ∷ record { caller = 0; number = 1; reply = s } ∷ []
+
+-- The list of the other lock for each number of a state of this table.
+abbrev pub twice_list : ℕ → List ℕ
+twice_list zero = 0 ∷ []
+twice_list (suc state) = 1 ∷ []

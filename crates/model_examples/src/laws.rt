@@ -1,10 +1,13 @@
 //! Worked cases: what the definitions of told tables and of products say of small ones.
 
-ghost use Rattle.std.specs.Prelude.{◌≡◌, ℕ, [], ◌∷◌, Contains};
+ghost use Rattle.std.specs.Prelude.{◌≡◌, ℕ, [], ◌∷◌, Contains, Vec};
+ghost use Rattle.std.specs.declared.alloc.Global.{Global};
+ghost use Rattle.book_base.specs.declared.TheConstants.{BAD};
+ghost use Rattle.book_base.specs.declared.call.Place.{Place};
 ghost use Rattle.book_base.specs.Book.{IsValid};
 ghost use Rattle.book_base.specs.Order.{IsLegalOrder, HasLegalOrder};
 ghost use Rattle.book_base.specs.Pruning.{HasOneOpen};
-ghost use Rattle.told_models.specs.declared.answer.Answer.TheVariants.{Ask};
+ghost use Rattle.told_models.specs.declared.answer.Answer.TheVariants.{Legal, Illegal, Ask};
 ghost use Rattle.told_models.specs.declared.fault.TellFault.TheVariants.{Contradicts};
 ghost use Rattle.told_models.specs.Table.{Extends, IsTellFault};
 ghost use Rattle.told_models.specs.Agreement.{Agrees};
@@ -13,7 +16,7 @@ ghost use Rattle.told_models.specs.Closed.{IsClosedTo, IsWordOf};
 ghost use Rattle.told_models.specs.Dialogue.{IsDialogue, word_lists};
 ghost use Rattle.told_models.specs.Answers.{IsRightAnswer};
 ghost use Rattle.locality.specs.Locality.{IsProduct, IsPartOfKey};
-ghost use Rattle.model_examples.specs.Locks.{nothing_told, acquired, refused, other_lock, two_calls, two_places, to};
+ghost use Rattle.model_examples.specs.Locks.{nothing_told, acquired, refused, twice, other_lock, two_calls, two_places, to};
 ghost use Rattle.model_examples.specs.Counters.{side_key, side_list, side_counter, both_counters, first_part};
 ghost use Rattle.model_examples.specs.OpenCalls.{crossed_calls, crossed_names, crossed_part};
 
@@ -40,6 +43,32 @@ pub fn a_lock_is_told_step_by_step()
     ensures words { (op : ℕ) → IsWordOf (two_calls 1 1 1 0) op → Contains (1 ∷ []) op }
     // An order of this book is legal for that object, and so for each that agrees.
     ensures legal { IsLegalOrder other_lock (two_calls 1 1 1 0) (two_places 1 0) }
+{}
+
+/// Answers at the tables of the lock. One caller acquires the lock twice.
+pub fn answers_about_a_lock()
+    // After the first step the second one is asked for.
+    ensures ask { IsRightAnswer acquired (two_calls 1 1 1 0) (Ask 1 1) }
+    // At both steps the book is legal where the second call is refused.
+    ensures legal { (order : Vec Place Global) → order.items ≡ two_places 1 0
+        → IsRightAnswer refused (two_calls 1 1 1 0) (Legal order) }
+    // It is illegal where both calls acquire the lock.
+    ensures illegal { IsRightAnswer refused (two_calls 1 1 1 1) Illegal }
+{}
+
+/// Tables and locks that agree: two numbers may be one state's, and a table that isn't closed
+/// decides nothing.
+pub fn tables_that_are_not_closed_decide_nothing()
+    // In a table in which the held state has two numbers, a lock with one held state agrees.
+    ensures twice { Agrees twice other_lock }
+    // The table with the first step alone isn't closed to two steps.
+    ensures untold { IsClosedTo acquired (Contains (1 ∷ [])) 2 → ⊥ }
+    // Two objects agree with it, its completion and the other lock.
+    ensures agrees { Agrees acquired (completion acquired) × Agrees acquired other_lock }
+    // An order in which the second call isn't known is legal for the completion.
+    ensures legal { IsLegalOrder (completion acquired) (two_calls 1 1 1 BAD) (two_places 1 BAD) }
+    // And the other lock has no legal order of this book.
+    ensures illegal { HasLegalOrder other_lock (two_calls 1 1 1 BAD) → ⊥ }
 {}
 
 /// Two counters side by side, and a book in which one caller increments each of them once.
