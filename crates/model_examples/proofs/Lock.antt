@@ -1,13 +1,12 @@
 -- The lock that is told step by step.
-use Rattle.std.proofs.Common.{◌≡◌, ℕ, zero, suc, Bool, false, cond, nat_eq, List, [], ◌∷◌, Contains, None, Some, refl, sym, ap, subst, ◌∙◌, inl, inr, arith}
+use Rattle.std.proofs.Common.{◌≡◌, ℕ, zero, suc, Bool, false, cond, nat_eq, [], ◌∷◌, Contains, None, Some, refl, sym, ap, subst, ◌∙◌, inl, inr, arith}
 use Rattle.std.proofs.lemmas.Bool.{cases_Bool, and_parts, and_from, eqb-true, eq-eqb, true≢false}
 use Rattle.std.proofs.lemmas.Option.{same_Some, none-some}
 use Rattle.book_base.specs.SeqSpec.{SeqSpec}
 use Rattle.book_base.specs.Book.{operation_of}
 use Rattle.book_base.specs.Order.{IsLegalOrder}
 use Rattle.told_models.specs.declared.answer.Answer.TheVariants.{Ask}
-use Rattle.told_models.specs.declared.table.Transition.{Transition}
-use Rattle.told_models.specs.Table.{is_same_pair, told_step, Extends, TellsStep}
+use Rattle.told_models.specs.Table.{is_same_pair, Extends, TellsStep}
 use Rattle.told_models.specs.Agreement.{Agrees}
 use Rattle.told_models.specs.Completion.{completion}
 use Rattle.told_models.specs.Closed.{IsClosedTo, IsWordOf}
