@@ -1,7 +1,7 @@
 -- What orders reach, one place after another, and which calls must come first.
 use Rattle.std.proofs.Common.{◌≡◌, ℕ, ◌+◌, ◌-◌, ◌<◌, ◌≤◌, ◌⊎◌, ◌∙◌, List, [], ◌∷◌, ◌++◌, length, map, set, get_or, inl, inr, refl, sym, ap, subst, arith}
 use Rattle.std.proofs.lemmas.Bool.{cases_eq, cases_lt}
-use Rattle.std.proofs.lemmas.List.{get_or-set_same, get_or-set_other, ext_get_or}
+use Rattle.std.proofs.lemmas.List.{get_or-set_same, get_or-set_other, ext_get_or, length-append, length-map}
 use Rattle.std.proofs.lemmas.Option.{none-some}
 use Rattle.list_laws.proofs.Options.{some_from_is_some_and}
 use Rattle.list_laws.proofs.Places.{slice_get-push_old, slice_get-push_last, slice_get-push_cases, get_or-replicate_default}
@@ -13,7 +13,7 @@ use Rattle.book_base.specs.Cut.{Holds}
 use Rattle.book_base.specs.Book.{Page, record_of}
 use Rattle.book_base.specs.Sequential.{IsRunFrom}
 use Rattle.book_base.specs.Order.{call_at, StandsAt, step_at}
-use Rattle.book_base.specs.Reaching.{list_after_run, Reaches}
+use Rattle.book_base.specs.Reaching.{list_after_run, SufficesAfter, IsCapacityFor, Reaches}
 use Rattle.book_base.specs.ReachingLaws.{NoPlacesReachTheStart, OneMorePlaceReachesOn, OneCutIsReached, PrecedingComesFirst, ReadOnlyMayBeLeftOut, WhatStandsIsNotInfeasible}
 use Rattle.book_base.proofs.ViewLemmas.{same_call}
 
@@ -144,3 +144,70 @@ read_only_may_be_left_out next op reply list steps leaves gives =
       λ run. subst (λ (l : List ℕ). IsRunFrom next l steps) same run.1,
       λ run. (gives, subst (λ (l : List ℕ). IsRunFrom next l steps) (sym same) run),
     )
+
+-- the object's list after two runs, one after the other
+list_after_run-append : (next : List ℕ → ℕ → List ℕ × ℕ) (list : List ℕ)
+    (first later : List (ℕ × ℕ))
+    → list_after_run next list (first ++ later)
+    ≡ list_after_run next (list_after_run next list first) later
+list_after_run-append next list [] later = refl
+list_after_run-append next list (step ∷ first) later =
+    list_after_run-append next (next list step.0).0 first later
+
+-- A capacity that suffices for operations after a list suffices for fewer of them.
+pub suffices-fewer : (next : List ℕ → ℕ → List ℕ × ℕ) (list : List ℕ) (fewer more capacity : ℕ)
+    → fewer ≤ more → SufficesAfter next list more capacity → SufficesAfter next list fewer capacity
+suffices-fewer next list fewer more capacity low fits steps few =
+    fits steps (omega (arith, low, few))
+
+-- A capacity that suffices for operations after a list is at least as long as the list.
+pub suffices-list : (next : List ℕ → ℕ → List ℕ × ℕ) (list : List ℕ) (operations capacity : ℕ)
+    → SufficesAfter next list operations capacity → length list ≤ capacity
+suffices-list next list operations capacity fits = fits [] (omega arith)
+
+-- A capacity that suffices for an operation after a list is at least as long as the next list.
+pub suffices-next : (next : List ℕ → ℕ → List ℕ × ℕ) (list : List ℕ) (operations capacity op : ℕ)
+    → 1 ≤ operations → SufficesAfter next list operations capacity
+    → length (next list op).0 ≤ capacity
+suffices-next next list operations capacity op some fits = fits ((op, 0) ∷ []) (omega (arith, some))
+
+-- After one operation a capacity suffices for all but one of the operations.
+pub suffices-step : (next : List ℕ → ℕ → List ℕ × ℕ) (list : List ℕ)
+    (operations left capacity op : ℕ) → left + 1 ≤ operations
+    → SufficesAfter next list operations capacity
+    → SufficesAfter next (next list op).0 left capacity
+suffices-step next list operations left capacity op low fits steps few =
+    fits ((op, 0) ∷ steps) (omega (arith, low, few))
+
+-- A capacity for some operations of an object suffices after an order for those that the order
+-- leaves.
+pub suffices-order : (spec : SeqSpec) (book : List Page) (order : List Place) (cut list : List ℕ)
+    (operations left capacity : ℕ) → Reaches spec book order cut list
+    → length order + left ≤ operations → IsCapacityFor spec operations capacity
+    → SufficesAfter spec.next list left capacity
+suffices-order spec book order cut list operations left capacity reaches few fits steps low =
+    let before : List (ℕ × ℕ) = map (step_at book) order in
+    let same : list_after_run spec.next spec.init (before ++ steps)
+    ≡ list_after_run spec.next list steps =
+    list_after_run-append spec.next spec.init before steps
+    ∙ ap (λ (l : List ℕ). list_after_run spec.next l steps) reaches.reached in
+    subst (λ (l : List ℕ). length l ≤ capacity) same
+    (fits (before ++ steps)
+    (omega (arith, few, low, length-append before steps, length-map order (step_at book))))
+
+-- a run of operations, each of which makes a list at most one word longer
+length-run : (next : List ℕ → ℕ → List ℕ × ℕ)
+    → ((list : List ℕ) (op : ℕ) → length (next list op).0 ≤ length list + 1) → (list : List ℕ)
+    (steps : List (ℕ × ℕ)) → length (list_after_run next list steps) ≤ length list + length steps
+length-run next grows list [] = omega arith
+length-run next grows list (step ∷ steps) =
+    omega (arith, grows list step.0, length-run next grows (next list step.0).0 steps)
+
+-- Where each operation makes a list at most one word longer, a capacity suffices that is as long as
+-- the first list and as many words more as there are operations.
+pub capacity-by_steps : (spec : SeqSpec)
+    → ((list : List ℕ) (op : ℕ) → length (spec.next list op).0 ≤ length list + 1)
+    → (operations capacity : ℕ) → length spec.init + operations ≤ capacity
+    → IsCapacityFor spec operations capacity
+capacity-by_steps spec grows operations capacity enough steps few =
+    omega (arith, enough, few, length-run spec.next grows spec.init steps)

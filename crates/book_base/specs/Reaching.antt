@@ -1,6 +1,7 @@
--- Which cut and list an order reaches, which calls are infeasible there, which must come first,
--- which operations are read-only with a reply, and which replies an operation may have.
-use Rattle.std.specs.Prelude.{◌≡◌, ℕ, ◌<◌, List, [], ◌∷◌, ◌++◌, map}
+-- Which cut and list an order reaches, which capacity the lists need, which calls are infeasible
+-- there, which must come first, which operations are read-only with a reply, and which replies an
+-- operation may have.
+use Rattle.std.specs.Prelude.{◌≡◌, ℕ, ◌<◌, ◌≤◌, List, [], ◌∷◌, ◌++◌, length, map}
 use Rattle.book_base.specs.declared.call.Call.{Call}
 use Rattle.book_base.specs.declared.call.Place.{Place}
 use Rattle.book_base.specs.SeqSpec.{SeqSpec}
@@ -12,6 +13,16 @@ use Rattle.book_base.specs.Order.{StandsAt, step_at, IsLegalOrder}
 abbrev pub list_after_run : (List ℕ → ℕ → List ℕ × ℕ) → List ℕ → List (ℕ × ℕ) → List ℕ
 list_after_run next list [] = list
 list_after_run next list (step ∷ steps) = list_after_run next (next list step.0).0 steps
+
+-- A capacity suffices for some operations after a list: each list that the object reaches from this
+-- one by at most this many operations has at most as many words as the capacity.
+abbrev pub SufficesAfter : (List ℕ → ℕ → List ℕ × ℕ) → List ℕ → ℕ → ℕ → Type 0
+SufficesAfter next list operations capacity = (steps : List (ℕ × ℕ)) → length steps ≤ operations
+    → length (list_after_run next list steps) ≤ capacity
+
+-- A capacity suffices for some operations of an object: for this many after its first list.
+abbrev pub IsCapacityFor : SeqSpec → ℕ → ℕ → Type 0
+IsCapacityFor spec operations capacity = SufficesAfter spec.next spec.init operations capacity
 
 -- An order reaches a cut and a list: the cut holds the calls that stand in the order and no others,
 -- and the list is the object's after them.

@@ -1,7 +1,7 @@
-ghost use Rattle.std.specs.Prelude.{◌≡◌, ℕ, ◌+◌, ◌<◌, ◌≤◌, Bool, false, List, length, IsTrue};
-ghost use Rattle.book_base.specs.declared.TheConstants.{BAD};
+ghost use Rattle.std.specs.Prelude.{◌≡◌, ℕ, ◌*◌, ◌≤◌, Bool, false, List, length, IsTrue};
+ghost use Rattle.book_base.specs.declared.TheConstants.{BAD, MAX_CALLERS, MAX_CALLS, MAX_ROOM};
 ghost use Rattle.book_base.specs.SeqSpec.{SeqSpec};
-ghost use Rattle.book_base.specs.Reaching.{Leaves, MayReply};
+ghost use Rattle.book_base.specs.Reaching.{IsCapacityFor, Leaves, MayReply};
 
 use crate::OpWord;
 use crate::state::State;
@@ -20,17 +20,26 @@ pub trait SeqObject {
     fn known(&self, op: OpWord) -> bool
         ensures { result ≡ is_known self.now op };
 
+    /// A capacity, in words, for the lists that the object reaches by at most so many operations.
+    fn capacity(&self, operations: u64) -> u64
+        // The operations are no more than a book may have calls.
+        requires { operations ≤ MAX_CALLERS * MAX_CALLS }
+        // Each list that the object reaches by at most so many operations fits the capacity.
+        ensures fits { IsCapacityFor (spec self.now) operations result }
+        // The capacity is at most `MAX_ROOM`.
+        ensures few { result ≤ MAX_ROOM };
+
     /// Makes the list the one that the object begins with. The capacity doesn't change.
     fn reset(&self, state: &mut State)
-        // The state has capacity for one word.
-        requires { 1 ≤ state.old.room }
+        // The list that the object begins with fits the capacity.
+        requires { length (spec self.now).init ≤ state.old.room }
         ensures { state.new ≡ record state.old { words = (spec self.now).init } };
 
     /// Makes one operation: the list becomes the next one, and the answer is the reply. The
     /// capacity doesn't change.
     fn step(&self, state: &mut State, op: OpWord) -> u64
-        // The state has capacity for one word more.
-        requires { length state.old.words < state.old.room }
+        // The list after the operation fits the capacity.
+        requires { length ((spec self.now).next state.old.words op).0 ≤ state.old.room }
         // The list becomes the one that the object has after the operation, and the capacity
         // doesn't change.
         ensures list { state.new
@@ -55,13 +64,6 @@ pub trait SeqObject {
     {
         true
     }
-
-    /// The list with which the object begins has at most one word.
-    ghost begins_small: { (object : Self) → length (spec object).init ≤ 1 };
-
-    /// An operation makes the list at most one word longer.
-    ghost grows_by_one: { (object : Self) (list : List ℕ) (op : ℕ)
-        → length ((spec object).next list op).0 ≤ length list + 1 };
 
     /// An operation that the object doesn't know doesn't change the list, and its reply is `bad`.
     ghost unknown_is_bad: { (object : Self) (list : List ℕ) (op : ℕ) → is_known object op ≡ false

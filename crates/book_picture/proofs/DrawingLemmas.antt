@@ -5,8 +5,8 @@ use Rattle.std.proofs.lemmas.List.{append-nil, map-append, take_more}
 use Rattle.std.specs.declared.alloc.Global.{Global}
 use Rattle.book_base.specs.Book.{Page, IsCall}
 use Rattle.sketch.specs.declared.event.Event.{Event}
-use Rattle.call_intervals.specs.declared.interval.Interval.{Interval}
-use Rattle.call_intervals.specs.Intervals.{StandsOn, AreTold, rows_of}
+use Rattle.sketch.specs.declared.interval.Interval.{Interval}
+use Rattle.sketch.specs.Intervals.{StandsOn, AreTold, rows_of}
 use Rattle.book_picture.specs.Sheets.{AreDrawable, AreAllDrawable}
 use Rattle.book_picture.specs.Elements.{AreElementsOf, AreLanesElements}
 

@@ -9,7 +9,7 @@ use Rattle.seq_objects.specs.Words.{operation_text}
 use Rattle.seq_objects.specs.Replies.{reply_word}
 use Rattle.frontier_check.specs.declared.verdict.Verdict.{Verdict}
 use Rattle.frontier_check.specs.declared.verdict.Verdict.TheVariants.{Legal, Illegal}
-use Rattle.call_intervals.specs.declared.interval.Interval.{Interval}
+use Rattle.sketch.specs.declared.interval.Interval.{Interval}
 use Rattle.book_picture.specs.declared.label.Label.{Label}
 use Rattle.book_picture.specs.declared.row.Row.{Row}
 use Rattle.book_picture.specs.declared.row.IntervalPart.{IntervalPart}

@@ -7,8 +7,8 @@ use Rattle.book_base.specs.Book.{Page}
 use Rattle.seq_objects.specs.declared.kind.Kind.{Kind}
 use Rattle.sketch.specs.declared.event.Event.{Event}
 use Rattle.sketch.specs.Sketch.{IsSketch}
-use Rattle.call_intervals.specs.declared.interval.Interval.{Interval}
-use Rattle.call_intervals.specs.Intervals.{HaveOneEach, StandOnTheirLanes, AreTold}
+use Rattle.sketch.specs.declared.interval.Interval.{Interval}
+use Rattle.sketch.specs.Intervals.{HaveOneEach, StandOnTheirLanes, AreTold}
 use Rattle.book_picture.specs.declared.draw.TheConstants.{TOP, LINE}
 use Rattle.book_picture.specs.declared.marked_calls.MarkedCalls.{MarkedCalls}
 use Rattle.book_picture.specs.declared.row.Row.{Row}

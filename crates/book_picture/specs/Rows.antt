@@ -1,6 +1,6 @@
 -- Rows: how the places of a sketch are folded into them, and whether an interval has a part in one.
 use Rattle.std.specs.Prelude.{◌≡◌, ℕ, ◌+◌, ◌-◌, ◌*◌, ◌^◌, ◌<◌, ◌≤◌, min, Bool, nat_lt, nat_le, List, length, Option, Some, None, slice_get, slice_index, if◌then◌else◌}
-use Rattle.call_intervals.specs.declared.interval.Interval.{Interval}
+use Rattle.sketch.specs.declared.interval.Interval.{Interval}
 use Rattle.book_picture.specs.declared.row.Row.{Row}
 use Rattle.book_picture.specs.declared.row.IntervalPart.{IntervalPart}
 use Rattle.book_picture.specs.declared.row.TheConstants.{ROW_PLACES}

@@ -1,8 +1,8 @@
 -- What can be drawn of a book.
 use Rattle.std.specs.Prelude.{◌≡◌, ℕ, List, Some, slice_get}
 use Rattle.book_base.specs.Book.{Page, IsCall}
-use Rattle.call_intervals.specs.declared.interval.Interval.{Interval}
-use Rattle.call_intervals.specs.Intervals.{StandsOn}
+use Rattle.sketch.specs.declared.interval.Interval.{Interval}
+use Rattle.sketch.specs.Intervals.{StandsOn}
 
 -- Each interval of a lane is of a call of the book.
 abbrev pub AreDrawable : List Page → List Interval → Type 0

@@ -1,5 +1,5 @@
 ghost use Rattle.std.specs.Prelude.{◌≡◌, ◌+◌, ◌≤◌, length, IfOk};
-ghost use Rattle.call_intervals.specs.Intervals.{rows_of};
+ghost use Rattle.sketch.specs.Intervals.{rows_of};
 ghost use Rattle.book_base.specs.Book.{IsCall};
 ghost use Rattle.book_picture.specs.Rows.{capped, AreRising};
 ghost use Rattle.book_picture.specs.Sheets.{AreDrawable, AreAllDrawable};
@@ -7,8 +7,8 @@ ghost use Rattle.book_picture.specs.Sheets.{AreDrawable, AreAllDrawable};
 use crate::label::Label;
 use crate::row::Stretch;
 use book_base::{Book, Call, NoMemory};
-use call_intervals::Interval;
 use seq_objects::Kind;
+use sketch::Interval;
 use std::alloc::Global;
 
 /// Where the first column of a row begins, in pixels.

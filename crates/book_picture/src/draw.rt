@@ -1,5 +1,5 @@
 ghost use Rattle.std.specs.Prelude.{◌≡◌, ℕ, ◌++◌, List, option_map, string_bytes, IfOk, OnOk};
-ghost use Rattle.call_intervals.specs.Intervals.{rows_of};
+ghost use Rattle.sketch.specs.Intervals.{rows_of};
 ghost use Rattle.book_picture.specs.Bars.{IsShownOf, order_in};
 ghost use Rattle.book_picture.specs.Elements.{IsElementOf, AreElementsOf, AreLanesElements, top_of, IsPicture};
 ghost use Rattle.book_picture.specs.Sheets.{AreDrawable, AreAllDrawable};
@@ -10,10 +10,9 @@ use crate::rows::folded;
 use crate::sheet::PictureSheet;
 use crate::values::values_of;
 use book_base::{Book, Call, NoMemory, Place};
-use call_intervals::{Interval, call_lanes};
 use frontier_check::Verdict;
 use seq_objects::Kind;
-use sketch::sketch;
+use sketch::{Interval, call_lanes, sketch};
 use std::alloc::Global;
 
 /// The height at which the lanes of the first row begin, in pixels, in a picture without a line on

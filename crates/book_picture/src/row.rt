@@ -3,7 +3,7 @@
 ghost use Rattle.std.specs.Prelude.{◌≡◌, ◌-◌, ◌<◌, ◌≤◌, length, IfSome};
 ghost use Rattle.book_picture.specs.Rows.{part_in};
 
-use call_intervals::Interval;
+use sketch::Interval;
 
 /// How many places of a sketch a row has at most: two for each of a dozen calls.
 pub(crate) const ROW_PLACES: usize = 24;

@@ -1,15 +1,15 @@
 //! The rows that the places of a sketch are folded into.
 
 ghost use Rattle.std.specs.Prelude.{length, IfOk};
-ghost use Rattle.call_intervals.specs.Intervals.{rows_of};
+ghost use Rattle.sketch.specs.Intervals.{rows_of};
 ghost use Rattle.book_picture.specs.Sheets.{AreAllDrawable};
 ghost use Rattle.book_picture.specs.Rows.{AreFolded};
 
 use crate::columns::column_edges;
 use crate::row::{ROW_PLACES, Row, Stretch};
 use book_base::{Book, NoMemory};
-use call_intervals::Interval;
 use seq_objects::Kind;
+use sketch::Interval;
 use std::alloc::Global;
 
 /// The distance from one lane to the next, in pixels.

@@ -20,8 +20,8 @@ use crate::row::{IntervalPart, Row};
 use crate::rows::LANE;
 use crate::values::{class_of, colour_of, value_of};
 use book_base::{Book, Call, NoMemory, Place};
-use call_intervals::Interval;
 use seq_objects::Kind;
+use sketch::Interval;
 use std::alloc::Global;
 
 /// The height of a bar, in pixels.

@@ -12,3 +12,6 @@ pub mod FaultTexts
 pub mod Leavings
 pub mod HeadLines
 pub mod CallReadings
+pub mod WrittenLines
+pub mod Texts
+pub mod Prefixes

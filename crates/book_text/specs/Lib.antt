@@ -5,3 +5,6 @@ pub mod BookRules
 pub mod Entries
 pub mod Beginnings
 pub mod AnyTextBeginnings
+pub mod Fields
+pub mod Sketches
+pub mod Laws

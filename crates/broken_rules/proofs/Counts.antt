@@ -14,8 +14,8 @@ use Rattle.book_base.specs.declared.TheConstants.{MAX_CALLERS, MAX_CALLS}
 use Rattle.book_base.specs.Book.{Page, record_of, IsSmall, Precedes}
 use Rattle.book_base.specs.Sequential.{IsRunFrom}
 use Rattle.book_base.specs.Order.{HasLegalOrder, IsLegalOrder, call_at, step_at}
-use Rattle.history_rules.specs.Container.{Takes, Neither}
-use Rattle.history_rules.proofs.Orders.{steps_of, answered_step}
+use Rattle.legal_orders.specs.Container.{Takes, Neither}
+use Rattle.legal_orders.proofs.Orders.{steps_of, answered_step}
 use Rattle.container_pruning.specs.declared.deal.Deal.TheVariants as deals
 use Rattle.container_pruning.specs.Deals.{deal_of}
 use Rattle.container_pruning.proofs.Dealing.{takes_by_deal}
@@ -26,8 +26,8 @@ use Rattle.seq_objects.specs.Replies.{reply_value, value_of, shown_value}
 use Rattle.seq_objects.specs.Objects.{kind_next, kind_spec}
 use Rattle.kind_search.proofs.Reading.{shown_item}
 use Rattle.seq_objects.proofs.Lengths.{order_is_short}
-use Rattle.object_laws.specs.Runs.{does}
-use Rattle.object_laws.proofs.Counting.{increments_are_counted}
+use Rattle.broken_rules.specs.Runs.{does}
+use Rattle.broken_rules.proofs.Counting.{increments_are_counted}
 use Rattle.broken_rules.specs.Deeds.{counter_reading}
 use Rattle.broken_rules.specs.Rules.{SeesAtMost}
 use Rattle.broken_rules.proofs.Least.{split_step}

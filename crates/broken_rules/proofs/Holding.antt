@@ -6,11 +6,11 @@ use Rattle.book_base.specs.SeqSpec.{SeqSpec}
 use Rattle.book_base.specs.Book.{Page, page_of, IsCall, Precedes}
 use Rattle.book_base.specs.Order.{HasLegalOrder}
 use Rattle.book_base.proofs.ReachingLemmas.{preceding_comes_first}
-use Rattle.history_rules.specs.Container.{Reading, put_by, taken_by, times, IsContainer}
-use Rattle.history_rules.specs.Calls.{PutsInAlone}
-use Rattle.history_rules.proofs.Counting.{how_often, how_often-more, how_often-found}
-use Rattle.history_rules.proofs.Orders.{steps_of, answered_step, putting_step}
-use Rattle.history_rules.proofs.ContainerRules.{held_after, take_at, puts_by, takes_by, taken_once}
+use Rattle.legal_orders.specs.Container.{Reading, put_by, taken_by, times, IsContainer}
+use Rattle.legal_orders.specs.Calls.{PutsInAlone}
+use Rattle.legal_orders.proofs.Counting.{how_often, how_often-more, how_often-found}
+use Rattle.legal_orders.proofs.Orders.{steps_of, answered_step, putting_step}
+use Rattle.legal_orders.proofs.ContainerRules.{held_after, take_at, puts_by, takes_by, taken_once}
 use Rattle.container_pruning.specs.declared.deal.Deal.TheVariants as deals
 use Rattle.container_pruning.specs.Deals.{deal_of}
 use Rattle.container_pruning.proofs.Dealing.{puts_by_deal, deal_of_put, takes_by_deal, nothing_by_deal}

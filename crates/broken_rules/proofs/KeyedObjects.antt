@@ -3,7 +3,7 @@
 use Rattle.std.proofs.Common.{◌≡◌, ◌∙◌, ℕ, ◌==◌, Bool, true, false, List, [], ◌∷◌, Option, Some, None, is_some, cond, if◌then◌else◌, refl, sym, ap, inl, inr}
 use Rattle.std.proofs.lemmas.Bool.{cases_Bool, cond-true, cond-false, false≢true, eq-eqb}
 use Rattle.std.proofs.lemmas.Option.{none-some}
-use Rattle.pruning_laws.specs.Keys.{IsKeyed}
+use Rattle.legal_orders.specs.Keys.{IsKeyed}
 use Rattle.seq_objects.specs.declared.kind.Kind.{Kind}
 use Rattle.seq_objects.specs.declared.kind.Kind.TheVariants as kinds
 use Rattle.seq_objects.specs.Words as words
@@ -15,7 +15,7 @@ use Rattle.kind_search.specs.Keys.{key_in_set, set_key, set_part, key_in_map, ma
 use Rattle.seq_objects.specs.Objects.{kind_next}
 use Rattle.kind_search.proofs.SetKeys.{set_is_keyed}
 use Rattle.kind_search.proofs.MapKeys.{map_is_keyed}
-use Rattle.object_laws.proofs.Standing.{after_add, after_remove, after_has}
+use Rattle.broken_rules.proofs.ObjectStanding.{after_add, after_remove, after_has}
 use Rattle.broken_rules.specs.Deeds.{key_of_word, puts_key, finds_key}
 use Rattle.broken_rules.proofs.Codes.{has_code}
 

@@ -7,10 +7,10 @@ use Rattle.book_base.specs.Book.{Page, IsCall, Precedes}
 use Rattle.book_base.specs.Sequential.{IsRunFrom}
 use Rattle.book_base.specs.Order.{HasLegalOrder}
 use Rattle.book_base.proofs.ReachingLemmas.{preceding_comes_first}
-use Rattle.history_rules.specs.Container.{Effect, Puts, Takes, Neither, value_put, value_taken, put_by, taken_by, times, GivesOne, IsContainer}
-use Rattle.history_rules.proofs.Counting.{is_once, how_often, how_often-more, how_often-found, times-shown}
-use Rattle.history_rules.proofs.Orders.{steps_of, answered_step, putting_step}
-use Rattle.history_rules.proofs.ContainerRules.{puts_by}
+use Rattle.legal_orders.specs.Container.{Effect, Puts, Takes, Neither, value_put, value_taken, put_by, taken_by, times, GivesOne, IsContainer}
+use Rattle.legal_orders.proofs.Counting.{is_once, how_often, how_often-more, how_often-found, times-shown}
+use Rattle.legal_orders.proofs.Orders.{steps_of, answered_step, putting_step}
+use Rattle.legal_orders.proofs.ContainerRules.{puts_by}
 use Rattle.container_pruning.specs.declared.deal.Deal.TheVariants as deals
 use Rattle.container_pruning.specs.Deals.{deal_of}
 use Rattle.container_pruning.proofs.Dealing.{puts_by_deal, takes_by_deal}
@@ -23,8 +23,8 @@ use Rattle.seq_objects.specs.Replies.{value_of, shown_value}
 use Rattle.kind_search.specs.PqueueReading.{pqueue_deed, pqueue_reading}
 use Rattle.seq_objects.specs.Objects.{kind_next, kind_spec}
 use Rattle.kind_search.proofs.Reading.{shown_item}
-use Rattle.object_laws.specs.Removals as removals
-use Rattle.object_laws.proofs.Rising.{after_insert, after_min, after_other, mins_give_the_least}
+use Rattle.broken_rules.specs.Removals as removals
+use Rattle.broken_rules.proofs.Rising.{after_insert, after_min, after_other, mins_give_the_least}
 use Rattle.broken_rules.proofs.Standing.{taker_of_step}
 
 abbrev next : List ℕ → ℕ → List ℕ × ℕ

@@ -11,6 +11,13 @@ pub mod Writes
 pub mod Codes
 pub mod KeyedObjects
 pub mod Keys
-pub mod Replied
 pub mod Replies
 pub mod Refuting
+pub mod Stepping
+pub mod Counting
+pub mod Writing
+pub mod ObjectStanding
+pub mod Ordering
+pub mod Covering
+pub mod Taking
+pub mod Rising

@@ -10,11 +10,11 @@ use Rattle.book_base.specs.Sequential.{IsRunFrom}
 use Rattle.book_base.specs.Order.{HasLegalOrder}
 use Rattle.book_base.specs.Reaching.{list_after_run}
 use Rattle.book_base.proofs.ReachingLemmas.{preceding_comes_first}
-use Rattle.history_rules.specs.Container.{Reading, put_by, taken_by, IsQueue}
-use Rattle.history_rules.proofs.Ranks.{rank, shown_at_rank, found_at_rank, rank-grows, rank-more}
-use Rattle.history_rules.proofs.QueueRuns.{queue_gives_in_order}
-use Rattle.history_rules.proofs.Orders.{steps_of, answered_step, putting_step}
-use Rattle.history_rules.proofs.ContainerRules.{puts_by, takes_by}
+use Rattle.legal_orders.specs.Container.{Reading, put_by, taken_by, IsQueue}
+use Rattle.legal_orders.proofs.Ranks.{rank, shown_at_rank, found_at_rank, rank-grows, rank-more}
+use Rattle.legal_orders.proofs.QueueRuns.{queue_gives_in_order}
+use Rattle.legal_orders.proofs.Orders.{steps_of, answered_step, putting_step}
+use Rattle.legal_orders.proofs.ContainerRules.{puts_by, takes_by}
 use Rattle.container_pruning.specs.declared.deal.Deal.TheVariants as deals
 use Rattle.container_pruning.specs.Deals.{deal_of}
 use Rattle.container_pruning.proofs.Dealing.{puts_by_deal, takes_by_deal}

@@ -4,9 +4,9 @@ use Rattle.std.proofs.lemmas.Bool.{false≢true, cond-false, and_parts, ltb-true
 use Rattle.book_base.specs.declared.call.Call.{Call}
 use Rattle.book_base.specs.Book.{Page, IsCall, IsSmall}
 use Rattle.book_base.specs.Order.{HasLegalOrder}
-use Rattle.history_rules.specs.Container.{IsContainer, IsQueue, IsStack}
-use Rattle.history_rules.proofs.QueueRuns.{queue_is_container, stack_is_container}
-use Rattle.value_pruning.specs.HoldsLast.{HoldsLast}
+use Rattle.legal_orders.specs.Container.{IsContainer, IsQueue, IsStack}
+use Rattle.legal_orders.proofs.QueueRuns.{queue_is_container, stack_is_container}
+use Rattle.list_pruning.specs.HoldsLast.{HoldsLast}
 use Rattle.container_pruning.specs.declared.deal.Deal.{Deal}
 use Rattle.container_pruning.specs.declared.deal.Deal.TheVariants as deals
 use Rattle.container_pruning.specs.Deals.{deal_of}

@@ -7,7 +7,7 @@ use Rattle.book_base.specs.declared.call.Record.{Record}
 use Rattle.book_base.specs.Book.{Page, page_of, IsCall, operation_of, record_of}
 use Rattle.book_base.specs.Order.{HasLegalOrder}
 use Rattle.book_base.specs.Reaching.{MayReply}
-use Rattle.broken_rules.proofs.Replied.{MayReply-from_legal}
+use Rattle.legal_orders.proofs.Replied.{MayReply-from_legal}
 use Rattle.seq_objects.specs.declared.kind.Kind.{Kind}
 use Rattle.seq_objects.specs.Objects.{kind_next, kind_spec}
 use Rattle.broken_rules.specs.Rules.{HasImpossibleReply}

@@ -8,8 +8,8 @@ use Rattle.book_base.specs.declared.call.Record.{Record}
 use Rattle.book_base.specs.SeqSpec.{SeqSpec}
 use Rattle.book_base.specs.Book.{Page, IsCall, operation_of, record_of}
 use Rattle.book_base.specs.Order.{call_at, StandsAt, IsLegalOrder}
-use Rattle.history_rules.specs.Container.{Effect, Puts, Takes, Neither, Reading, value_taken, put_by, taken_by}
-use Rattle.history_rules.proofs.Orders.{steps_of, place_of_step, has_operation, call_of_put}
+use Rattle.legal_orders.specs.Container.{Effect, Puts, Takes, Neither, Reading, value_taken, put_by, taken_by}
+use Rattle.legal_orders.proofs.Orders.{steps_of, place_of_step, has_operation, call_of_put}
 use Rattle.container_pruning.specs.declared.deal.Deal.TheVariants as deals
 use Rattle.container_pruning.specs.Deals.{shown_deal, recorded_deal, deal_by_deed, deal_by_operation, deal_of}
 use Rattle.container_pruning.proofs.Dealing.{deal_of_put}

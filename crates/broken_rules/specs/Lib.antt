@@ -2,3 +2,8 @@ pub mod Deeds
 pub mod Demands
 pub mod Rules
 pub mod Texts
+pub mod Runs
+pub mod CounterRuns
+pub mod RegisterRuns
+pub mod SetRuns
+pub mod Removals

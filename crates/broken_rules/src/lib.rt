@@ -1,4 +1,5 @@
-//! Finds a rule of its kind that a book breaks, if it breaks one, and the calls by which it does.
+//! Finds a rule of its kind that a book breaks, if it breaks one, and the calls by which it does;
+//! and laws on the runs of the sequential objects, each in its object's own words.
 #![tactic(auto)]
 
 mod act;
@@ -6,6 +7,7 @@ mod breaking;
 mod demand;
 pub mod laws;
 mod line;
+pub mod object_laws;
 mod rule;
 mod search;
 

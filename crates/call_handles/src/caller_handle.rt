@@ -8,7 +8,7 @@ use crate::kept::KeptByHandle;
 use crate::publishing::publish_alone;
 use crate::stage::{HandleStage, Wrong};
 use book_base::{NoMemory, OpWord};
-use book_writer::write_book;
+use book_text::write_book;
 use row_table::{Caller, Rows};
 use seq_objects::Kind;
 use std::alloc::Global;

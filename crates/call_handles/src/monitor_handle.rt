@@ -4,7 +4,7 @@ ghost use Rattle.row_table.specs.Callers.{IsCallerOf, IsFree};
 
 use crate::rounds::round_alone;
 use book_base::NoMemory;
-use book_writer::write_book;
+use book_text::write_book;
 use frontier_check::KeptOrder;
 use monitor::{Board, Monitor};
 use row_table::{Caller, Rows};

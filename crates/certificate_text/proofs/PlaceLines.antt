@@ -6,7 +6,7 @@ use Rattle.list_laws.proofs.Elements.{AllByRecursion-append}
 use Rattle.book_base.specs.declared.call.Place.{Place}
 use Rattle.text_fields.specs.Lines.{line_text, text_of}
 use Rattle.book_text.specs.Grammar.{end_words}
-use Rattle.book_writer.proofs.Texts.{one_more}
+use Rattle.book_text.proofs.Texts.{one_more}
 use Rattle.certificate_text.specs.Grammar.{order_words, place_line, order_lines, IsPlace}
 
 module _ (prefix : List (List (List ℕ))) (order : List Place) where

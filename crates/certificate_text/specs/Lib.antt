@@ -3,3 +3,5 @@ pub mod CertificateRules
 pub mod Reading
 pub mod Beginnings
 pub mod Laws
+pub mod Books
+pub mod Certificates

@@ -6,8 +6,8 @@ ghost use Rattle.certificate_text.specs.Grammar.{place_line, IsPlace, IsWrittenC
 ghost use Rattle.certificate_text.specs.CertificateRules.{IsCertificateText};
 
 use book_base::{Book, NoMemory, Place};
-use book_writer::fields::{put_spaced, put_title};
-use book_writer::write_book;
+use book_text::fields::{put_spaced, put_title};
+use book_text::write_book;
 use seq_objects::{Kind, put_number, put_reply};
 use std::alloc::Global;
 

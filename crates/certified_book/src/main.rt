@@ -3,13 +3,13 @@
 #![tactic(auto)]
 
 ghost use Rattle.book_text.specs.BookRules.{IsFirstBookFault};
-ghost use Rattle.book_verdicts.specs.Books.{Certifies};
+ghost use Rattle.certificate_text.specs.Books.{Certifies};
 ghost use Rattle.certified_book.specs.Output.{SaysIllegal};
 ghost use Rattle.text_fields.specs.declared.version.Version.TheVariants.{Second};
 
 use book_base::ReadFault;
-use book_verdicts::certify;
 use byte_streams::{ProgramAnswer, StdSink, StdSource, TextProgram, run_program};
+use certificate_text::certify;
 use std::alloc::Global;
 use std::process::ExitCode;
 

@@ -11,7 +11,7 @@ use Rattle.report_lines.specs.declared.line.LineEnd.{LineEnd}
 use Rattle.report_lines.specs.declared.line.Line.{Line}
 use Rattle.report_lines.specs.Phases.{Progress, progress_of}
 use Rattle.report_lines.specs.Progress.{after_announcing, after_viewing, after_publishing, after_seeing, with_last, with_seen}
-use Rattle.report_laws.proofs.Stepping.{viewing_is_a_phase}
+use Rattle.report_lines.proofs.Stepping.{viewing_is_a_phase}
 use Rattle.row_table.specs.declared.caller.Caller.{Caller}
 use Rattle.row_table.specs.declared.rows.Rows.{Rows}
 use Rattle.row_table.specs.Callers.{local_with, MayGet, IsStill}

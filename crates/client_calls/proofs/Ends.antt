@@ -9,8 +9,8 @@ use Rattle.world_core.specs.Calls.{Has_seen, Made, call_in, calls_in}
 use Rattle.report_lines.specs.declared.line.LineEnd.{LineEnd}
 use Rattle.report_lines.specs.declared.line.Line.{Line}
 use Rattle.report_lines.specs.Phases.{Progress, progress_of}
-use Rattle.report_laws.proofs.Stepping.{seeing_is_a_phase}
-use Rattle.report_laws.proofs.Telling.{as_many_calls}
+use Rattle.report_lines.proofs.Stepping.{seeing_is_a_phase}
+use Rattle.report_lines.proofs.Telling.{as_many_calls}
 use Rattle.row_table.specs.declared.caller.Caller.{Caller}
 use Rattle.row_table.specs.declared.rows.Rows.{Rows}
 use Rattle.row_table.specs.Callers.{shape_of, who_of, local_with}

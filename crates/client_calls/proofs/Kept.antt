@@ -8,7 +8,7 @@ use Rattle.book_base.specs.declared.call.Call.{Call}
 use Rattle.book_base.specs.OperationWord.{low_of, high_of}
 use Rattle.book_base.specs.Book.{Page, IsCall, calls_of, answers_of}
 use Rattle.book_base.specs.BookAt.{IsHeldBySomeView, greatest_count, views_at}
-use Rattle.book_laws.proofs.BookAt.{views_at-least, views_at-reached}
+use Rattle.legal_orders.proofs.BookAt.{views_at-least, views_at-reached}
 use Rattle.world_core.specs.declared.region.Region.{Region}
 use Rattle.world_core.specs.declared.region.Region.TheVariants.{N, M}
 use Rattle.world_core.specs.Local.{Local, Peeked}

@@ -14,7 +14,7 @@ use Rattle.report_lines.specs.declared.line.Line.{Line}
 use Rattle.report_lines.specs.Lines.{is_error, any_error}
 use Rattle.report_lines.specs.Phases.{Progress, IsProgressAfter, HasMade, begun, progress_of}
 use Rattle.report_lines.specs.Allotments.{phases_of, KeepsTo}
-use Rattle.report_laws.proofs.Telling.{as_many_calls}
+use Rattle.report_lines.proofs.Telling.{as_many_calls}
 use Rattle.row_table.specs.declared.rows.Rows.{Rows}
 use Rattle.drv_wrapper.specs.States.{reply_viewed, view_viewed}
 use Rattle.client_calls.specs.declared.stand.CallerState.{CallerState}

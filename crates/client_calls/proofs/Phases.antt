@@ -4,7 +4,7 @@ use Rattle.std.proofs.lemmas.Grind.{common_steps}
 use Rattle.world_core.specs.Calls.{Reached, Made}
 use Rattle.report_lines.specs.Progress.{with_last}
 use Rattle.report_lines.specs.Phases.{Progress, IsProgressAfter}
-use Rattle.report_laws.specs.Steps.{AnnouncingIsAPhase, AskingIsAPhase, PublishingIsAPhase}
+use Rattle.report_lines.specs.Steps.{AnnouncingIsAPhase, AskingIsAPhase, PublishingIsAPhase}
 
 pub announcing_is_a_phase : AnnouncingIsAPhase
 announcing_is_a_phase operations k progress low h = grind (arith, common_steps)

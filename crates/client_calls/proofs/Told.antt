@@ -10,7 +10,7 @@ use Rattle.report_lines.specs.declared.line.LineEnd.{LineEnd}
 use Rattle.report_lines.specs.declared.line.Line.{Line}
 use Rattle.report_lines.specs.Phases.{Progress, IsTold, progress_of, asked}
 use Rattle.report_lines.specs.Progress.{after_announcing, after_viewing, after_publishing, after_seeing}
-use Rattle.report_laws.proofs.Telling.{told_as_announced, told_as_asked, told_as_viewed, told_as_published, told_as_seen}
+use Rattle.report_lines.proofs.Telling.{told_as_announced, told_as_asked, told_as_viewed, told_as_published, told_as_seen}
 use Rattle.row_table.specs.declared.caller.Caller.{Caller}
 use Rattle.row_table.specs.declared.rows.Rows.{Rows}
 use Rattle.row_table.specs.Callers.{local_with}

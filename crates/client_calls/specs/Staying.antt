@@ -6,7 +6,7 @@ use Rattle.world_core.specs.Local.{Local}
 use Rattle.report_lines.specs.declared.line.LineEnd.{LineEnd}
 use Rattle.report_lines.specs.declared.line.LineEnd.TheVariants.{Pending, Unchecked, Delivered, Error}
 use Rattle.drv_wrapper.specs.Growth.{Grows}
-use Rattle.report_laws.proofs.Workers.{verdicts_stay}
+use Rattle.report_lines.proofs.Workers.{verdicts_stay}
 use Rattle.client_calls.specs.Ends.{SaysJudged, SaysDeferred}
 
 -- What the end of a judged line says of a caller's local `l` holds of each later local `m`.

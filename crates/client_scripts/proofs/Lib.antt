@@ -11,3 +11,4 @@ pub mod ReadTexts
 pub mod FaultTexts
 pub mod Written
 pub mod Generated
+pub mod Drawing

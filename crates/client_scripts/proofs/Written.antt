@@ -4,7 +4,7 @@ use Rattle.std.specs.Prelude.{slice_index, codes}
 use Rattle.std.proofs.lemmas.List.{take_more, length-take}
 use Rattle.std.proofs.lemmas.Option.{none-some, same_Some}
 use Rattle.text_fields.specs.Lines.{line_text, text_of, by_number}
-use Rattle.book_writer.proofs.Texts.{text_of-one, one_more, lines_more}
+use Rattle.book_text.proofs.Texts.{text_of-one, one_more, lines_more}
 use Rattle.text_fields.specs.declared.version.Version.TheVariants.{Second}
 use Rattle.text_fields.specs.Head.{head_lines}
 use Rattle.book_text.specs.Grammar.{end_words}

@@ -4,3 +4,5 @@ pub mod ScriptRules
 pub mod ScriptLayout
 pub mod Parts
 pub mod Generator
+pub mod Draws
+pub mod Drawn

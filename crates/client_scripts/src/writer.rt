@@ -6,11 +6,11 @@ ghost use Rattle.text_fields.specs.Lines.{line_text, text_of, by_number};
 ghost use Rattle.client_scripts.specs.Plans.{IsPlan, IsCall, operations_of, sizes};
 ghost use Rattle.client_scripts.specs.Grammar.{call_words, caller_lines, stop_line, turns_words, IsWrittenText};
 ghost use Rattle.client_scripts.specs.ScriptRules.{IsScriptText};
-ghost use Rattle.book_writer.specs.Fields.{spaced};
+ghost use Rattle.book_text.specs.Fields.{spaced};
 
 use crate::script::Script;
 use book_base::{Call, Cut, NoMemory};
-use book_writer::fields::{put_head, put_operation, put_spaced};
+use book_text::fields::{put_head, put_operation, put_spaced};
 use seq_objects::put_number;
 use std::alloc::Global;
 

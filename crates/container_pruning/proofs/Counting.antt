@@ -13,10 +13,10 @@ use Rattle.book_base.specs.Book.{Page, calls_of, record_of, Precedes}
 use Rattle.book_base.proofs.ViewLemmas.{same_call}
 use Rattle.book_base.proofs.PageLemmas.{caller_from_call}
 use Rattle.book_base.specs.Order.{HasLegalOrder}
-use Rattle.history_rules.specs.Container.{Reading, IsContainer}
-use Rattle.history_rules.specs.Calls.{PutsInAlone, IsNeverTaken}
-use Rattle.history_rules.specs.Rules.{AreDifferent}
-use Rattle.history_rules.proofs.MoreTaken.{taken_no_more_than_put}
+use Rattle.legal_orders.specs.Container.{Reading, IsContainer}
+use Rattle.legal_orders.specs.Calls.{PutsInAlone, IsNeverTaken}
+use Rattle.legal_orders.specs.Rules.{AreDifferent}
+use Rattle.legal_orders.proofs.MoreTaken.{taken_no_more_than_put}
 use Rattle.container_pruning.specs.declared.deal.Deal.{Deal}
 use Rattle.container_pruning.specs.declared.deal.Deal.TheVariants as deals
 use Rattle.container_pruning.specs.declared.uses.Use.{Use}

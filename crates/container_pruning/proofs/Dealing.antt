@@ -5,8 +5,8 @@ use Rattle.list_laws.proofs.Options.{cases_Option}
 use Rattle.book_base.specs.declared.call.Call.{Call}
 use Rattle.book_base.specs.declared.call.Record.{Record}
 use Rattle.book_base.specs.Book.{Page, page_of, IsCall, operation_of, record_of}
-use Rattle.history_rules.specs.Container.{Effect, Puts, Takes, Neither, Reading}
-use Rattle.history_rules.specs.Calls.{PutsIn, TakesOut, FindsNothing}
+use Rattle.legal_orders.specs.Container.{Effect, Puts, Takes, Neither, Reading}
+use Rattle.legal_orders.specs.Calls.{PutsIn, TakesOut, FindsNothing}
 use Rattle.container_pruning.specs.declared.deal.Deal.TheVariants as deals
 use Rattle.container_pruning.specs.Deals.{shown_deal, recorded_deal, deal_by_deed, deal_by_operation, deal_of}
 

@@ -20,12 +20,12 @@ use Rattle.search_hints.specs.PruningRules.{Known, no_call_bound, call_bound_of,
 use Rattle.search_hints.proofs.PruningRuleLemmas.{none_early}
 use Rattle.book_base.proofs.PageLemmas.{empty}
 use Rattle.book_base.proofs.ViewLemmas.{precedes_by_view}
-use Rattle.history_rules.specs.Container.{Reading, IsContainer, IsQueue, IsStack}
-use Rattle.history_rules.specs.Calls.{TakesOut}
-use Rattle.history_rules.proofs.QueueRuns.{stack_is_container}
-use Rattle.history_rules.proofs.ContainerRules.{empty_before_put}
-use Rattle.history_rules.proofs.QueueRules.{puts_in_order}
-use Rattle.history_rules.proofs.StackRules.{put_is_covered}
+use Rattle.legal_orders.specs.Container.{Reading, IsContainer, IsQueue, IsStack}
+use Rattle.legal_orders.specs.Calls.{TakesOut}
+use Rattle.legal_orders.proofs.QueueRuns.{stack_is_container}
+use Rattle.legal_orders.proofs.ContainerRules.{empty_before_put}
+use Rattle.legal_orders.proofs.QueueRules.{puts_in_order}
+use Rattle.legal_orders.proofs.StackRules.{put_is_covered}
 use Rattle.container_pruning.specs.declared.links.Discipline.{Discipline}
 use Rattle.container_pruning.specs.declared.links.Discipline.TheVariants.{Queue, Stack}
 use Rattle.container_pruning.specs.declared.links.Links.{Links}

@@ -12,13 +12,13 @@ use Rattle.book_base.specs.SeqSpec.{SeqSpec}
 use Rattle.book_base.specs.Book.{Page, operation_of, record_of, Precedes}
 use Rattle.book_base.specs.Order.{call_at, StandsAt, IsLegalOrder}
 use Rattle.book_base.specs.Reaching.{MustComeFirst}
-use Rattle.book_laws.proofs.Final.{IsRunFrom-take}
-use Rattle.history_rules.specs.Container.{Effect, Puts, Takes, Neither, Reading, value_taken, put_by, taken_by, times, IsContainer, IsQueue}
-use Rattle.history_rules.specs.Calls.{PutsIn, PutsInAlone, TakesOut, FindsNothing, IsNeverTaken}
-use Rattle.history_rules.proofs.Counting.{how_often, how_often-more, how_often-found}
-use Rattle.history_rules.proofs.QueueRuns.{put_before_kept, queue_is_container}
-use Rattle.history_rules.proofs.Orders.{steps_of, place_of_step, has_operation, answered_step, putting_step, put_alone}
-use Rattle.history_rules.proofs.ContainerRules.{held_after, take_at, puts_by, takes_by, deeds_apart}
+use Rattle.legal_orders.proofs.Final.{IsRunFrom-take}
+use Rattle.legal_orders.specs.Container.{Effect, Puts, Takes, Neither, Reading, value_taken, put_by, taken_by, times, IsContainer, IsQueue}
+use Rattle.legal_orders.specs.Calls.{PutsIn, PutsInAlone, TakesOut, FindsNothing, IsNeverTaken}
+use Rattle.legal_orders.proofs.Counting.{how_often, how_often-more, how_often-found}
+use Rattle.legal_orders.proofs.QueueRuns.{put_before_kept, queue_is_container}
+use Rattle.legal_orders.proofs.Orders.{steps_of, place_of_step, has_operation, answered_step, putting_step, put_alone}
+use Rattle.legal_orders.proofs.ContainerRules.{held_after, take_at, puts_by, takes_by, deeds_apart}
 use Rattle.container_pruning.specs.declared.deal.Deal.TheVariants as deals
 use Rattle.container_pruning.specs.Deals.{recorded_deal, deal_by_deed, deal_by_operation, deal_of}
 

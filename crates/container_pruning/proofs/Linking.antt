@@ -6,8 +6,8 @@ use Rattle.std.proofs.lemmas.List.{map-append, length-map}
 use Rattle.list_laws.proofs.Options.{if_some}
 use Rattle.book_base.specs.declared.call.Call.{Call}
 use Rattle.book_base.specs.Book.{Page, page_of, IsCall}
-use Rattle.history_rules.specs.Container.{Reading}
-use Rattle.history_rules.specs.Calls.{PutsInAlone}
+use Rattle.legal_orders.specs.Container.{Reading}
+use Rattle.legal_orders.specs.Calls.{PutsInAlone}
 use Rattle.container_pruning.specs.declared.deal.Deal.{Deal}
 use Rattle.container_pruning.specs.declared.deal.Deal.TheVariants as deals
 use Rattle.container_pruning.specs.declared.uses.Uses.{Uses}

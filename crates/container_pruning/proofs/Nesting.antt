@@ -13,13 +13,13 @@ use Rattle.book_base.specs.Book.{Page, Precedes}
 use Rattle.book_base.specs.Order.{call_at, StandsAt, step_at, IsLegalOrder}
 use Rattle.book_base.specs.Reaching.{list_after_run, IsInfeasible, MustComeFirst}
 use Rattle.book_base.proofs.ReachingLemmas.{preceding_comes_first}
-use Rattle.history_rules.specs.Container.{Puts, Reading, put_by, taken_by, times, IsStack}
-use Rattle.history_rules.specs.Calls.{PutsIn, PutsInAlone, TakesOut}
-use Rattle.history_rules.proofs.Counting.{how_often, how_often-more, how_often-found, times-found}
-use Rattle.history_rules.proofs.QueueRuns.{stack_is_container}
-use Rattle.history_rules.proofs.Orders.{steps_of, answered_step, putting_step}
-use Rattle.history_rules.proofs.ContainerRules.{held_after, puts_by, takes_by, taken_at_one_place}
-use Rattle.history_rules.proofs.StackRules.{put_is_covered}
+use Rattle.legal_orders.specs.Container.{Puts, Reading, put_by, taken_by, times, IsStack}
+use Rattle.legal_orders.specs.Calls.{PutsIn, PutsInAlone, TakesOut}
+use Rattle.legal_orders.proofs.Counting.{how_often, how_often-more, how_often-found, times-found}
+use Rattle.legal_orders.proofs.QueueRuns.{stack_is_container}
+use Rattle.legal_orders.proofs.Orders.{steps_of, answered_step, putting_step}
+use Rattle.legal_orders.proofs.ContainerRules.{held_after, puts_by, takes_by, taken_at_one_place}
+use Rattle.legal_orders.proofs.StackRules.{put_is_covered}
 use Rattle.container_pruning.specs.declared.links.Discipline.TheVariants.{Stack}
 use Rattle.container_pruning.specs.declared.links.Links.{Links}
 use Rattle.container_pruning.specs.declared.uses.Uses.{Uses}

@@ -6,7 +6,7 @@ use Rattle.list_laws.proofs.Options.{some_from_is_some}
 use Rattle.book_base.specs.declared.call.Call.{Call}
 use Rattle.book_base.specs.Book.{Page}
 use Rattle.search_hints.specs.PruningRules.{rank_of}
-use Rattle.history_rules.specs.Container.{Reading}
+use Rattle.legal_orders.specs.Container.{Reading}
 use Rattle.container_pruning.specs.declared.deal.Deal.TheVariants as deals
 use Rattle.container_pruning.specs.declared.uses.Uses.{Uses}
 use Rattle.container_pruning.specs.Deals.{deal_of}

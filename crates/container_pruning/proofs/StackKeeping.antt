@@ -6,9 +6,9 @@ use Rattle.book_base.specs.declared.call.Call.{Call}
 use Rattle.book_base.specs.SeqSpec.{SeqSpec}
 use Rattle.book_base.specs.Book.{Page}
 use Rattle.book_base.specs.Reaching.{IsInfeasible}
-use Rattle.history_rules.specs.Container.{Reading, IsStack}
-use Rattle.history_rules.specs.Calls.{PutsIn, PutsInAlone, TakesOut, IsNeverTaken}
-use Rattle.history_rules.proofs.StackRules.{infeasible_where_covered}
+use Rattle.legal_orders.specs.Container.{Reading, IsStack}
+use Rattle.legal_orders.specs.Calls.{PutsIn, PutsInAlone, TakesOut, IsNeverTaken}
+use Rattle.legal_orders.proofs.StackRules.{infeasible_where_covered}
 use Rattle.container_pruning.proofs.Keeping.{PrecedesOpenTakes, none_takes_kept}
 
 -- Where the take of x precedes each unanswered take, the put of a value that no answered call takes

@@ -3,7 +3,7 @@ use Rattle.std.specs.Prelude.{ℕ, List, Option, Some, None}
 use Rattle.book_base.specs.declared.call.Call.{Call}
 use Rattle.book_base.specs.declared.call.Record.{Record}
 use Rattle.book_base.specs.Book.{Page, operation_of, record_of}
-use Rattle.history_rules.specs.Container.{Effect, Puts, Takes, Neither, Reading}
+use Rattle.legal_orders.specs.Container.{Effect, Puts, Takes, Neither, Reading}
 use Rattle.container_pruning.specs.declared.reader.Role.{Role}
 use Rattle.container_pruning.specs.declared.reader.Role.TheVariants as roles
 use Rattle.container_pruning.specs.declared.deal.Deal.{Deal}

@@ -8,8 +8,8 @@ use Rattle.book_base.specs.Book.{Page, IsCall, record_of, Precedes}
 use Rattle.book_base.specs.Order.{HasLegalOrder}
 use Rattle.book_base.specs.Reaching.{IsInfeasible, MustComeFirst}
 use Rattle.search_hints.specs.PruningRules.{HasEarly}
-use Rattle.history_rules.specs.Container.{Reading, IsContainer}
-use Rattle.history_rules.specs.Calls.{PutsIn, PutsInAlone, TakesOut, FindsNothing, IsNeverTaken}
+use Rattle.legal_orders.specs.Container.{Reading, IsContainer}
+use Rattle.legal_orders.specs.Calls.{PutsIn, PutsInAlone, TakesOut, FindsNothing, IsNeverTaken}
 use Rattle.container_pruning.specs.declared.deal.Deal.{Deal}
 use Rattle.container_pruning.specs.declared.deal.Deal.TheVariants as deals
 use Rattle.container_pruning.specs.declared.uses.Uses.{Uses}

@@ -3,8 +3,8 @@ use Rattle.std.specs.Prelude.{◌≡◌, ℕ, ◌-◌, List, Some}
 use Rattle.book_base.specs.declared.call.Call.{Call}
 use Rattle.book_base.specs.Book.{Page}
 use Rattle.search_hints.specs.PruningRules.{rank_of}
-use Rattle.history_rules.specs.Container.{Reading}
-use Rattle.history_rules.specs.Calls.{PutsInAlone, TakesOut}
+use Rattle.legal_orders.specs.Container.{Reading}
+use Rattle.legal_orders.specs.Calls.{PutsInAlone, TakesOut}
 use Rattle.container_pruning.specs.Links.{reach_of}
 
 -- A rank of a value is right: some call takes the value out, the rank is how many calls the view of

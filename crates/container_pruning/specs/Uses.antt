@@ -7,8 +7,8 @@ use Rattle.book_base.specs.declared.call.Call.{Call}
 use Rattle.book_base.specs.declared.TheConstants.{MAX_CALLS}
 use Rattle.book_base.specs.Book.{Page, record_of}
 use Rattle.book_base.specs.Cut.{IsWithin}
-use Rattle.history_rules.specs.Container.{Reading}
-use Rattle.history_rules.specs.Rules.{AreDifferent}
+use Rattle.legal_orders.specs.Container.{Reading}
+use Rattle.legal_orders.specs.Rules.{AreDifferent}
 use Rattle.container_pruning.specs.declared.deal.Deal.{Deal}
 use Rattle.container_pruning.specs.declared.deal.Deal.TheVariants as deals
 use Rattle.container_pruning.specs.declared.uses.Use.{Use}

@@ -1,7 +1,7 @@
 ghost use Rattle.std.specs.Prelude.{◌≡◌, [], IfOk};
 ghost use Rattle.book_base.specs.SeqSpec.{SeqSpec};
 ghost use Rattle.search_hints.specs.PruningRules.{ArePruningRules};
-ghost use Rattle.history_rules.specs.Container.{IsQueue, IsStack};
+ghost use Rattle.legal_orders.specs.Container.{IsQueue, IsStack};
 ghost use Rattle.container_pruning.specs.FoundRules.{HoldsItsWords};
 
 use crate::hold::hold;

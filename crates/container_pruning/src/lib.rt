@@ -1,5 +1,5 @@
 //! Pruning rules of containers, which are made of a book before a search, from the rules of
-//! histories, in near linear time.
+//! histories.
 #![tactic(auto)]
 
 mod deal;

@@ -1,5 +1,5 @@
 ghost use Rattle.std.specs.Prelude.{◌≡◌};
-ghost use Rattle.history_rules.specs.Container.{Reading};
+ghost use Rattle.legal_orders.specs.Container.{Reading};
 ghost use Rattle.container_pruning.specs.Deals.{deed_of};
 
 use book_base::OpWord;

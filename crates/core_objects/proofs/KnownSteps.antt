@@ -6,8 +6,8 @@ use Rattle.std.proofs.lemmas.Option.{none-some}
 use Rattle.book_base.specs.OperationWord.{joined}
 use Rattle.world_core.specs.Local.{Local, Object_step}
 use Rattle.world_core.specs.CallSteps.{steps_now, all_steps_of}
-use Rattle.log_program.specs.LogWords.{low_place, high_place, ticket_place, ticket_of, known, is_known, is_filled, are_filled_below, is_first_unfilled, placed_at, names, is_named_below, joined_if_known, known_operation, with_operation, known_log}
-use Rattle.log_program.specs.LogProgram.{is_exchange, is_load, is_named_before}
+use Rattle.world_objects.specs.LogWords.{low_place, high_place, ticket_place, ticket_of, known, is_known, is_filled, are_filled_below, is_first_unfilled, placed_at, names, is_named_below, joined_if_known, known_operation, with_operation, known_log}
+use Rattle.world_objects.specs.LogProgram.{is_exchange, is_load, is_named_before}
 
 -- a known word stays known along further steps
 pub known-append : (place x : ℕ) (steps more : List Object_step) → known place steps ≡ Some x

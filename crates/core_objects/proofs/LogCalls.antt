@@ -18,8 +18,8 @@ use Rattle.row_table.specs.Callers.{shape_of, who_of, IsCallerOf, MayGet}
 use Rattle.drv_wrapper.specs.declared.announced.Announced.{Announced}
 use Rattle.drv_wrapper.specs.States.{caller_announced, who_announced, number_announced, op_announced, announced_local}
 use Rattle.drv_wrapper.specs.ObjectSteps.{HasStepped}
-use Rattle.log_program.specs.LogWords.{number_of, low_place, high_place, ticket_place, ticket_of, known, is_known, placed_at, known_log, known_operation, joined_if_known, with_operation}
-use Rattle.log_program.specs.LogProgram.{log_program, log_may_step, is_low_store, is_high_store, is_exchange, is_load, list_of, known_reply, reply_if_known}
+use Rattle.world_objects.specs.LogWords.{number_of, low_place, high_place, ticket_place, ticket_of, known, is_known, placed_at, known_log, known_operation, joined_if_known, with_operation}
+use Rattle.world_objects.specs.LogProgram.{log_program, log_may_step, is_low_store, is_high_store, is_exchange, is_load, list_of, known_reply, reply_if_known}
 use Rattle.core_objects.specs.declared.core_log.LogProgram.{LogProgram}
 use Rattle.core_objects.specs.CoreObjects.{with_steps, after_steps, HasReplied}
 use Rattle.core_objects.specs.LogCalls.{KnowsTickets, KnowsOperations, places_on, number_on, HasMade, HasStored, HasPlaced, place_on, KnowsPlaces, KnowsLog, MayLoad, KnowsOperation}

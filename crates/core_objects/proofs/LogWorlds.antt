@@ -8,13 +8,13 @@ use Rattle.world_core.specs.Calls.{IsLocalOf}
 use Rattle.world_core.specs.Event.{is_asking}
 use Rattle.world_core.specs.World.{World, IsReachable, local_of, object_word}
 use Rattle.world_laws.proofs.Each.{Each}
-use Rattle.object_orders.proofs.AskedCalls.{reachable_kept, asked}
-use Rattle.log_program.specs.LogWords.{number_of, ticket_place, ticket_of, known, placed_at}
-use Rattle.log_program.specs.LogProgram.{log_shape}
-use Rattle.log_program.specs.LogRules.{IsLasting, IsLog, ticket_at}
-use Rattle.log_program.proofs.LogWords.{each_of_all, known_step}
-use Rattle.log_program.proofs.LogSteps.{number_low, rules_hold}
-use Rattle.log_program.proofs.LogCapacity.{some_place_is_free}
+use Rattle.world_objects.proofs.AskedCalls.{reachable_kept, asked}
+use Rattle.world_objects.specs.LogWords.{number_of, ticket_place, ticket_of, known, placed_at}
+use Rattle.world_objects.specs.LogProgram.{log_shape}
+use Rattle.world_objects.specs.LogRules.{IsLasting, IsLog, ticket_at}
+use Rattle.world_objects.proofs.LogWords.{each_of_all, known_step}
+use Rattle.world_objects.proofs.LogSteps.{number_low, rules_hold}
+use Rattle.world_objects.proofs.LogCapacity.{some_place_is_free}
 use Rattle.core_objects.proofs.KnownSteps.{known_somehow}
 
 each_last : {X : Type 0} (P : X → Type 0) (xs : List X) (y : X) → Each P (xs ++ y ∷ []) → P y

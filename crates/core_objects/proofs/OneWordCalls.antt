@@ -14,7 +14,7 @@ use Rattle.world_core.specs.Calls.{IsLocalOf}
 use Rattle.report_lines.specs.Phases.{progress_of}
 use Rattle.drv_wrapper.specs.Calling.{IsAsked}
 use Rattle.drv_wrapper.proofs.Locals.{local_has_phase}
-use Rattle.object_orders.specs.OneWord.{OneWord, reply_of, reply_by_step, is_without_steps, is_reply}
+use Rattle.world_objects.specs.OneWord.{OneWord, reply_of, reply_by_step, is_without_steps, is_reply}
 use Rattle.core_objects.specs.CoreObjects.{with_steps, after_steps}
 
 set_none : (xs : List (List Object_step)) (k : ℕ)

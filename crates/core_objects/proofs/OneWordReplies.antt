@@ -10,7 +10,7 @@ use Rattle.row_table.specs.Callers.{who_of, IsCallerOf}
 use Rattle.drv_wrapper.specs.declared.announced.Announced.{Announced}
 use Rattle.drv_wrapper.specs.States.{caller_announced, announced_local, op_announced}
 use Rattle.drv_wrapper.specs.ObjectSteps.{HasStepped}
-use Rattle.object_orders.specs.OneWord.{OneWord, one_word_program, one_word_shape}
+use Rattle.world_objects.specs.OneWord.{OneWord, one_word_program, one_word_shape}
 use Rattle.core_objects.specs.CoreObjects.{HasReplied}
 use Rattle.core_objects.proofs.OneWordCalls.{no_steps, no_progress_made, one_step, allows_bad, allows_reply, has_steps}
 

@@ -10,7 +10,7 @@ use Rattle.row_table.specs.declared.rows.Rows.{Rows}
 use Rattle.row_table.specs.Callers.{IsStill}
 use Rattle.drv_wrapper.specs.declared.announced.Announced.{Announced}
 use Rattle.drv_wrapper.specs.States.{caller_announced, who_announced, number_announced, op_announced, announced_local}
-use Rattle.log_program.specs.LogWords.{number_of, low_place, high_place, ticket_place, ticket_of, known, placed_at, known_operation, known_log}
+use Rattle.world_objects.specs.LogWords.{number_of, low_place, high_place, ticket_place, ticket_of, known, placed_at, known_operation, known_log}
 use Rattle.core_objects.specs.CoreObjects.{with_steps, after_steps}
 
 -- A caller's object steps show that these tickets stand in the first places of a log with `total`

@@ -8,7 +8,7 @@ use crate::one_word_pass::OneWordPass;
 use book_base::{BAD, MAX_CALLERS, MAX_CALLS, NoMemory, OpWord, SeqObject};
 use drv_wrapper::Announced;
 use row_table::Rows;
-use seq_objects::{DONE, Register, value_reply};
+use seq_objects::{DONE, Register, wrapping_value_reply};
 use std::alloc::Global;
 use world_core::{InWorld, Program};
 
@@ -24,8 +24,8 @@ const READ: OpWord = 2 << 32;
 pub struct CellProgram;
 
 impl Program for CellProgram {
-    ghost use Rattle.object_orders.specs.OneWord.{one_word_program};
-    ghost use Rattle.object_orders.specs.TallyAndCell.{cell};
+    ghost use Rattle.world_objects.specs.OneWord.{one_word_program};
+    ghost use Rattle.world_objects.specs.TallyAndCell.{cell};
 
     ghost meaning = { λ program n cap. one_word_program cell };
 
@@ -66,7 +66,7 @@ impl CoreCell {
 }
 
 impl CoreObject for CoreCell {
-    ghost use Rattle.object_orders.proofs.TallyAndCell.{cells_linearize_registers};
+    ghost use Rattle.world_objects.proofs.TallyAndCell.{cells_linearize_registers};
     ghost use Rattle.core_objects.specs.OneWordPasses.{FitsOneWord};
 
     type S = Register;
@@ -100,7 +100,7 @@ impl CoreObject for CoreCell {
         let op = announced.op();
         if op == READ {
             let found = announced.object_load(rows, 0);
-            return value_reply(found);
+            return wrapping_value_reply(found);
         }
         if !self.register.known(op) {
             return BAD;

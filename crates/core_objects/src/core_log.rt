@@ -1,8 +1,9 @@
 ghost use Rattle.std.specs.Prelude.{◌≡◌, ℕ, ◌+◌, ◌<◌, ◌≤◌, List, [], ◌∷◌, ◌++◌, length, take, IfOk};
 ghost use Rattle.book_base.specs.declared.TheConstants.{MAX_CALLERS, MAX_CALLS};
+ghost use Rattle.book_base.specs.Reaching.{IsCapacityFor};
 ghost use Rattle.world_core.specs.World.{Step, IsRun};
 ghost use Rattle.world_core.specs.History.{IsLinearizable, history_of};
-ghost use Rattle.log_program.specs.LogProgram.{list_of};
+ghost use Rattle.world_objects.specs.LogProgram.{list_of};
 ghost use Rattle.core_objects.specs.CoreObjects.{shape_with, ArePassesFor};
 ghost use Rattle.core_objects.specs.LogPasses.{FitsLog, object_of};
 
@@ -25,7 +26,7 @@ pub struct LogProgram<S> {
 }
 
 impl<S: SeqObject + Copy> Program for LogProgram<S> {
-    ghost use Rattle.log_program.specs.LogProgram.{log_program};
+    ghost use Rattle.world_objects.specs.LogProgram.{log_program};
 
     ghost meaning = { λ program n cap. log_program (S.spec program.object) n cap };
 
@@ -86,7 +87,8 @@ impl<S: SeqObject + Copy> CoreLog<S> {
         requires made { made ≤ length log.now }
         requires state { state.old.words ≡ list_of (S.spec self.now.object).next
             (S.spec self.now.object).init (take made log.now) }
-        requires room { length log.now + 1 < state.old.room }
+        requires room { IsCapacityFor (S.spec self.now.object) (length log.now + 1)
+            state.old.room }
         ensures reply { result ≡ ((S.spec self.now.object).next
             (list_of (S.spec self.now.object).next (S.spec self.now.object).init log.now) op).1 }
         ensures state { state.new.words ≡ list_of (S.spec self.now.object).next
@@ -101,7 +103,7 @@ impl<S: SeqObject + Copy> CoreLog<S> {
 }
 
 impl<S: SeqObject + Copy> CoreObject for CoreLog<S> {
-    ghost use Rattle.log_program.proofs.LogEffects.{logs_linearize};
+    ghost use Rattle.world_objects.proofs.LogEffects.{logs_linearize};
     ghost use Rattle.core_objects.specs.LogPasses.{FitsLog};
 
     type S = S;

@@ -37,7 +37,7 @@ fn pass_for<S: SeqObject>(
     let places = u64::from(n) * cap;
     let tickets = Vec::with_capacity(alloc, places as usize)?;
     let log = Vec::with_capacity(alloc, places as usize)?;
-    let mut state = State::with_room(alloc, places + 1)?;
+    let mut state = State::with_room(alloc, object.capacity(places))?;
     object.reset(&mut state);
     Ok(CorePass {
         caller,

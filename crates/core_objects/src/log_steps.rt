@@ -4,7 +4,7 @@ ghost use Rattle.world_core.specs.CallSteps.{steps_now};
 ghost use Rattle.row_table.specs.Callers.{IsCallerOf};
 ghost use Rattle.drv_wrapper.specs.States.{caller_announced, announced_local};
 ghost use Rattle.drv_wrapper.specs.ObjectSteps.{HasStepped};
-ghost use Rattle.log_program.specs.LogWords.{ticket_place};
+ghost use Rattle.world_objects.specs.LogWords.{ticket_place};
 ghost use Rattle.core_objects.specs.LogCalls.{places_on, number_on, place_on, HasLogWords, HasMade, HasStored, HasPlaced, MayLoad, KnowsPlaces, KnowsLog, KnowsOperation};
 
 use crate::core_log::LogProgram;

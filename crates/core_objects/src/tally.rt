@@ -10,7 +10,7 @@ use crate::one_word_pass::OneWordPass;
 use book_base::{BAD, MAX_CALLERS, MAX_CALLS, NoMemory, OpWord, SeqObject};
 use drv_wrapper::Announced;
 use row_table::Rows;
-use seq_objects::{Counter, value_reply};
+use seq_objects::{Counter, wrapping_value_reply};
 use std::alloc::Global;
 use world_core::{InWorld, Program};
 
@@ -20,8 +20,8 @@ use world_core::{InWorld, Program};
 pub struct TallyProgram;
 
 impl Program for TallyProgram {
-    ghost use Rattle.object_orders.specs.OneWord.{one_word_program};
-    ghost use Rattle.object_orders.specs.TallyAndCell.{tally};
+    ghost use Rattle.world_objects.specs.OneWord.{one_word_program};
+    ghost use Rattle.world_objects.specs.TallyAndCell.{tally};
 
     ghost meaning = { λ program n cap. one_word_program tally };
 
@@ -73,7 +73,7 @@ impl CoreTally {
 }
 
 impl CoreObject for CoreTally {
-    ghost use Rattle.object_orders.proofs.TallyAndCell.{tallies_linearize_counters};
+    ghost use Rattle.world_objects.proofs.TallyAndCell.{tallies_linearize_counters};
     ghost use Rattle.core_objects.specs.OneWordPasses.{FitsOneWord};
 
     type S = Counter;
@@ -108,6 +108,6 @@ impl CoreObject for CoreTally {
             return BAD;
         }
         let found = announced.object_add(rows, 0, 1);
-        value_reply(found)
+        wrapping_value_reply(found)
     }
 }

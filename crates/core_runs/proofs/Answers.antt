@@ -10,9 +10,9 @@ use Rattle.list_laws.proofs.Places.{slice_get-push_last}
 use Rattle.book_base.specs.declared.call.Record.{Record}
 use Rattle.world_core.specs.Local.{Local}
 use Rattle.world_core.specs.Calls.{Reached, Is_announced, Has_record, Has_seen, Made, record_in, reached_in, call_in, calls_in, records_of}
-use Rattle.world_books.proofs.Pages.{HasLengths, slice_get-made, operations_with}
+use Rattle.world_laws.proofs.Pages.{HasLengths, slice_get-made, operations_with}
 use Rattle.report_lines.specs.Phases.{CallMark, Announced, Recorded, Seen, begun, answered, judged, mark_of, mark_under_way, marks_after, progress_of, HasMade, answers_in}
-use Rattle.report_laws.proofs.Telling.{as_many_calls}
+use Rattle.report_lines.proofs.Telling.{as_many_calls}
 
 -- ---- answers, call by call
 

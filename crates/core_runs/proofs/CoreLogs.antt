@@ -8,10 +8,10 @@ use Rattle.world_core.specs.History.{call_of}
 use Rattle.world_core.specs.Calls.{calls_in, local_at}
 use Rattle.report_lines.specs.Phases.{judged, HasMade}
 use Rattle.client_calls.specs.Finishing.{KeepsAsked}
-use Rattle.log_program.specs.LogProgram.{log_shape}
-use Rattle.log_program.specs.LogEffects.{log_effects}
-use Rattle.log_program.proofs.LogOrders.{no_reply_without_steps, reply_where_allowed, log_orders_are_of_tickets}
-use Rattle.lawful_objects.specs.Replays.{last_reply}
+use Rattle.world_objects.specs.LogProgram.{log_shape}
+use Rattle.world_objects.specs.LogEffects.{log_effects}
+use Rattle.world_objects.proofs.LogOrders.{no_reply_without_steps, reply_where_allowed, log_orders_are_of_tickets}
+use Rattle.test_objects.specs.Replays.{last_reply}
 use Rattle.core_runs.specs.Logged.{IsLoggedBy}
 use Rattle.core_runs.specs.Runs.{RunsOfLogsAreLogged}
 use Rattle.core_runs.proofs.Answers.{has_begun}

@@ -13,7 +13,7 @@ use Rattle.report_lines.specs.Lawful.{IsLawful}
 use Rattle.row_table.specs.declared.rows.Rows.{Rows}
 use Rattle.row_table.specs.Callers.{shape_of}
 use Rattle.core_objects.specs.CoreObjects.{shape_with, AreOpenedWith}
-use Rattle.lawful_reports.proofs.Errors.{no_run_leaves_an_error}
+use Rattle.reports.proofs.LawfulErrors.{no_run_leaves_an_error}
 
 module _ {P : Type 0} (meaning : P → ℕ → ℕ → Meaning) (program : P) (r : Rows P)
     (opened : AreOpenedWith meaning program r) (spec : SeqSpec)

@@ -6,12 +6,12 @@ use Rattle.std.proofs.lemmas.List.Elements.{All-head}
 use Rattle.std.proofs.lemmas.Option.{same_Some, none-some}
 use Rattle.list_laws.proofs.Places.{slice_get-take}
 use Rattle.list_laws.proofs.Prefixes.{slice_get-take_below}
-use Rattle.shared_log.specs.declared.entry.Entry.{Entry}
-use Rattle.shared_log.specs.Entries.{calls_by, entry}
-use Rattle.shared_log.proofs.Logs.{calls_by-append, All-suffix}
+use Rattle.shared_words.specs.declared.entry.Entry.{Entry}
+use Rattle.shared_words.specs.Entries.{calls_by, entry}
+use Rattle.shared_words.proofs.Logs.{calls_by-append, All-suffix}
 use Rattle.report_lines.specs.Phases.{asked, answered, operations_of}
-use Rattle.lawful_objects.specs.Pairs.{pairs_of, pairs_after}
-use Rattle.lawful_objects.proofs.Pairing.{after_own}
+use Rattle.test_objects.specs.Pairs.{pairs_of, pairs_after}
+use Rattle.test_objects.proofs.Pairing.{after_own}
 use Rattle.core_runs.specs.LogLaws.{AnswersComeFromTheLog, EntriesAreOfCalls}
 
 -- ---- a pair of a log is that of an entry

@@ -3,7 +3,7 @@ use Rattle.std.proofs.Common.{◌≡◌, ◌∙◌, sym, subst, ap, ℕ, ◌<◌
 use Rattle.std.specs.List.{All}
 use Rattle.std.proofs.Math.ListN.{get_or-map}
 use Rattle.book_base.specs.SeqSpec.{SeqSpec}
-use Rattle.shared_log.specs.declared.entry.Entry.{Entry}
+use Rattle.shared_words.specs.declared.entry.Entry.{Entry}
 use Rattle.world_core.specs.Shape.{Shape}
 use Rattle.world_core.specs.Local.{Local}
 use Rattle.world_core.specs.Calls.{Made, calls_in, local_at}
@@ -11,14 +11,14 @@ use Rattle.report_lines.specs.declared.line.Line.{Line}
 use Rattle.report_lines.specs.Lines.{made_of}
 use Rattle.report_lines.specs.Phases.{asked, operations_of, answers_in}
 use Rattle.report_lines.specs.Allotments.{operations_at}
-use Rattle.report_laws.proofs.Runs.{calls_at}
+use Rattle.report_lines.proofs.Runs.{calls_at}
 use Rattle.client_scripts.specs.Plans.{Plan}
 use Rattle.reports.specs.Findings.{Findings}
-use Rattle.object_orders.specs.OneWord.{one_word_shape}
-use Rattle.object_orders.specs.TallyAndCell.{tally, cell}
-use Rattle.log_program.specs.LogProgram.{log_shape}
-use Rattle.lawful_objects.specs.Replays.{last_reply}
-use Rattle.lawful_objects.specs.Forms.{IsTallyReply, IsCellReply}
+use Rattle.world_objects.specs.OneWord.{one_word_shape}
+use Rattle.world_objects.specs.TallyAndCell.{tally, cell}
+use Rattle.world_objects.specs.LogProgram.{log_shape}
+use Rattle.test_objects.specs.Replays.{last_reply}
+use Rattle.test_objects.specs.Forms.{IsTallyReply, IsCellReply}
 use Rattle.core_runs.specs.Logged.{IsLoggedBy, AreFormed}
 use Rattle.core_runs.specs.Runs.{HaveMadePhases}
 use Rattle.core_runs.proofs.CoreLogs.{runs_of_logs_are_logged}

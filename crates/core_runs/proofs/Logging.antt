@@ -9,24 +9,24 @@ use Rattle.std.proofs.lemmas.Option.{same_Some, none-some, slice_get_within, sli
 use Rattle.book_base.specs.SeqSpec.{SeqSpec}
 use Rattle.book_base.specs.Sequential.{IsRunFrom}
 use Rattle.book_base.specs.Book.{Page, IsCall, operation_of}
-use Rattle.shared_log.specs.declared.entry.Entry.{Entry}
-use Rattle.shared_log.specs.Entries.{calls_by, entry}
-use Rattle.lawful_objects.specs.Pairs.{pairs_after, pairs_of}
-use Rattle.lawful_objects.specs.Replays.{list_after, last_reply}
-use Rattle.lawful_objects.proofs.Replaying.{list_after-append, last_reply_is_next}
+use Rattle.shared_words.specs.declared.entry.Entry.{Entry}
+use Rattle.shared_words.specs.Entries.{calls_by, entry}
+use Rattle.test_objects.specs.Pairs.{pairs_after, pairs_of}
+use Rattle.test_objects.specs.Replays.{list_after, last_reply}
+use Rattle.test_objects.proofs.Replaying.{list_after-append, last_reply_is_next}
 use Rattle.world_core.specs.Shape.{Shape}
 use Rattle.world_core.specs.Local.{Local}
 use Rattle.world_core.specs.World.{World, Step, start, local_of, IsRun, end_of}
 use Rattle.world_core.specs.History.{Happening, Invoked, Returned, Done, step_of, ReturnsBefore, IsLinearization, history_of, call_of}
 use Rattle.world_core.specs.Calls.{book_in, calls_in, record_in, local_at}
 use Rattle.world_laws.proofs.Running.{start_kept}
-use Rattle.world_books.specs.Linearizing.{IsHistoryOf}
-use Rattle.world_books.proofs.Pages.{HasLengths, operation_in_book, operations_with, record_in_book}
-use Rattle.world_books.proofs.Validity.{all_lengths}
-use Rattle.world_books.proofs.Recording.{invoked_is_announced}
-use Rattle.world_books.proofs.NoFalseErrors.{runs_have_their_histories}
+use Rattle.world_laws.specs.Linearizing.{IsHistoryOf}
+use Rattle.world_laws.proofs.Pages.{HasLengths, operation_in_book, operations_with, record_in_book}
+use Rattle.world_laws.proofs.Validity.{all_lengths}
+use Rattle.world_laws.proofs.Recording.{invoked_is_announced}
+use Rattle.world_laws.proofs.NoFalseErrors.{runs_have_their_histories}
 use Rattle.report_lines.specs.Phases.{begun, asked, answered, judged, operations_of, answers_in, HasMade}
-use Rattle.object_orders.specs.Effects.{Effects, IsOrderOfEffects}
+use Rattle.world_objects.specs.Effects.{Effects, IsOrderOfEffects}
 use Rattle.core_runs.specs.Logged.{IsLoggedBy}
 use Rattle.core_runs.proofs.OwnCalls.{own_in, RisesFor, HasFirstCalls, own_at, own_operations}
 use Rattle.core_runs.proofs.Answers.{has_begun, answer_at, answered_has, answers_are_first}

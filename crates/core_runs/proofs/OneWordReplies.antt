@@ -16,15 +16,15 @@ use Rattle.world_core.specs.Shape.{Shape}
 use Rattle.world_core.specs.Local.{Local, Object_step}
 use Rattle.world_core.specs.World.{World, Step, local_of, IsRun, end_of}
 use Rattle.world_core.specs.Calls.{calls_in, local_at}
-use Rattle.world_books.proofs.Pages.{HasLengths, slice_get-made}
-use Rattle.world_books.proofs.Validity.{all_lengths}
+use Rattle.world_laws.proofs.Pages.{HasLengths, slice_get-made}
+use Rattle.world_laws.proofs.Validity.{all_lengths}
 use Rattle.report_lines.specs.Phases.{answered, HasMade, answers_in}
-use Rattle.object_orders.specs.OneWord.{OneWord, one_word_shape, reply_by_step, reply_of, reply_if_announced, one_word_effects, Serves}
-use Rattle.object_orders.specs.TallyAndCell.{tally, count_in, cell, value_in}
-use Rattle.object_orders.proofs.OneWords.{one_word_orders_are_of_steps}
-use Rattle.object_orders.proofs.TallyAndCell.{tally_serves_counter, cell_serves_register}
+use Rattle.world_objects.specs.OneWord.{OneWord, one_word_shape, reply_by_step, reply_of, reply_if_announced, one_word_effects, Serves}
+use Rattle.world_objects.specs.TallyAndCell.{tally, count_in, cell, value_in}
+use Rattle.world_objects.proofs.OneWords.{one_word_orders_are_of_steps}
+use Rattle.world_objects.proofs.TallyAndCell.{tally_serves_counter, cell_serves_register}
 use Rattle.core_objects.proofs.RegisterWords.{read_is, known_is, writes}
-use Rattle.lawful_objects.specs.Forms.{increment, IsTallyReply, IsCellReply}
+use Rattle.test_objects.specs.Forms.{increment, IsTallyReply, IsCellReply}
 use Rattle.core_runs.specs.Logged.{AreFormed}
 use Rattle.core_runs.specs.Runs.{HaveMadePhases, RunsOfTalliesAreFormed, RunsOfCellsAreFormed}
 use Rattle.core_runs.proofs.Answers.{has_begun, answer_at, answers_are_first}

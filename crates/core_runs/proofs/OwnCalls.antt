@@ -14,7 +14,7 @@ use Rattle.list_laws.proofs.Prefixes.{slice_get-take_within, same_from_places}
 use Rattle.list_laws.proofs.Options.{map_some}
 use Rattle.list_laws.proofs.Ordered.{IsMember, IsOrderedBy, IsOrderedBy-same}
 use Rattle.world_core.specs.History.{Done, call_of}
-use Rattle.world_books.proofs.LegalOrders.{stands, contained}
+use Rattle.world_laws.proofs.LegalOrders.{stands, contained}
 
 -- an element that passes a test is in the list that the test keeps
 kept_by_filter : {X : Type 0} (p : X → Bool) (xs : List X) (k : ℕ) (x : X) → p x ≡ true

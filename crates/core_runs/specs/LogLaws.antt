@@ -1,7 +1,7 @@
 -- What one log for all calls says of them, call by call.
 use Rattle.std.specs.Prelude.{◌≡◌, ℕ, ◌<◌, List, [], ◌∷◌, ◌++◌, length, slice_get, Some}
-use Rattle.shared_log.specs.declared.entry.Entry.{Entry}
-use Rattle.shared_log.specs.Entries.{calls_by, entry}
+use Rattle.shared_words.specs.declared.entry.Entry.{Entry}
+use Rattle.shared_words.specs.Entries.{calls_by, entry}
 use Rattle.world_core.specs.Calls.{Made}
 use Rattle.report_lines.specs.Phases.{asked, operations_of, answers_in}
 use Rattle.core_runs.specs.Logged.{IsLoggedBy}

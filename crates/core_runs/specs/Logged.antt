@@ -1,11 +1,11 @@
 -- Which object answered the calls of n callers: all calls from one log, or each with a reply of the
 -- form that its operation has.
 use Rattle.std.specs.Prelude.{◌≡◌, ℕ, ◌<◌, List, take, All}
-use Rattle.shared_log.specs.declared.entry.Entry.{Entry}
-use Rattle.shared_log.specs.Entries.{calls_by}
+use Rattle.shared_words.specs.declared.entry.Entry.{Entry}
+use Rattle.shared_words.specs.Entries.{calls_by}
 use Rattle.world_core.specs.Calls.{Made}
 use Rattle.report_lines.specs.Phases.{asked, answered, operations_of, answers_in}
-use Rattle.lawful_objects.specs.Pairs.{pairs_of}
+use Rattle.test_objects.specs.Pairs.{pairs_of}
 
 -- The calls of n callers are in one log, where caller i has made `phases i` phases. The callers of
 -- the log are below n. The entries of each caller are, in order, the operations of the calls that

@@ -8,11 +8,11 @@ use Rattle.report_lines.specs.Lines.{made_of, lines_at}
 use Rattle.report_lines.specs.Allotments.{phases_of}
 use Rattle.client_scripts.specs.Plans.{Plan}
 use Rattle.reports.specs.Findings.{Findings}
-use Rattle.object_orders.specs.OneWord.{one_word_shape}
-use Rattle.object_orders.specs.TallyAndCell.{tally, cell}
-use Rattle.log_program.specs.LogProgram.{log_shape}
-use Rattle.lawful_objects.specs.Replays.{last_reply}
-use Rattle.lawful_objects.specs.Forms.{IsTallyReply, IsCellReply}
+use Rattle.world_objects.specs.OneWord.{one_word_shape}
+use Rattle.world_objects.specs.TallyAndCell.{tally, cell}
+use Rattle.world_objects.specs.LogProgram.{log_shape}
+use Rattle.test_objects.specs.Replays.{last_reply}
+use Rattle.test_objects.specs.Forms.{IsTallyReply, IsCellReply}
 use Rattle.core_runs.specs.Logged.{IsLoggedBy, AreFormed}
 use Rattle.run_report.specs.Reporting.{IsReportOf}
 

@@ -6,11 +6,11 @@ use Rattle.world_core.specs.Local.{Local}
 use Rattle.world_core.specs.Calls.{AreTogether, calls_in, local_at}
 use Rattle.report_lines.specs.Phases.{HasMade}
 use Rattle.client_calls.specs.Finishing.{KeepsAsked}
-use Rattle.object_orders.specs.OneWord.{one_word_shape}
-use Rattle.object_orders.specs.TallyAndCell.{tally, cell}
-use Rattle.log_program.specs.LogProgram.{log_shape}
-use Rattle.lawful_objects.specs.Replays.{last_reply}
-use Rattle.lawful_objects.specs.Forms.{IsTallyReply, IsCellReply}
+use Rattle.world_objects.specs.OneWord.{one_word_shape}
+use Rattle.world_objects.specs.TallyAndCell.{tally, cell}
+use Rattle.world_objects.specs.LogProgram.{log_shape}
+use Rattle.test_objects.specs.Replays.{last_reply}
+use Rattle.test_objects.specs.Forms.{IsTallyReply, IsCellReply}
 use Rattle.core_runs.specs.Logged.{IsLoggedBy, AreFormed}
 
 -- These are the locals of one reachable world, and each caller has made exactly its number of

@@ -6,11 +6,11 @@ use Rattle.book_base.specs.SeqSpec.{SeqSpec}
 use Rattle.book_base.specs.Cut.{IsWithin, Holds}
 use Rattle.book_base.specs.Book.{Page, page_of, IsCall}
 use Rattle.book_base.specs.BookAt.{IsBookAt, IsHeldBySomeView}
-use Rattle.book_laws.proofs.BookAt.{record_from_part, record_of-part, book_at_is_the_book_at}
+use Rattle.legal_orders.proofs.BookAt.{record_from_part, record_of-part, book_at_is_the_book_at}
 use Rattle.world_core.specs.Shape.{Shape}
 use Rattle.world_core.specs.Local.{Local}
 use Rattle.world_core.specs.Calls.{IsLocalOf, IsGathered, book_in}
-use Rattle.world_books.proofs.Validity.{books_are_valid}
+use Rattle.world_laws.proofs.Validity.{books_are_valid}
 use Rattle.row_gather.specs.declared.gathered.Gathered.{Gathered}
 use Rattle.row_gather.specs.Gathered.{IsGatheredBy}
 use Rattle.row_gather.proofs.Gathering.{is_book_of_all}

@@ -2,9 +2,9 @@
 use Rattle.std.proofs.Common.{refl, sym, subst, List}
 use Rattle.book_base.specs.Book.{Page}
 use Rattle.book_base.specs.Order.{HasLegalOrder}
-use Rattle.book_laws.proofs.BookAtLaws.{smaller_has_one}
+use Rattle.legal_orders.proofs.BookAtLaws.{smaller_has_one}
 use Rattle.world_core.specs.Calls.{book_in}
-use Rattle.world_books.proofs.Validity.{books_are_valid}
+use Rattle.world_laws.proofs.Validity.{books_are_valid}
 use Rattle.enforcer.specs.declared.outcome.Outcome.TheVariants.{Delivered, Illegal}
 use Rattle.enforcer.specs.Enforced.{OutcomesAreVerdicts, ErrorsAreFinal, IllegalOutcomesAreErrors, IllegalOutcomesAreEvidence}
 

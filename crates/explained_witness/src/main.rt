@@ -3,13 +3,13 @@
 #![tactic(auto)]
 
 ghost use Rattle.given_book.specs.Given.{IsFirstGivenFault};
-ghost use Rattle.witness_texts.specs.Explaining.{IsExplained, SaysNoneBroken};
+ghost use Rattle.given_book.specs.Explaining.{IsExplained, SaysNoneBroken};
 
 use book_base::ReadFault;
 use byte_streams::{ProgramAnswer, StdSink, StdSource, TextProgram, run_program};
+use given_book::{Explanation, explained_text};
 use std::alloc::Global;
 use std::process::ExitCode;
-use witness_texts::{Explanation, explained_text};
 
 /// Answers, in one line, which rule of its kind the given book breaks, or that it breaks none.
 #[derive(Clone, Copy)]

@@ -16,9 +16,9 @@ use Rattle.book_base.specs.Reaching.{Leaves, IsInfeasible}
 use Rattle.search_hints.specs.PruningRules.{HasEarly, rank_of}
 use Rattle.book_base.proofs.PageLemmas.{caller_from_call}
 use Rattle.book_base.specs.Next.{next_call, raised, list_after, HoldsAnswered, MayComeNext, MayStandNext, Continues}
-use Rattle.book_laws.proofs.LegalOrder.{same_call, same_place}
-use Rattle.history_rules.specs.Standing.{MayStandAtOnce, answered_place, word_of}
-use Rattle.history_rules.proofs.Exchange.{goes_on_with_it}
+use Rattle.legal_orders.proofs.LegalOrder.{same_call, same_place}
+use Rattle.legal_orders.specs.Standing.{MayStandAtOnce, answered_place, word_of}
+use Rattle.legal_orders.proofs.Exchange.{goes_on_with_it}
 use Rattle.frontier_check.specs.declared.choice.Choice.{Choice}
 use Rattle.search_hints.specs.declared.marked_callers.MarkedCallers.{MarkedCallers}
 use Rattle.book_base.specs.Pruning.{IsLeast, IsDeadEnd, StandsAtOnce, IsReached}

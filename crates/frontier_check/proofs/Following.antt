@@ -2,25 +2,25 @@
 use Rattle.std.proofs.Common.{◌≡◌, ℕ, ◌+◌, ◌*◌, ◌<◌, ◌≤◌, ◌∙◌, List, [], ◌∷◌, ◌++◌, length, get_or, set, sum, Some, refl, sym, ap, subst, inl, inr, arith}
 use Rattle.std.specs.Option.{IsSomeAnd}
 use Rattle.std.proofs.lemmas.Bool.{cases_eq}
-use Rattle.std.proofs.lemmas.List.{length-set, length-replicate}
+use Rattle.std.proofs.lemmas.List.{length_push, length-set, length-replicate}
 use Rattle.list_laws.proofs.Options.{some_from_is_some_and}
 use Rattle.book_base.specs.declared.call.Call.{Call}
 use Rattle.book_base.specs.declared.call.Place.{Place}
 use Rattle.book_base.specs.declared.call.Record.{Record}
 use Rattle.book_base.specs.declared.TheConstants.{MAX_CALLERS, MAX_CALLS}
 use Rattle.book_base.specs.SeqSpec.{SeqSpec}
-use Rattle.book_base.specs.Book.{Page, IsValid, IsSmall, IsAnswered, record_of, Precedes}
+use Rattle.book_base.specs.Book.{Page, IsCall, IsValid, IsSmall, IsAnswered, record_of, Precedes}
 use Rattle.book_base.specs.Order.{call_at, step_at, IsLegalOrder}
-use Rattle.book_base.specs.Reaching.{Reaches}
+use Rattle.book_base.specs.Reaching.{SufficesAfter, Reaches}
 use Rattle.book_base.proofs.PageLemmas.{caller_from_call}
 use Rattle.book_base.proofs.ViewLemmas.{same_call}
-use Rattle.book_base.proofs.ReachingLemmas.{no_places_reach_the_start, one_more_place_reaches_on}
+use Rattle.book_base.proofs.ReachingLemmas.{no_places_reach_the_start, one_more_place_reaches_on, suffices-list, suffices-order}
 use Rattle.book_base.specs.Next.{next_call, raised, list_after, MayComeNext, Continues}
-use Rattle.book_laws.proofs.LegalOrder.{raised_other, raised_more, raised_same, legal_order_from_continues}
-use Rattle.book_laws.proofs.Precedence.{may_come_next-from_first}
+use Rattle.legal_orders.proofs.LegalOrder.{raised_other, raised_more, raised_same, legal_order_from_continues}
+use Rattle.legal_orders.proofs.Precedence.{may_come_next-from_first}
 use Rattle.frontier_check.specs.declared.prefix.Prefix.{Prefix}
-use Rattle.frontier_check.specs.declared.walk.TheConstants.{CAPACITY}
-use Rattle.frontier_check.specs.Prefix.{no_calls, IsNext, Follow, LeavesOpen, PrefixReaches, IsPut, IsPrefix}
+use Rattle.frontier_check.specs.declared.walk.TheConstants.{MOST_CALLS}
+use Rattle.frontier_check.specs.Prefix.{no_calls, IsBookCapacity, IsNext, Follow, LeavesOpen, PrefixReaches, IsPut, IsPrefix}
 use Rattle.frontier_check.proofs.Leading.{zeros, raised_within, sum_raised, sum_small}
 
 -- places that follow one another still do with one more after them, which is next and has the reply
@@ -164,16 +164,16 @@ prefix-from_put spec book prefix put leaves =
 
 -- The prefix without places reaches the cut without calls and the first list of the object.
 pub stands-start : (spec : SeqSpec) (book : List Page) (prefix : Prefix) → IsValid book
-    → IsSmall book → length spec.init ≤ 1 → prefix.places.items ≡ [] → prefix.cut ≡ no_calls book
+    → IsSmall book → prefix.places.items ≡ [] → prefix.cut ≡ no_calls book
     → prefix.here.words ≡ spec.init → PrefixReaches spec book prefix
-stands-start spec book prefix valid small begins places cut list =
+stands-start spec book prefix valid small places cut list =
     let long : length (no_calls book) ≡ length book = length-replicate (length book) 0 in
     record {
       valid = valid;
       small = small;
       wide = ap (λ (c : List ℕ). length c) cut ∙ long;
       within = λ (i : ℕ). omega (arith, zeros book i, ap (λ (c : List ℕ). get_or c i 0) cut);
-      words = omega (arith, begins, ap (λ (l : List ℕ). length l) list);
+      calls = omega (arith, ap (λ (order : List Place). length order) places);
       reaches =
           subst (λ (order : List Place). Reaches spec book order prefix.cut prefix.here.words)
           (sym places)
@@ -184,10 +184,10 @@ stands-start spec book prefix valid small begins places cut list =
 
 -- The prefix without places is put.
 pub put-start : (spec : SeqSpec) (book : List Page) (prefix : Prefix) → IsValid book → IsSmall book
-    → length spec.init ≤ 1 → prefix.places.items ≡ [] → prefix.cut ≡ no_calls book
+    → prefix.places.items ≡ [] → prefix.cut ≡ no_calls book
     → prefix.here.words ≡ spec.init → IsPut spec book prefix
-put-start spec book prefix valid small begins places cut list = record {
-  stands = stands-start spec book prefix valid small begins places cut list;
+put-start spec book prefix valid small places cut list = record {
+  stands = stands-start spec book prefix valid small places cut list;
   follow = subst (λ (order : List Place). Follow book spec.next
       (no_calls book) spec.init order prefix.cut prefix.here.words) (sym places)
       (sym cut, sym list);
@@ -195,12 +195,12 @@ put-start spec book prefix valid small begins places cut list = record {
 
 -- After the prefix without places, whatever places continue an order make a legal one.
 pub prefix-start : (spec : SeqSpec) (book : List Page) (prefix : Prefix) → IsValid book
-    → IsSmall book → length spec.init ≤ 1 → prefix.places.items ≡ [] → prefix.cut ≡ no_calls book
+    → IsSmall book → prefix.places.items ≡ [] → prefix.cut ≡ no_calls book
     → prefix.here.words ≡ spec.init → IsPrefix spec book prefix
-prefix-start spec book prefix valid small begins places cut list =
+prefix-start spec book prefix valid small places cut list =
     let long : length (no_calls book) ≡ length book = length-replicate (length book) 0 in
     record {
-      stands = stands-start spec book prefix valid small begins places cut list;
+      stands = stands-start spec book prefix valid small places cut list;
       legal = λ rest goes.
           subst (λ (order : List Place). IsLegalOrder spec book (order ++ rest)) (sym places)
           (legal_order_from_continues book spec (no_calls book) rest (omega arith) (zeros book)
@@ -208,12 +208,26 @@ prefix-start spec book prefix valid small begins places cut list =
           (subst (λ (l : List ℕ). Continues book spec.next prefix.cut l rest) list goes)));
     }
 
--- bounds for a place that is next after a prefix: on its caller, its number, and the words of the
--- list
+-- bounds for a place that is next after a prefix: on its caller, its number, and the places before
 pub record Putting (book : List Page) (prefix : Prefix) (place : Place) : Type 0 where
   pub caller : place.caller < length prefix.cut
   pub number : place.number < MAX_CALLS
-  pub words : length prefix.here.words < CAPACITY
+  pub calls : length prefix.places.items < MOST_CALLS
+
+-- After a prefix that reaches its cut and its list, a book that has a further call of a caller has
+-- more calls than the prefix has places.
+pub calls_left : (spec : SeqSpec) (book : List Page) (prefix : Prefix) (call : Call)
+    → PrefixReaches spec book prefix → IsCall book call
+    → call.number ≡ get_or prefix.cut call.caller 0 → length prefix.places.items < MOST_CALLS
+calls_left spec book prefix call s is at =
+    let there : call.caller < length book = caller_from_call book call.caller call.number is in
+    let inside : call.caller < length prefix.cut = omega (arith, s.wide) in
+    let longer : length (raised prefix.cut call.caller) ≡ length book =
+    length-set prefix.cut call.caller (get_or prefix.cut call.caller 0 + 1) ∙ s.wide in
+    let few : sum (raised prefix.cut call.caller) ≤ MAX_CALLERS * MAX_CALLS =
+    sum_small book (raised prefix.cut call.caller) s.small longer
+    (raised_within book prefix.cut call inside is at s.within) in
+    omega (arith, s.calls, few, sum_raised prefix.cut call.caller inside)
 
 -- The bounds hold for each place that is next after a prefix that reaches its cut and its list.
 pub putting : (spec : SeqSpec) (book : List Page) (prefix : Prefix) (place : Place)
@@ -221,28 +235,29 @@ pub putting : (spec : SeqSpec) (book : List Page) (prefix : Prefix) (place : Pla
 putting spec book prefix place s is =
     let there : place.caller < length book =
     caller_from_call book place.caller place.number is.is_call in
-    let inside : place.caller < length prefix.cut = omega (arith, s.wide) in
-    let longer : length (raised prefix.cut place.caller) ≡ length book =
-    length-set prefix.cut place.caller (get_or prefix.cut place.caller 0 + 1) ∙ s.wide in
-    let few : sum (raised prefix.cut place.caller) ≤ MAX_CALLERS * MAX_CALLS =
-    sum_small book (raised prefix.cut place.caller) s.small longer
-    (raised_within book prefix.cut (call_at place) inside is.is_call is.next s.within) in
-    let more = sum_raised prefix.cut place.caller inside in
     record {
-      caller = inside;
+      caller = omega (arith, s.wide);
       number = omega (arith, is.is_call, s.small.calls place.caller);
-      words = omega (arith, s.words);
+      calls = calls_left spec book prefix (call_at place) s is.is_call is.next;
     }
+
+-- After the places of a prefix a capacity that suffices in each book suffices for the operations
+-- that a book may have beside them.
+pub suffices-prefix : (spec : SeqSpec) (book : List Page) (prefix : Prefix) (left capacity : ℕ)
+    → PrefixReaches spec book prefix → length prefix.places.items + left ≤ MOST_CALLS
+    → IsBookCapacity spec capacity → SufficesAfter spec.next prefix.here.words left capacity
+suffices-prefix spec book prefix left capacity s few big =
+    suffices-order spec book prefix.places.items prefix.cut prefix.here.words MOST_CALLS left
+    capacity s.reaches few big
 
 -- A prefix that is put stays so with one more place, which is next and has the reply that the
 -- object gives.
 pub put-more : (spec : SeqSpec) (book : List Page) (old new : Prefix) (place : Place)
-    → ((list : List ℕ) (op : ℕ) → length (spec.next list op).0 ≤ length list + 1)
     → IsPut spec book old → IsNext book old.cut place
     → (spec.next old.here.words (step_at book place).0).1 ≡ place.reply
     → new.places.items ≡ old.places.items ++ place ∷ [] → new.cut ≡ raised old.cut place.caller
     → new.here.words ≡ list_after book spec.next old.here.words place → IsPut spec book new
-put-more spec book old new place grows put is gives places cut list =
+put-more spec book old new place put is gives places cut list =
     let s = put.stands in
     let p = putting spec book old place s is in
     let one : Reaches spec book (old.places.items ++ place ∷ []) (raised old.cut place.caller)
@@ -265,11 +280,11 @@ put-more spec book old new place grows put is gives places cut list =
           raised_within book old.cut (call_at place) p.caller is.is_call is.next s.within i,
           ap (λ (c : List ℕ). get_or c i 0) cut,
         );
-        words = omega (
+        calls = omega (
           arith,
-          s.words,
-          grows old.here.words (step_at book place).0,
-          ap (λ (l : List ℕ). length l) list,
+          s.calls,
+          ap (λ (order : List Place). length order) places,
+          length_push old.places.items place,
           ap (λ (c : List ℕ). sum c) cut,
           sum_raised old.cut place.caller p.caller,
         );
@@ -289,10 +304,12 @@ put-more spec book old new place grows put is gives places cut list =
           (old.places.items ++ place ∷ []) (raised old.cut place.caller) l) (sym list) follow));
     }
 
--- The list of a prefix that reaches it has no more words than the capacity of a state.
+-- The list of a prefix that reaches it fits a capacity that suffices in each book.
 pub stands-fit : (spec : SeqSpec) (book : List Page) (prefix : Prefix)
-    → PrefixReaches spec book prefix → length prefix.here.words ≤ CAPACITY
-stands-fit spec book prefix s =
+    → PrefixReaches spec book prefix → (capacity : ℕ) → IsBookCapacity spec capacity
+    → length prefix.here.words ≤ capacity
+stands-fit spec book prefix s capacity big =
     let few : sum prefix.cut ≤ MAX_CALLERS * MAX_CALLS =
     sum_small book prefix.cut s.small s.wide s.within in
-    omega (arith, s.words)
+    suffices-list spec.next prefix.here.words 0 capacity
+    (suffices-prefix spec book prefix 0 capacity s (omega (arith, s.calls)) big)

@@ -2,7 +2,7 @@
 use Rattle.std.proofs.Common.{◌≡◌, ℕ, ◌+◌, ◌*◌, ◌<◌, ◌≤◌, ◌∙◌, List, [], ◌∷◌, ◌++◌, length, get_or, set, sum, Option, Some, None, Result, Ok, Err, IfOk, IfNone, refl, sym, ap, subst, inl, inr, arith}
 use Rattle.std.specs.List.{All}
 use Rattle.std.proofs.lemmas.Bool.{cases_eq}
-use Rattle.std.proofs.lemmas.List.{append-nil, append_assoc, length-set, length-replicate, set-set, set-get_or}
+use Rattle.std.proofs.lemmas.List.{append-nil, append_assoc, length-append, length-map, length-set, length-replicate, set-set, set-get_or}
 use Rattle.std.proofs.lemmas.List.Sums.{sum_by-set, sum_by-le}
 use Rattle.std.proofs.lemmas.List.Elements.{All-from_get_or}
 use Rattle.list_laws.proofs.Places.{get_or-replicate_default}
@@ -11,16 +11,16 @@ use Rattle.book_base.specs.declared.call.Place.{Place}
 use Rattle.book_base.specs.declared.TheConstants.{MAX_CALLERS, MAX_CALLS}
 use Rattle.book_base.specs.SeqSpec.{SeqSpec}
 use Rattle.book_base.specs.Book.{Page, calls_of, IsCall, IsSmall}
-use Rattle.book_base.specs.Order.{call_at, step_at, IsLegalOrder, HasLegalOrder}
-use Rattle.book_base.specs.Reaching.{Reaches}
-use Rattle.book_base.proofs.ReachingLemmas.{one_more_place_reaches_on}
+use Rattle.book_base.specs.Order.{call_at, IsLegalOrder, HasLegalOrder}
+use Rattle.book_base.specs.Reaching.{SufficesAfter, Reaches}
+use Rattle.book_base.proofs.ReachingLemmas.{one_more_place_reaches_on, suffices-list, suffices-next, suffices-order}
 use Rattle.book_base.proofs.PageLemmas.{caller_from_call}
 use Rattle.book_base.specs.Next.{raised, list_after, HoldsAnswered, MayComeNext, Continues}
-use Rattle.book_laws.proofs.LegalOrder.{raised_same, raised_other, within_cut, continues_from_legal_order}
+use Rattle.legal_orders.proofs.LegalOrder.{raised_same, raised_other, within_cut, continues_from_legal_order}
 use Rattle.frontier_check.specs.declared.walk.WalkFrame.{WalkFrame}
-use Rattle.frontier_check.specs.declared.walk.TheConstants.{CAPACITY}
+use Rattle.frontier_check.specs.declared.walk.TheConstants.{MOST_CALLS}
 use Rattle.frontier_check.specs.declared.prefix.Prefix.{Prefix}
-use Rattle.frontier_check.specs.Prefix.{no_calls, IsPrefix}
+use Rattle.frontier_check.specs.Prefix.{no_calls, IsBookCapacity, IsPrefix}
 use Rattle.book_base.specs.Pruning.{IsDeadEnd, IsReached}
 use Rattle.frontier_check.specs.Search.{places_of, IsOpen, FramesLead, MayGrow, order_of}
 
@@ -186,28 +186,24 @@ raised_within book cut call inside is at within i =
     ]
 
 -- how far frames lead: the cut there has as many counts as the first one, counts one call more for
--- each frame, and no more calls than the book has; the list has at most one word more for each
--- frame
-pub record Reach (book : List Page) (cut list : List ℕ) (frames : List WalkFrame)
-    (to_cut to_list : List ℕ) : Type 0 where
+-- each frame, and no more calls than the book has
+pub record Reach (book : List Page) (cut : List ℕ) (frames : List WalkFrame)
+    (to_cut : List ℕ) : Type 0 where
   pub wide : length to_cut ≡ length cut
   pub calls : sum to_cut ≡ sum cut + length frames
-  pub words : length to_list ≤ length list + length frames
   pub within : (i : ℕ) → get_or to_cut i 0 ≤ calls_of book i
 
 leads-reach : (book : List Page) (next : List ℕ → ℕ → List ℕ × ℕ) (cut list : List ℕ)
     (frames : List WalkFrame) (to_cut to_list : List ℕ)
-    → ((list : List ℕ) (op : ℕ) → length (next list op).0 ≤ length list + 1)
     → length book ≤ length cut → ((i : ℕ) → get_or cut i 0 ≤ calls_of book i)
     → FramesLead book next cut list frames to_cut to_list
-    → Reach book cut list frames to_cut to_list
-leads-reach book next cut list [] to_cut to_list grows wide within (same_cut, same_list) = record {
+    → Reach book cut frames to_cut
+leads-reach book next cut list [] to_cut to_list wide within (same_cut, same_list) = record {
   wide = ap (λ (c : List ℕ). length c) (sym same_cut);
   calls = omega (arith, ap (λ (c : List ℕ). sum c) same_cut);
-  words = omega (arith, ap (λ (l : List ℕ). length l) same_list);
   within = λ (i : ℕ). omega (arith, within i, ap (λ (c : List ℕ). get_or c i 0) same_cut);
 }
-leads-reach book next cut list (first ∷ frames) to_cut to_list grows wide within
+leads-reach book next cut list (first ∷ frames) to_cut to_list wide within
     (words, here, later) =
     let may : MayComeNext book cut (call_at first.place) = here.sound.0.may_come in
     let inside : first.place.caller < length cut = (let there =
@@ -215,12 +211,11 @@ leads-reach book next cut list (first ∷ frames) to_cut to_list grows wide with
     let long : length (raised cut first.place.caller) ≡ length cut =
     length-set cut first.place.caller (get_or cut first.place.caller 0 + 1) in
     let rest = leads-reach book next (raised cut first.place.caller)
-    (list_after book next list first.place) frames to_cut to_list grows (omega arith)
+    (list_after book next list first.place) frames to_cut to_list (omega arith)
     (raised_within book cut (call_at first.place) inside may.is_call may.next within) later in
     record {
       wide = rest.wide ∙ long;
       calls = omega (arith, rest.calls, sum_raised cut first.place.caller inside);
-      words = omega (arith, rest.words, grows list (step_at book first.place).0);
       within = rest.within;
     }
 
@@ -234,27 +229,33 @@ sum_small book counts small wide within =
     let callers = small.callers in
     omega (arith, sum_by-le (λ (n : ℕ). n) MAX_CALLS counts few)
 
+-- Where a capacity suffices for one operation after a list, the list and each next one fit it.
+pub may_grow : (next : List ℕ → ℕ → List ℕ × ℕ) (list : List ℕ) (capacity : ℕ)
+    → SufficesAfter next list 1 capacity → MayGrow next list capacity
+may_grow next list capacity fits = record {
+  here = suffices-list next list 1 capacity fits;
+  after = λ op. suffices-next next list 1 capacity op (omega arith) fits;
+}
+
 -- Bounds at the cut and the list of a walk after which the call at a place may come next: on the
 -- caller and the number of that place, on the frames, and on the words of the list.
-pub record WalkFacts (book : List Page) (frames : List WalkFrame) (cut list : List ℕ)
-    (place : Place) : Type 0 where
+pub record WalkFacts (book : List Page) (spec : SeqSpec) (frames : List WalkFrame)
+    (cut list : List ℕ) (place : Place) : Type 0 where
   pub wide : length cut ≡ length book
   pub caller : place.caller < length cut
   pub number : place.number < MAX_CALLS
-  pub depth : length frames < CAPACITY
-  pub fits : MayGrow cut list
-  pub after : length frames + 1 < CAPACITY
+  pub depth : length frames < MOST_CALLS
+  pub fits : (capacity : ℕ) → IsBookCapacity spec capacity → MayGrow spec.next list capacity
 
 -- Where frames lead from the end of a prefix to a cut and a list after which a call may come next,
 -- these bounds hold there.
 pub standing : (book : List Page) (prefix : Prefix) (spec : SeqSpec) (frames : List WalkFrame)
     (cut list : List ℕ) (place : Place) → IsPrefix spec book prefix
-    → ((list : List ℕ) (op : ℕ) → length (spec.next list op).0 ≤ length list + 1)
     → FramesLead book spec.next prefix.cut prefix.here.words frames cut list
-    → MayComeNext book cut (call_at place) → WalkFacts book frames cut list place
-standing book prefix spec frames cut list place f grows leads may =
+    → MayComeNext book cut (call_at place) → WalkFacts book spec frames cut list place
+standing book prefix spec frames cut list place f leads may =
     let small = f.stands.small in
-    let reach = leads-reach book spec.next prefix.cut prefix.here.words frames cut list grows
+    let reach = leads-reach book spec.next prefix.cut prefix.here.words frames cut list
     (omega (arith, f.stands.wide)) f.stands.within leads in
     let wide : length cut ≡ length book = reach.wide ∙ f.stands.wide in
     let there : place.caller < length book =
@@ -266,23 +267,30 @@ standing book prefix spec frames cut list place f grows leads may =
     sum_small book (raised cut place.caller) small longer
     (raised_within book cut (call_at place) inside may.is_call may.next reach.within) in
     let more = sum_raised cut place.caller inside in
+    let order = prefix.places.items ++ order_of frames in
+    let long : length order ≡ length prefix.places.items + length frames =
+    length-append prefix.places.items (order_of frames)
+    ∙ ap (λ (n : ℕ). length prefix.places.items + n)
+    (length-map frames (λ (frame : WalkFrame). frame.place)) in
     record {
       wide = wide;
       caller = inside;
       number = omega (arith, may.is_call, small.calls place.caller);
       depth = omega (arith, reach.calls);
-      fits = omega (arith, reach.calls, reach.words, f.stands.words);
-      after = omega (arith, reach.calls);
+      fits = λ capacity big. may_grow spec.next list capacity
+          (suffices-order spec book order cut list MOST_CALLS 1 capacity
+          (leads-reaches spec book prefix.places.items prefix.cut prefix.here.words frames cut list
+          (omega (arith, f.stands.wide)) f.stands.reaches leads)
+          (omega (arith, long, reach.calls, f.stands.calls)) big);
     }
 
 -- A cut to which frames lead from the end of a prefix has one count for each caller.
 pub leads-wide : (book : List Page) (prefix : Prefix) (spec : SeqSpec) (frames : List WalkFrame)
     (cut list : List ℕ) → IsPrefix spec book prefix
-    → ((list : List ℕ) (op : ℕ) → length (spec.next list op).0 ≤ length list + 1)
     → FramesLead book spec.next prefix.cut prefix.here.words frames cut list
     → length cut ≡ length book
-leads-wide book prefix spec frames cut list f grows leads =
-    (leads-reach book spec.next prefix.cut prefix.here.words frames cut list grows
+leads-wide book prefix spec frames cut list f leads =
+    (leads-reach book spec.next prefix.cut prefix.here.words frames cut list
     (omega (arith, f.stands.wide)) f.stands.within leads).wide ∙ f.stands.wide
 
 -- Where frames lead from the end of a prefix to a cut with all answered calls, the places of the

@@ -6,4 +6,4 @@ pub mod Following
 pub mod Resuming
 pub mod Weighing
 pub mod Walking
-pub mod Replied
+pub mod Tested

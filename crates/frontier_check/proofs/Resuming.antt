@@ -16,12 +16,11 @@ use Rattle.book_base.specs.Reaching.{list_after_run, Reaches}
 use Rattle.book_base.specs.Next.{raised, list_after}
 use Rattle.book_base.proofs.PageLemmas.{caller_from_call, caller_from_answer}
 use Rattle.book_base.proofs.ViewLemmas.{answer_stands, answered_at}
-use Rattle.book_laws.proofs.LegalOrder.{raised_same, raised_other}
+use Rattle.legal_orders.proofs.LegalOrder.{raised_same, raised_other}
 use Rattle.frontier_check.specs.declared.prefix.Prefix.{Prefix}
 use Rattle.frontier_check.specs.declared.kept_order.OrderMark.{OrderMark}
 use Rattle.frontier_check.specs.declared.kept_order.KeptOrder.{KeptOrder}
-use Rattle.frontier_check.specs.declared.walk.TheConstants.{CAPACITY}
-use Rattle.frontier_check.specs.Prefix.{no_calls, Follow, IsPut}
+use Rattle.frontier_check.specs.Prefix.{no_calls, IsBookCapacity, Follow, IsPut}
 use Rattle.frontier_check.specs.Standing.{HasGrown, IsQuiet, IsMark, AreMarks, IsStandingFor, IsAsWide, StillStands, IsMarkAtEnd, AddsMarks}
 use Rattle.frontier_check.proofs.Following.{stands-fit}
 
@@ -183,8 +182,12 @@ put_stays spec a b old new grown none valid small put places cut list =
         wide = ap (λ (c : List ℕ). length c) cut ∙ (s.wide ∙ sym grown.callers);
         within = λ (i : ℕ). omega
             (arith, ap (λ (c : List ℕ). get_or c i 0) cut, s.within i, calls_rise a b grown i);
-        words = omega
-            (arith, s.words, ap (λ (l : List ℕ). length l) list, ap (λ (c : List ℕ). sum c) cut);
+        calls = omega (
+          arith,
+          s.calls,
+          ap (λ (order : List Place). length order) places,
+          ap (λ (c : List ℕ). sum c) cut,
+        );
         reaches = subst (λ (order : List Place). Reaches spec b order new.cut new.here.words)
             (sym places)
             (subst (λ (c : List ℕ). Reaches spec b old.places.items c new.here.words) (sym cut)
@@ -275,11 +278,11 @@ module _ (spec : SeqSpec) where
   )
 
   mark_fits : (book : List Page) (order : List Place) (m : OrderMark) → IsMark spec book order m
-      → length m.words.items ≤ CAPACITY
-  mark_fits book order m is = omega (
+      → (capacity : ℕ) → IsBookCapacity spec capacity → length m.words.items ≤ capacity
+  mark_fits book order m is capacity big = omega (
     arith,
     ap (λ (l : List ℕ). length l) is.words,
-    stands-fit spec is.earlier is.prefix is.put.stands,
+    stands-fit spec is.earlier is.prefix is.put.stands capacity big,
   )
 
   -- a mark at the end of a prefix that is put is a mark of its places
@@ -367,13 +370,15 @@ module _ (spec : SeqSpec) where
   marks_wide book order ms h k m low is =
       mark_wide book order m (marks_at book order 0 ms k m low is h).1
 
-  -- Each mark of an order counts no more places than the order has, and its words fit the capacity.
+  -- Each mark of an order counts no more places than the order has, and its words fit a capacity
+  -- that suffices in each book.
   pub marks_fit : (book : List Page) (order : List Place) (ms : List OrderMark)
       → AreMarks spec book order 0 ms → (k : ℕ) (m : OrderMark) → k < length ms → m ≡ get_or ms k m
-      → (m.len ≤ length order) × (length m.words.items ≤ CAPACITY)
-  marks_fit book order ms h k m low is =
+      → (capacity : ℕ) → IsBookCapacity spec capacity
+      → (m.len ≤ length order) × (length m.words.items ≤ capacity)
+  marks_fit book order ms h k m low is capacity big =
       let found = (marks_at book order 0 ms k m low is h).1 in
-      (mark_low book order m found, mark_fits book order m found)
+      (mark_low book order m found, mark_fits book order m found capacity big)
 
   -- The marks up to one of them, and that one with them, are marks of the places before it.
   pub marks_taken : (book : List Page) (order places : List Place) (ms some : List OrderMark)

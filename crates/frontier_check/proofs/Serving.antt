@@ -12,14 +12,14 @@ use Rattle.book_base.specs.Book.{Page, IsValid, IsCall, IsAnswered, answers_of, 
 use Rattle.book_base.specs.Order.{call_at, step_at}
 use Rattle.book_base.specs.Next.{list_after, MayStandNext, Continues}
 use Rattle.book_base.specs.Pruning.{HasOneOpen, ViewsAreWithin}
-use Rattle.book_laws.proofs.LegalOrder.{same_call, answer_stands}
-use Rattle.pruning_laws.specs.Twins.{IsTwin, DoesTheSame}
-use Rattle.pruning_laws.proofs.Exchanging.{twin_serves}
-use Rattle.pruning_laws.proofs.Omitting.{idle_may_be_left_out}
+use Rattle.legal_orders.proofs.LegalOrder.{same_call, answer_stands}
+use Rattle.legal_orders.specs.Twins.{IsTwin, DoesTheSame}
+use Rattle.legal_orders.proofs.Exchanging.{twin_serves}
+use Rattle.legal_orders.proofs.Omitting.{idle_may_be_left_out}
 use Rattle.frontier_check.specs.declared.choice.Choice.{Choice}
 use Rattle.frontier_check.specs.Search.{IsAmong, places_of, GoesOnBy, IsOneMore}
 use Rattle.frontier_check.specs.Twin.{HasOperationOf, ServesFor, IsKeptOf, IsAdded, IsExchanged}
-use Rattle.next_calls.proofs.Least.{views_comparable}
+use Rattle.search_hints.proofs.Least.{views_comparable}
 use Rattle.frontier_check.proofs.Choosing.{same_next, among-insert_old, among-insert_new, all-insert, more-kept, more-insert}
 
 -- choices by index, and what holds of all their places

@@ -9,17 +9,17 @@ use Rattle.book_base.specs.SeqSpec.{SeqSpec}
 use Rattle.book_base.specs.Book.{Page}
 use Rattle.book_base.specs.Order.{IsLegalOrder}
 use Rattle.book_base.specs.Next.{next_call, raised, list_after, HoldsAnswered, MayComeNext}
-use Rattle.book_laws.proofs.LegalOrder.{answer_stands}
+use Rattle.legal_orders.proofs.LegalOrder.{answer_stands}
 use Rattle.frontier_check.specs.declared.choice.Choice.{Choice}
 use Rattle.frontier_check.specs.declared.walk.WalkFrame.{WalkFrame}
 use Rattle.frontier_check.specs.declared.walk.Walk.{Walk}
-use Rattle.frontier_check.specs.declared.walk.TheConstants.{CAPACITY}
+use Rattle.frontier_check.specs.declared.walk.TheConstants.{MOST_CALLS}
 use Rattle.frontier_check.specs.Memo.{IsMemo, Remembers}
 use Rattle.frontier_check.specs.declared.prefix.Prefix.{Prefix}
-use Rattle.frontier_check.specs.Prefix.{IsPrefix}
+use Rattle.frontier_check.specs.Prefix.{IsBookCapacity, IsPrefix}
 use Rattle.book_base.specs.Pruning.{IsLeast, IsDeadEnd, IsReached}
 use Rattle.frontier_check.specs.Search.{places_of, MayGrow, IsOpen, FramesLead, IsWalk, order_of, weigh, weight}
-use Rattle.next_calls.proofs.Least.{may_come-from_least}
+use Rattle.search_hints.proofs.Least.{may_come-from_least}
 use Rattle.frontier_check.proofs.Choosing.{open-last, open-rest, dead_end}
 use Rattle.frontier_check.proofs.Leading.{leads-push, leads-pop, standing, reached-from_leads, legal-from_leads, lowered}
 use Rattle.frontier_check.proofs.Weighing.{weigh-push, weigh-skip, weigh-pop}
@@ -52,7 +52,7 @@ pub walk-choose : (book : List Page) (prefix : Prefix) (spec : SeqSpec) (old new
     → old.choices.items ≡ new.choices.items ++ choice ∷ [] → new.frames ≡ old.frames
     → new.counts ≡ old.counts → new.here ≡ old.here → new.memo ≡ old.memo
     → IsWalk book prefix spec new (choice.place ∷ places_of new.choices.items)
-    × (weigh CAPACITY new.frames.items (length new.choices.items + 1) ≡ weight old)
+    × (weigh MOST_CALLS new.frames.items (length new.choices.items + 1) ≡ weight old)
 walk-choose book prefix spec old new choice h choices frames counts here memo =
     let more : IsOpen book spec.next old.counts.items old.here.words
     (places_of (new.choices.items ++ choice ∷ [])) =
@@ -77,10 +77,10 @@ walk-choose book prefix spec old new choice h choices frames counts here memo =
         dead = λ cut list there. h.dead cut list (subst (λ m. Remembers m cut list) memo there);
         memo = subst (λ m. IsMemo m) (sym memo) h.memo;
         callers = ap (λ m. m.callers) memo ∙ h.callers;
-        room = ap (λ s. s.room) here ∙ h.room;
+        room = subst (λ s. IsBookCapacity spec s.room) (sym here) h.room;
       },
-      ap (λ v. weigh CAPACITY v.items (length new.choices.items + 1)) frames
-          ∙ ap (λ (n : ℕ). weigh CAPACITY old.frames.items n) long,
+      ap (λ v. weigh MOST_CALLS v.items (length new.choices.items + 1)) frames
+          ∙ ap (λ (n : ℕ). weigh MOST_CALLS old.frames.items n) long,
     )
 
 -- A walk with nothing left to try stays right once its memo remembers its cut and its list as well.
@@ -105,7 +105,7 @@ walk-remember book prefix spec old new h frames counts here memo callers only = 
   ];
   memo = memo;
   callers = callers ∙ h.callers;
-  room = ap (λ s. s.room) here ∙ h.room;
+  room = subst (λ s. IsBookCapacity spec s.room) (sym here) h.room;
 }
 
 -- A walk goes without a place that leads to a remembered dead end, and weighs less then.
@@ -115,13 +115,13 @@ pub walk-skip : (book : List Page) (prefix : Prefix) (spec : SeqSpec) (old new :
     (list_after book spec.next old.here.words place) → new.frames ≡ old.frames
     → new.counts.items ≡ old.counts.items → new.here ≡ old.here → new.choices ≡ old.choices
     → new.memo ≡ old.memo → IsWalk book prefix spec new (places_of new.choices.items)
-    × (weight new < weigh CAPACITY old.frames.items (length old.choices.items + 1))
+    × (weight new < weigh MOST_CALLS old.frames.items (length old.choices.items + 1))
 walk-skip book prefix spec old new place h there frames counts here choices memo =
     let dead = h.dead (raised old.counts.items place.caller)
     (list_after book spec.next old.here.words place) there in
-    let same : weight new ≡ weigh CAPACITY old.frames.items (length old.choices.items) =
-    ap (λ v. weigh CAPACITY v.items (length new.choices.items)) frames
-    ∙ ap (λ v. weigh CAPACITY old.frames.items (length v.items)) choices in (
+    let same : weight new ≡ weigh MOST_CALLS old.frames.items (length old.choices.items) =
+    ap (λ v. weigh MOST_CALLS v.items (length new.choices.items)) frames
+    ∙ ap (λ v. weigh MOST_CALLS old.frames.items (length v.items)) choices in (
       record {
         begins = h.begins;
         leads =
@@ -137,9 +137,9 @@ walk-skip book prefix spec old new place h there frames counts here choices memo
         dead = λ cut list at. h.dead cut list (subst (λ m. Remembers m cut list) memo at);
         memo = subst (λ m. IsMemo m) (sym memo) h.memo;
         callers = ap (λ m. m.callers) memo ∙ h.callers;
-        room = ap (λ s. s.room) here ∙ h.room;
+        room = subst (λ s. IsBookCapacity spec s.room) (sym here) h.room;
       },
-      omega (arith, same, weigh-skip CAPACITY old.frames.items (length old.choices.items)),
+      omega (arith, same, weigh-skip MOST_CALLS old.frames.items (length old.choices.items)),
     )
 
 -- A walk is one frame deeper than another: a frame is put at its end that has the list and the
@@ -173,23 +173,22 @@ deeper-leads book prefix spec old new frame h d =
 -- tried and are no more than the callers of the book.
 pub walk-deeper : (book : List Page) (prefix : Prefix) (spec : SeqSpec) (old new : Walk)
     (frame : WalkFrame)
-    → ((list : List ℕ) (op : ℕ) → length (spec.next list op).0 ≤ length list + 1)
     → IsWalk book prefix spec old (frame.place ∷ places_of old.choices.items)
     → IsDeeper book spec.next old new frame
     → IsOpen book spec.next new.counts.items new.here.words (places_of new.choices.items)
     → length new.choices.items ≤ length book
     → IsWalk book prefix spec new (places_of new.choices.items)
-    × (weight new < weigh CAPACITY old.frames.items (length old.choices.items + 1))
-walk-deeper book prefix spec old new frame grows h d here few =
+    × (weight new < weigh MOST_CALLS old.frames.items (length old.choices.items + 1))
+walk-deeper book prefix spec old new frame h d here few =
     let s = standing book prefix spec old.frames.items old.counts.items old.here.words
-    frame.place h.begins grows h.leads h.here.sound.0.may_come in
+    frame.place h.begins h.leads h.here.sound.0.may_come in
     let callers = h.begins.stands.small.callers in
     let same : weight new
-    ≡ weigh CAPACITY (old.frames.items ++ frame ∷ []) (length new.choices.items) =
-    ap (λ (ls : List WalkFrame). weigh CAPACITY ls (length new.choices.items)) d.frames in
-    let more : weigh CAPACITY old.frames.items (length frame.choices.items + 1)
-    ≡ weigh CAPACITY old.frames.items (length old.choices.items + 1) =
-    ap (λ (cs : List Choice). weigh CAPACITY old.frames.items (length cs + 1)) d.choices in (
+    ≡ weigh MOST_CALLS (old.frames.items ++ frame ∷ []) (length new.choices.items) =
+    ap (λ (ls : List WalkFrame). weigh MOST_CALLS ls (length new.choices.items)) d.frames in
+    let more : weigh MOST_CALLS old.frames.items (length frame.choices.items + 1)
+    ≡ weigh MOST_CALLS old.frames.items (length old.choices.items + 1) =
+    ap (λ (cs : List Choice). weigh MOST_CALLS old.frames.items (length cs + 1)) d.choices in (
       record {
         begins = h.begins;
         leads = deeper-leads book prefix spec old new frame h d;
@@ -197,13 +196,14 @@ walk-deeper book prefix spec old new frame grows h d here few =
         dead = λ cut list at. h.dead cut list (subst (λ m. Remembers m cut list) d.memo at);
         memo = subst (λ m. IsMemo m) (sym d.memo) h.memo;
         callers = ap (λ m. m.callers) d.memo ∙ h.callers;
-        room = d.room ∙ h.room;
+        room = subst (λ (n : ℕ). IsBookCapacity spec n) (sym d.room) h.room;
       },
       omega (
         arith,
         same,
         more,
-        weigh-push CAPACITY old.frames.items frame (length new.choices.items) s.depth (omega arith),
+        weigh-push MOST_CALLS old.frames.items frame (length new.choices.items) s.depth
+            (omega arith),
       ),
     )
 
@@ -243,15 +243,14 @@ leads-to book prefix spec old frame cut list h to =
     (leads-push book spec.next prefix.cut prefix.here.words old.frames.items old.counts.items
     old.here.words frame h.leads to.words here)
 
--- Where a frame leads from a walk to a cut after which an answered call is due, one more word fits
--- the list there.
+-- Where a frame leads from a walk to a cut after which an answered call is due, each next list fits
+-- a capacity that suffices in each book.
 pub deeper-fits : (book : List Page) (prefix : Prefix) (spec : SeqSpec) (old : Walk)
     (frame : WalkFrame) (cut list : List ℕ) (first : ℕ)
-    → ((list : List ℕ) (op : ℕ) → length (spec.next list op).0 ≤ length list + 1)
     → IsWalk book prefix spec old (frame.place ∷ places_of old.choices.items)
     → LeadsTo book spec.next old frame cut list → IsLeast book cut (length book) first
-    → MayGrow cut list
-deeper-fits book prefix spec old frame cut list first grows h to least =
+    → (capacity : ℕ) → IsBookCapacity spec capacity → MayGrow spec.next list capacity
+deeper-fits book prefix spec old frame cut list first h to least =
     let valid = h.begins.stands.valid in
     let place : Place = record { caller = first; number = get_or cut first 0; reply = 0 } in
     let there = answer_stands book (next_call cut first) least.answered in
@@ -260,7 +259,7 @@ deeper-fits book prefix spec old frame cut list first grows h to least =
     may_come-from_least book cut first first there.0.view valid least
     (λ (r : Record) at. ap (λ (x : Record). x.view) (same_Some r there.0 (sym at ∙ there.1)))
     (omega (arith, own)) in
-    (standing book prefix spec (old.frames.items ++ frame ∷ []) cut list place h.begins grows
+    (standing book prefix spec (old.frames.items ++ frame ∷ []) cut list place h.begins
     (leads-to book prefix spec old frame cut list h to) may).fits
 
 -- Some order reaches the cut and the list to which a frame leads from a walk, and whatever places
@@ -280,7 +279,7 @@ pub walk-back : (book : List Page) (prefix : Prefix) (spec : SeqSpec) (old new :
     → new.here.words ≡ frame.words.items → new.here.room ≡ old.here.room
     → new.choices ≡ frame.choices → new.memo ≡ old.memo
     → IsWalk book prefix spec new (places_of new.choices.items)
-    × (weight new < weigh CAPACITY old.frames.items 0)
+    × (weight new < weigh MOST_CALLS old.frames.items 0)
 walk-back book prefix spec old new frame h frames counts here room choices memo =
     let back = leads-pop book spec.next prefix.cut prefix.here.words new.frames.items frame
     old.counts.items old.here.words
@@ -299,11 +298,11 @@ walk-back book prefix spec old new frame h frames counts here room choices memo 
     back.to_cut_is
     (subst (λ (l : List ℕ). IsDeadEnd book spec.next old.counts.items l) back.to_list_is
     (dead_end book spec.next old.counts.items old.here.words h.here)) in
-    let same : weight new ≡ weigh CAPACITY new.frames.items (length frame.choices.items) =
-    ap (λ v. weigh CAPACITY new.frames.items (length v.items)) choices in
-    let old_is : weigh CAPACITY old.frames.items 0
-    ≡ weigh CAPACITY (new.frames.items ++ frame ∷ []) 0 =
-    ap (λ (ls : List WalkFrame). weigh CAPACITY ls 0) frames in (
+    let same : weight new ≡ weigh MOST_CALLS new.frames.items (length frame.choices.items) =
+    ap (λ v. weigh MOST_CALLS new.frames.items (length v.items)) choices in
+    let old_is : weigh MOST_CALLS old.frames.items 0
+    ≡ weigh MOST_CALLS (new.frames.items ++ frame ∷ []) 0 =
+    ap (λ (ls : List WalkFrame). weigh MOST_CALLS ls 0) frames in (
       record {
         begins = h.begins;
         leads =
@@ -317,23 +316,23 @@ walk-back book prefix spec old new frame h frames counts here room choices memo 
         dead = λ c l at. h.dead c l (subst (λ m. Remembers m c l) memo at);
         memo = subst (λ m. IsMemo m) (sym memo) h.memo;
         callers = ap (λ m. m.callers) memo ∙ h.callers;
-        room = room ∙ h.room;
+        room = subst (λ (n : ℕ). IsBookCapacity spec n) (sym room) h.room;
       },
-      omega (arith, same, old_is, weigh-pop CAPACITY new.frames.items frame),
+      omega (arith, same, old_is, weigh-pop MOST_CALLS new.frames.items frame),
     )
 
 -- bounds on the last frame of a walk: on the caller and the number of its place, and on its words
-pub record LastLevel (old : Walk) (frame : WalkFrame) : Type 0 where
+pub record LastLevel (spec : SeqSpec) (old : Walk) (frame : WalkFrame) : Type 0 where
   pub caller : frame.place.caller < length old.counts.items
   pub number : frame.place.number ≤ MAX_CALLS
-  pub words : length frame.words.items ≤ CAPACITY
+  pub words : (capacity : ℕ) → IsBookCapacity spec capacity → length frame.words.items ≤ capacity
 
 -- The bounds hold for the last frame of each walk with nothing left to try.
 pub last_level : (book : List Page) (prefix : Prefix) (spec : SeqSpec) (old : Walk)
     (frames : List WalkFrame) (frame : WalkFrame)
-    → ((list : List ℕ) (op : ℕ) → length (spec.next list op).0 ≤ length list + 1)
-    → IsWalk book prefix spec old [] → old.frames.items ≡ frames ++ frame ∷ [] → LastLevel old frame
-last_level book prefix spec old frames frame grows h is =
+    → IsWalk book prefix spec old [] → old.frames.items ≡ frames ++ frame ∷ []
+    → LastLevel spec old frame
+last_level book prefix spec old frames frame h is =
     let back =
     leads-pop book spec.next prefix.cut prefix.here.words frames frame old.counts.items
     old.here.words
@@ -341,14 +340,14 @@ last_level book prefix spec old frames frame grows h is =
     FramesLead book spec.next prefix.cut prefix.here.words ls old.counts.items old.here.words)
     is h.leads) in
     let s = standing book prefix spec frames back.from frame.words.items frame.place h.begins
-    grows back.leads back.here.sound.0.may_come in
+    back.leads back.here.sound.0.may_come in
     let long : length old.counts.items ≡ length back.from =
     ap (λ (c : List ℕ). length c) back.to_cut_is
     ∙ length-set back.from frame.place.caller (get_or back.from frame.place.caller 0 + 1) in
     record {
       caller = omega (arith, s.caller);
       number = omega (arith, s.number);
-      words = omega (arith, s.fits);
+      words = λ capacity big. (s.fits capacity big).here;
     }
 
 -- Where a walk without frames has nothing left to try, the end of the prefix is a dead end.
@@ -370,7 +369,7 @@ walk-none book prefix spec walk h none =
 -- what is to be tried there.
 pub walk-start : (book : List Page) (prefix : Prefix) (spec : SeqSpec) (walk : Walk)
     → IsPrefix spec book prefix → walk.frames.items ≡ [] → walk.counts.items ≡ prefix.cut
-    → walk.here.words ≡ prefix.here.words → walk.here.room ≡ CAPACITY → IsMemo walk.memo
+    → walk.here.words ≡ prefix.here.words → IsBookCapacity spec walk.here.room → IsMemo walk.memo
     → walk.memo.callers ≡ length book → ((cut list : List ℕ) → Remembers walk.memo cut list → ⊥)
     → IsOpen book spec.next walk.counts.items walk.here.words (places_of walk.choices.items)
     → IsWalk book prefix spec walk (places_of walk.choices.items)
@@ -385,12 +384,13 @@ walk-start book prefix spec walk f frames counts here room memo callers none sta
   room = room;
 }
 
--- One more word fits the list of a prefix after whose cut an answered call is due.
+-- Each list next after that of a prefix, after whose cut an answered call is due, fits a capacity
+-- that suffices in each book.
 pub prefix-fits : (book : List Page) (prefix : Prefix) (spec : SeqSpec) (cut list : List ℕ)
-    (first : ℕ) → ((list : List ℕ) (op : ℕ) → length (spec.next list op).0 ≤ length list + 1)
-    → IsPrefix spec book prefix → cut ≡ prefix.cut → list ≡ prefix.here.words
-    → IsLeast book cut (length book) first → MayGrow cut list
-prefix-fits book prefix spec cut list first grows f same_cut same_list least =
+    (first : ℕ) → IsPrefix spec book prefix → cut ≡ prefix.cut → list ≡ prefix.here.words
+    → IsLeast book cut (length book) first → (capacity : ℕ) → IsBookCapacity spec capacity
+    → MayGrow spec.next list capacity
+prefix-fits book prefix spec cut list first f same_cut same_list least =
     let valid = f.stands.valid in
     let place : Place = record { caller = first; number = get_or cut first 0; reply = 0 } in
     let there = answer_stands book (next_call cut first) least.answered in
@@ -399,5 +399,5 @@ prefix-fits book prefix spec cut list first grows f same_cut same_list least =
     may_come-from_least book cut first first there.0.view valid least
     (λ (r : Record) at. ap (λ (x : Record). x.view) (same_Some r there.0 (sym at ∙ there.1)))
     (omega (arith, own)) in
-    (standing book prefix spec [] cut list place f grows
+    (standing book prefix spec [] cut list place f
     (sym same_cut, sym same_list) may).fits

@@ -4,3 +4,4 @@ pub mod Twin
 pub mod Search
 pub mod Memo
 pub mod Verdict
+pub mod Replies

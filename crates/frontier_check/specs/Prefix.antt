@@ -1,14 +1,19 @@
 -- Prefixes of orders: the places that are put already, and the cut and the list that they reach.
-use Rattle.std.specs.Prelude.{◌≡◌, ℕ, ◌+◌, ◌≤◌, List, [], ◌∷◌, ◌++◌, length, replicate, sum, slice_index, Some}
+use Rattle.std.specs.Prelude.{◌≡◌, ℕ, ◌≤◌, List, [], ◌∷◌, ◌++◌, length, replicate, sum, slice_index, Some}
 use Rattle.book_base.specs.declared.call.Place.{Place}
 use Rattle.book_base.specs.declared.call.Record.{Record}
 use Rattle.book_base.specs.SeqSpec.{SeqSpec}
 use Rattle.book_base.specs.Cut.{IsWithin}
 use Rattle.book_base.specs.Book.{Page, IsCall, IsValid, IsSmall, calls_of, record_of}
 use Rattle.book_base.specs.Order.{call_at, step_at, IsLegalOrder}
-use Rattle.book_base.specs.Reaching.{Reaches}
+use Rattle.book_base.specs.Reaching.{IsCapacityFor, Reaches}
 use Rattle.book_base.specs.Next.{next_call, raised, list_after, Continues}
 use Rattle.frontier_check.specs.declared.prefix.Prefix.{Prefix}
+use Rattle.frontier_check.specs.declared.walk.TheConstants.{MOST_CALLS}
+
+-- A capacity suffices in each book: for as many operations of the object as a book may have calls.
+abbrev pub IsBookCapacity : SeqSpec → ℕ → Type 0
+IsBookCapacity spec capacity = IsCapacityFor spec MOST_CALLS capacity
 
 -- the cut that holds no call of a book
 abbrev pub no_calls : List Page → List ℕ
@@ -40,14 +45,13 @@ LeavesOpen book cut = (i : ℕ) (r : Record) → record_of book (next_call cut i
 
 -- The places of a prefix reach its cut and its list, in a valid book that has no more callers and
 -- calls than a book may have. The cut has one count for each caller of the book, none of them above
--- the caller's number of calls in the book, and the list has at most one word more than the cut
--- counts calls.
+-- the caller's number of calls in the book, and counts at least as many calls as there are places.
 pub record PrefixReaches (spec : SeqSpec) (book : List Page) (prefix : Prefix) : Type 0 where
   pub valid : IsValid book
   pub small : IsSmall book
   pub wide : length prefix.cut ≡ length book
   pub within : (i : ℕ) → slice_index prefix.cut i ≤ calls_of book i
-  pub words : length prefix.here.words ≤ sum prefix.cut + 1
+  pub calls : length prefix.places.items ≤ sum prefix.cut
   pub reaches : Reaches spec book prefix.places.items prefix.cut prefix.here.words
 
 -- A prefix is put in a book: its places reach its cut and its list, and follow one another from the

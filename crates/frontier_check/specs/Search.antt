@@ -17,14 +17,14 @@ use Rattle.frontier_check.specs.declared.walk.WalkFrame.{WalkFrame}
 use Rattle.frontier_check.specs.declared.walk.Walk.{Walk}
 use Rattle.frontier_check.specs.declared.walk.StepOutcome.{StepOutcome}
 use Rattle.frontier_check.specs.declared.walk.StepOutcome.TheVariants.{Found, NoneLeft, GoesOn}
-use Rattle.frontier_check.specs.declared.walk.TheConstants.{CAPACITY}
+use Rattle.frontier_check.specs.declared.walk.TheConstants.{MOST_CALLS}
 use Rattle.frontier_check.specs.Memo.{IsMemo, Remembers}
-use Rattle.frontier_check.specs.Prefix.{IsPrefix}
+use Rattle.frontier_check.specs.Prefix.{IsBookCapacity, IsPrefix}
 
--- One more word fits a list of the object: the list has fewer words than `CAPACITY`. The cut plays
--- no part.
-abbrev pub MayGrow : List ℕ → List ℕ → Type 0
-MayGrow cut list = length list + 1 ≤ CAPACITY
+-- A list and each list that an operation makes of it have no more words than a capacity.
+pub record MayGrow (next : List ℕ → ℕ → List ℕ × ℕ) (list : List ℕ) (capacity : ℕ) : Type 0 where
+  pub here : length list ≤ capacity
+  pub after : (op : ℕ) → length (next list op).0 ≤ capacity
 
 -- a place is among the places of a list
 abbrev pub IsAmong : Place → List Place → Type 0
@@ -123,7 +123,8 @@ AllDead book next walk = (cut list : List ℕ) → Remembers walk.memo cut list
 -- A walk of a search that begins after a prefix is sound: `IsPrefix` holds of the prefix; the
 -- walk's frames lead from the prefix's cut and list to the walk's; the places `places` are still to
 -- be tried at the walk's cut and list; its memo is sound as `IsMemo` says, remembers only dead
--- ends, and is for as many callers as the book has; and its state has the capacity `CAPACITY`.
+-- ends, and is for as many callers as the book has; and the capacity of its state suffices in each
+-- book.
 pub record IsWalk (book : List Page) (prefix : Prefix) (spec : SeqSpec) (walk : Walk)
     (places : List Place) : Type 0 where
   pub begins : IsPrefix spec book prefix
@@ -134,7 +135,7 @@ pub record IsWalk (book : List Page) (prefix : Prefix) (spec : SeqSpec) (walk : 
   pub dead : AllDead book spec.next walk
   pub memo : IsMemo walk.memo
   pub callers : walk.memo.callers ≡ length book
-  pub room : walk.here.room ≡ CAPACITY
+  pub room : IsBookCapacity spec walk.here.room
 
 -- the places of some frames, in their order
 abbrev pub order_of : List WalkFrame → List Place
@@ -159,7 +160,7 @@ weigh depth (frame ∷ frames) choices =
 
 -- the number for how much is left to try in a walk
 abbrev pub weight : Walk → ℕ
-weight walk = weigh CAPACITY walk.frames.items (length walk.choices.items)
+weight walk = weigh MOST_CALLS walk.frames.items (length walk.choices.items)
 
 -- The outcome of a step of the search is right: with `Found` the places of the prefix and then of
 -- the frames are a legal order; with `NoneLeft` the cut and the list of the prefix are a dead end;

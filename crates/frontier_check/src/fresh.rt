@@ -1,14 +1,13 @@
 ghost use Rattle.std.specs.Prelude.{◌≡◌, ◌<◌, length, IfOk, IfSome, IsTrue};
 ghost use Rattle.book_base.specs.Next.{HoldsAnswered};
-ghost use Rattle.frontier_check.specs.Prefix.{IsNext, IsPut};
+ghost use Rattle.frontier_check.specs.Prefix.{IsBookCapacity, IsNext, IsPut};
 ghost use Rattle.frontier_check.specs.Standing.{AreMarks};
 
 use crate::choice::Choice;
 use crate::guess::Guess;
 use crate::kept_order::OrderMark;
 use crate::prefix::{Prefix, answers_in};
-use crate::takes::checked_step;
-use crate::walk::CAPACITY;
+use crate::walk::{MOST_CALLS, empty_state};
 use book_base::{Book, Call, Cut, NoMemory, Place, SeqObject, State};
 use std::alloc::Global;
 
@@ -39,8 +38,8 @@ fn next_place<S: SeqObject>(
     requires put { IsPut (S.spec object.now) book.now prefix.now }
     requires limit { length limit.now ≡ length book.now }
     requires caller { caller < length book.now }
-    requires room { spare.old.room ≡ CAPACITY }
-    ensures room { spare.new.room ≡ CAPACITY }
+    requires room { IsBookCapacity (S.spec object.now) spare.old.room }
+    ensures room { spare.new.room ≡ spare.old.room }
     ensures next { IfSome result (IsNext book.now prefix.now.cut) }
 {
     let number = prefix.cut.get(caller);
@@ -48,7 +47,7 @@ fn next_place<S: SeqObject>(
         return None;
     }
     spare.copy_from(&prefix.here);
-    let reply = checked_step(object, spare, book.op(Call { caller, number }))?;
+    let reply = object.step(spare, book.op(Call { caller, number }));
     let place = Place {
         caller,
         number,
@@ -116,8 +115,8 @@ fn choice_of<S: SeqObject>(
     requires taken { length guess.now.taken ≡ length book.now }
     requires view { length view.now ≡ length book.now }
     requires caller { caller < length book.now }
-    requires room { spare.old.room ≡ CAPACITY }
-    ensures room { spare.new.room ≡ CAPACITY }
+    requires room { IsBookCapacity (S.spec object.now) spare.old.room }
+    ensures room { spare.new.room ≡ spare.old.room }
     ensures next { IfSome result (λ choice. IsNext book.now prefix.now.cut choice.place) }
 {
     let place = next_place(object, book, prefix, spare, view, caller)?;
@@ -139,8 +138,8 @@ fn best_choice<S: SeqObject>(
     requires counts { length guess.now.counts ≡ length book.now }
     requires taken { length guess.now.taken ≡ length book.now }
     requires view { length view.now ≡ length book.now }
-    requires room { spare.old.room ≡ CAPACITY }
-    ensures room { spare.new.room ≡ CAPACITY }
+    requires room { IsBookCapacity (S.spec object.now) spare.old.room }
+    ensures room { spare.new.room ≡ spare.old.room }
     ensures next { IfSome result (λ choice. IsNext book.now prefix.now.cut choice.place) }
 {
     let mut best: Option<Choice> = None;
@@ -198,8 +197,8 @@ fn enabling_place<S: SeqObject>(
 ) -> Option<Place>
     requires put { IsPut (S.spec object.now) book.now prefix.now }
     requires view { length view.now ≡ length book.now }
-    requires room { spare.old.room ≡ CAPACITY }
-    ensures room { spare.new.room ≡ CAPACITY }
+    requires room { IsBookCapacity (S.spec object.now) spare.old.room }
+    ensures room { spare.new.room ≡ spare.old.room }
     ensures next { IfSome result (IsNext book.now prefix.now.cut) }
 {
     for caller in 0..book.callers() {
@@ -214,7 +213,8 @@ fn enabling_place<S: SeqObject>(
 }
 
 // Whether, once a place is put after a prefix, the object gives the recorded reply of some caller's
-// next call, which is answered and held by `view`.
+// next call, which is answered and held by `view`. The answer is `false` where the prefix lacks
+// fewer than two of the most calls that a book may have.
 fn enables_recorded_reply<S: SeqObject>(
     object: &S,
     book: &Book,
@@ -226,9 +226,12 @@ fn enables_recorded_reply<S: SeqObject>(
     requires put { IsPut (S.spec object.now) book.now prefix.now }
     requires view { length view.now ≡ length book.now }
     requires next { IsNext book.now prefix.now.cut place }
-    requires room { spare.old.room ≡ CAPACITY }
-    ensures room { spare.new.room ≡ CAPACITY }
+    requires room { IsBookCapacity (S.spec object.now) spare.old.room }
+    ensures room { spare.new.room ≡ spare.old.room }
 {
+    if prefix.places.len() as u64 + 2 > MOST_CALLS {
+        return false;
+    }
     let op = book.op(Call {
         caller: place.caller,
         number: place.number,
@@ -241,8 +244,8 @@ fn enables_recorded_reply<S: SeqObject>(
                 number,
             };
             spare.copy_from(&prefix.here);
-            let opened = checked_step(object, spare, op).is_some();
-            if opened && checked_step(object, spare, book.op(call)) == Some(book.reply(call)) {
+            let _reply = object.step(spare, op);
+            if object.step(spare, book.op(call)) == book.reply(call) {
                 return true;
             }
         }
@@ -264,8 +267,8 @@ fn place_after<S: SeqObject>(
     requires put { IsPut (S.spec object.now) book.now prefix.now }
     requires counts { length guess.now.counts ≡ length book.now }
     requires taken { length guess.now.taken ≡ length book.now }
-    requires room { spare.old.room ≡ CAPACITY }
-    ensures room { spare.new.room ≡ CAPACITY }
+    requires room { IsBookCapacity (S.spec object.now) spare.old.room }
+    ensures room { spare.new.room ≡ spare.old.room }
     ensures next { IfSome result (IsNext book.now prefix.now.cut) }
 {
     let first = guess.first();
@@ -307,7 +310,7 @@ pub fn put_fresh<S: SeqObject>(
     marks: &mut Vec<OrderMark>,
 ) -> Result<bool, NoMemory>
     requires put { IsPut (S.spec object.now) book.now prefix.old }
-    requires room { prefix.old.here.room ≡ CAPACITY }
+    requires room { IsBookCapacity (S.spec object.now) prefix.old.here.room }
     requires marks { AreMarks (S.spec object.now) book.now prefix.old.places.items 0
         marks.old.items }
     ensures put { IfOk result
@@ -316,7 +319,7 @@ pub fn put_fresh<S: SeqObject>(
         → AreMarks (S.spec object.now) book.now prefix.new.places.items 0 marks.new.items) }
 {
     let answered = answers_in(book);
-    let mut spare = State::with_room(alloc, CAPACITY)?;
+    let mut spare = empty_state(alloc, object)?;
     let mut guess = Guess::new(alloc, object, book, &prefix.cut, &mut spare)?;
     for _ in 0..calls_after(book, &prefix.cut) {
         let Some(place) = place_after(object, book, prefix, &mut spare, &guess) else {

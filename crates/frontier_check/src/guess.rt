@@ -1,8 +1,8 @@
 ghost use Rattle.std.specs.Prelude.{◌≡◌, ◌<◌, length, IfOk};
+ghost use Rattle.frontier_check.specs.Prefix.{IsBookCapacity};
 
 use crate::call_turns::total;
 use crate::takes::Takes;
-use crate::walk::CAPACITY;
 use book_base::{Book, Call, Cut, NoMemory, SeqObject, State};
 use std::alloc::Global;
 
@@ -29,8 +29,8 @@ impl Guess {
         spare: &mut State,
     ) -> Result<Guess, NoMemory>
         requires cut { length cut.now ≡ length book.now }
-        requires room { spare.old.room ≡ CAPACITY }
-        ensures room { spare.new.room ≡ CAPACITY }
+        requires room { IsBookCapacity (S.spec object.now) spare.old.room }
+        ensures room { spare.new.room ≡ spare.old.room }
         ensures counts { IfOk result (λ guess. length guess.counts ≡ length book.now) }
         ensures taken { IfOk result (λ guess. length guess.taken ≡ length book.now) }
     {
@@ -59,8 +59,8 @@ impl Guess {
         requires caller { caller < length book.now }
         requires counts { length self.old.counts ≡ length book.now }
         requires taken { length self.old.taken ≡ length book.now }
-        requires room { spare.old.room ≡ CAPACITY }
-        ensures room { spare.new.room ≡ CAPACITY }
+        requires room { IsBookCapacity (S.spec object.now) spare.old.room }
+        ensures room { spare.new.room ≡ spare.old.room }
         ensures counts { length self.new.counts ≡ length book.now }
         ensures taken { length self.new.taken ≡ length book.now }
     {

@@ -4,11 +4,11 @@ ghost use Rattle.book_base.specs.Cut.{IsWithin};
 ghost use Rattle.book_base.specs.Book.{answered, record_of};
 ghost use Rattle.book_base.specs.Order.{call_at};
 ghost use Rattle.book_base.specs.Next.{next_call};
-ghost use Rattle.frontier_check.specs.Prefix.{no_calls, IsNext, IsPut, IsPrefix, LeavesOpen};
+ghost use Rattle.frontier_check.specs.Prefix.{no_calls, IsBookCapacity, IsNext, IsPut, IsPrefix, LeavesOpen};
 ghost use Rattle.frontier_check.specs.Standing.{AreMarks, IsMarkAtEnd, AddsMarks};
 
 use crate::kept_order::OrderMark;
-use crate::walk::CAPACITY;
+use crate::walk::empty_state;
 use book_base::{Book, Call, Cut, NoMemory, Place, SeqObject, State};
 use std::alloc::Global;
 
@@ -28,9 +28,10 @@ impl Prefix {
         ensures places { IfOk result (λ prefix. prefix.places.items ≡ []) }
         ensures cut { IfOk result (λ prefix. prefix.cut ≡ no_calls book.now) }
         ensures list { IfOk result (λ prefix. prefix.here.words ≡ (S.spec object.now).init) }
-        ensures room { IfOk result (λ prefix. prefix.here.room ≡ CAPACITY) }
+        ensures room { IfOk result
+            (λ prefix. IsBookCapacity (S.spec object.now) prefix.here.room) }
     {
-        let mut here = State::with_room(alloc, CAPACITY)?;
+        let mut here = empty_state(alloc, object)?;
         object.reset(&mut here);
         Ok(Prefix {
             places: Vec::new(alloc),
@@ -76,7 +77,7 @@ impl Prefix {
     ) -> Result<bool, NoMemory>
         requires limit { length limit.now ≡ length book.now }
         requires put { IsPut (S.spec object.now) book.now self.old }
-        requires room { self.old.here.room ≡ CAPACITY }
+        requires room { IsBookCapacity (S.spec object.now) self.old.here.room }
         ensures { IfOk result
             (λ given. IsTrue given → IsPut (S.spec object.now) book.now self.new) }
     {
@@ -106,12 +107,13 @@ impl Prefix {
     ) -> Result<bool, NoMemory>
         requires limit { length limit.now ≡ length book.now }
         requires put { IsPut (S.spec object.now) book.now self.old }
-        requires room { self.old.here.room ≡ CAPACITY }
+        requires room { IsBookCapacity (S.spec object.now) self.old.here.room }
         requires marks { AreMarks (S.spec object.now) book.now self.old.places.items 0
             marks.old.items }
         ensures put { IfOk result
             (λ given. IsTrue given → IsPut (S.spec object.now) book.now self.new) }
-        ensures room { IfOk result (λ given. IsTrue given → self.new.here.room ≡ CAPACITY) }
+        ensures room { IfOk result
+            (λ given. IsTrue given → self.new.here.room ≡ self.old.here.room) }
         ensures marks { IfOk result (λ given. IsTrue given
             → AreMarks (S.spec object.now) book.now self.new.places.items 0 marks.new.items) }
     {
@@ -230,11 +232,11 @@ impl Prefix {
     ) -> Result<bool, NoMemory>
         requires put { IsPut (S.spec object.now) book.now self.old }
         requires next { IsNext book.now self.old.cut place }
-        requires room { self.old.here.room ≡ CAPACITY }
+        requires room { IsBookCapacity (S.spec object.now) self.old.here.room }
         ensures put { IfOk result
             (λ given. IsTrue given → IsPut (S.spec object.now) book.now self.new) }
         ensures places { OnOk result (self.new.places.items ≡ self.old.places.items ++ place ∷ []) }
-        ensures room { self.new.here.room ≡ CAPACITY }
+        ensures room { self.new.here.room ≡ self.old.here.room }
     {
         let op = book.op(Call {
             caller: place.caller,

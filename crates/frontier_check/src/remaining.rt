@@ -1,10 +1,10 @@
 //! The calls of a book after a prefix, as a book of their own, which the object may decide where a
 //! search doesn't soon find an order.
 ghost use Rattle.std.specs.Prelude.{◌≡◌, length};
+ghost use Rattle.frontier_check.specs.Prefix.{IsBookCapacity};
 
 use crate::prefix::Prefix;
-use crate::takes::checked_step;
-use crate::walk::CAPACITY;
+use crate::walk::{MOST_CALLS, empty_state};
 use book_base::{Book, BookFault, Call, Cut, NoMemory, OpWord, Place, SeqObject, State};
 use search_hints::{Decision, SearchHints};
 use std::alloc::Global;
@@ -50,7 +50,7 @@ fn puts_of<S: SeqObject>(
     book: &Book,
     prefix: &Prefix,
 ) -> Result<Vec<OpWord>, NoMemory> {
-    let mut spare = State::with_room(alloc, CAPACITY)?;
+    let mut spare = empty_state(alloc, object)?;
     let mut wanted = Vec::from_slice(alloc, prefix.here.words())?;
     let mut puts = Vec::new(alloc);
     for back in 0..prefix.places.len() {
@@ -89,12 +89,12 @@ fn put_at<S: SeqObject>(
     place: Place,
     word: u64,
 ) -> Option<OpWord>
-    requires { spare.old.room ≡ CAPACITY }
-    ensures { spare.new.room ≡ CAPACITY }
+    requires { IsBookCapacity (S.spec object.now) spare.old.room }
+    ensures { spare.new.room ≡ spare.old.room }
 {
     let op = operation_at(book, place)?;
     object.reset(spare);
-    let _reply = checked_step(object, spare, op)?;
+    let _reply = object.step(spare, op);
     if spare.len() == 1 && spare.get(0) == word {
         Some(op)
     } else {
@@ -112,13 +112,14 @@ fn add_puts<S: SeqObject>(
     puts: &[OpWord],
     left: &mut Book,
 ) -> Result<bool, NoMemory> {
-    let mut here = State::with_room(alloc, CAPACITY)?;
+    if puts.len() as u64 > MOST_CALLS {
+        return Ok(false);
+    }
+    let mut here = empty_state(alloc, object)?;
     object.reset(&mut here);
     for back in 0..puts.len() {
         let op = puts[puts.len() - 1 - back];
-        let Some(reply) = checked_step(object, &mut here, op) else {
-            return Ok(false);
-        };
+        let reply = object.step(&mut here, op);
         let view = view_of_first(left, back as u64);
         if !add_call(left, 0, op)? || !add_answer(left, 0, reply, view)? {
             return Ok(false);

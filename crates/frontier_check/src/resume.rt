@@ -1,11 +1,11 @@
 ghost use Rattle.std.specs.Prelude.{◌≡◌, ℕ, ◌+◌, ◌<◌, ◌≤◌, ◌⊎◌, length, slice_index_or, take, IfOk, IfSome, IsTrue, OnOk};
 ghost use Rattle.frontier_check.specs.declared.kept_order.OrderMark.{OrderMark};
-ghost use Rattle.frontier_check.specs.Prefix.{IsPut};
+ghost use Rattle.frontier_check.specs.Prefix.{IsBookCapacity, IsPut};
 ghost use Rattle.frontier_check.specs.Standing.{IsQuiet, IsAsWide, StillStands, AreMarks};
 
 use crate::kept_order::OrderMark;
 use crate::prefix::{INTERVAL, Prefix, leaves_open};
-use crate::walk::{CAPACITY, load};
+use crate::walk::{empty_state, load};
 use book_base::{Book, Cut, NoMemory, Place, SeqObject, State};
 use std::alloc::Global;
 
@@ -56,20 +56,20 @@ fn last_standing(book: &Book, marks: &[OrderMark]) -> Option<usize>
 }
 
 // The places of an order before a mark, as a prefix with the cut and the words of the mark, and the
-// other places of the order.
+// other places of the order. The prefix has the state `here`, with these words.
 fn prefix_at(
     alloc: Global,
     order: Vec<Place>,
     mark: &OrderMark,
+    mut here: State,
 ) -> Result<(Prefix, Vec<Place>), NoMemory>
     requires len { mark.now.len ≤ length order.items }
-    requires words { length mark.now.words.items ≤ CAPACITY }
+    requires words { length mark.now.words.items ≤ here.room }
     ensures places { IfOk result (λ r. r.0.places.items ≡ take mark.now.len order.items) }
     ensures cut { IfOk result (λ r. r.0.cut ≡ mark.now.cut) }
     ensures words { IfOk result (λ r. r.0.here.words ≡ mark.now.words.items) }
-    ensures room { IfOk result (λ r. r.0.here.room ≡ CAPACITY) }
+    ensures room { IfOk result (λ r. r.0.here.room ≡ here.room) }
 {
-    let mut here = State::with_room(alloc, CAPACITY)?;
     load(&mut here, &mark.words);
     let later = Vec::from_slice(alloc, &order[mark.len..])?;
     let mut places = order;
@@ -109,7 +109,7 @@ pub fn resume<S: SeqObject>(
 ) -> Result<(Prefix, Vec<Place>), NoMemory>
     requires marks { AreMarks (S.spec object.now) book.now order.items 0 marks.old.items }
     ensures put { IfOk result (λ r. IsPut (S.spec object.now) book.now r.0) }
-    ensures room { IfOk result (λ r. r.0.here.room ≡ CAPACITY) }
+    ensures room { IfOk result (λ r. IsBookCapacity (S.spec object.now) r.0.here.room) }
     ensures marks { IfOk result
         (λ r. AreMarks (S.spec object.now) book.now r.0.places.items 0 marks.new.items) }
     ensures fewer { OnOk result ((n : ℕ) × (marks.new.items ≡ take n marks.old.items)) }
@@ -123,7 +123,8 @@ pub fn resume<S: SeqObject>(
             // This call is for its contract, by which the book is valid and has no more callers and
             // calls than a book may have.
             let _callers = book.callers();
-            let found = prefix_at(alloc, order, &marks[index])?;
+            let here = empty_state(alloc, object)?;
+            let found = prefix_at(alloc, order, &marks[index], here)?;
             let kept = kept_of(index, marks[index].len);
             marks.truncate(kept);
             Ok(found)

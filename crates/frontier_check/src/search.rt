@@ -8,7 +8,7 @@ ghost use Rattle.book_base.specs.Reaching.{IsInfeasible};
 ghost use Rattle.search_hints.specs.PruningRules.{ArePruningRules};
 ghost use Rattle.book_base.specs.declared.TheConstants.{MAX_CALLERS, MAX_CALLS};
 ghost use Rattle.book_base.specs.Next.{next_call, raised, list_after, HoldsAnswered, MayComeNext, MayStandNext};
-ghost use Rattle.frontier_check.specs.Prefix.{IsPrefix};
+ghost use Rattle.frontier_check.specs.Prefix.{IsBookCapacity, IsPrefix};
 ghost use Rattle.book_base.specs.Pruning.{HasOneOpen, IsLeast, IsDeadEnd, ViewsAreWithin, IsReached, StandsAtOnce};
 ghost use Rattle.search_hints.specs.Marks.{MarksAllNext};
 ghost use Rattle.frontier_check.specs.Search.{places_of, AreToTry, IsOneMore, IsOpen, IsWalk, IsRightOutcome, IsRankIn, MayGrow, weigh, weight};
@@ -18,10 +18,11 @@ use crate::choice::Choice;
 use crate::memo::Memo;
 use crate::prefix::Prefix;
 use crate::twins::choose;
-use crate::walk::{CAPACITY, StepOutcome, Walk, WalkFrame, load, places, set_count};
+use crate::walk::{MOST_CALLS, StepOutcome, Walk, WalkFrame, empty_state, load, places, set_count};
 use book_base::{Book, Call, Cut, NoMemory, Place, State};
-use next_calls::{all_next, cut_of, first_view, least_open};
-use search_hints::{MarkedCallers, PruningRules, SearchHints, Sight};
+use search_hints::{
+    MarkedCallers, PruningRules, SearchHints, Sight, all_next, cut_of, first_view, least_open,
+};
 use std::alloc::Global;
 use std::mem;
 
@@ -72,7 +73,7 @@ impl<S: SearchHints> Search<'_, S> {
             (λ found. IfNone found (IsDeadEnd self.now.book.now (S.spec self.now.object.now).next
             self.now.prefix.now.cut self.now.prefix.now.here.words)) }
     {
-        let mut spare = State::with_room(self.alloc, CAPACITY)?;
+        let mut spare = empty_state(self.alloc, self.object)?;
         match self.begin(&mut spare)? {
             None => Ok(Some(Vec::new(self.alloc))),
             Some(mut walk) => self.go_on(&mut walk, &mut spare),
@@ -94,7 +95,7 @@ impl<S: SearchHints> Search<'_, S> {
             (λ found. IfSome found (λ rest. IsLegalOrder (S.spec self.now.object.now)
             self.now.book.now (self.now.prefix.now.places.items ++ rest.items))) }
     {
-        let mut spare = State::with_room(self.alloc, CAPACITY)?;
+        let mut spare = empty_state(self.alloc, self.object)?;
         match self.begin(&mut spare)? {
             None => Ok(Some(Vec::new(self.alloc))),
             Some(mut walk) => self.go_few(&mut walk, &mut spare, steps),
@@ -111,8 +112,8 @@ impl<S: SearchHints> Search<'_, S> {
             × S.sees self.now.object.now self.now.book.now sight) }
         requires prefix { IsPrefix (S.spec self.now.object.now) self.now.book.now
             self.now.prefix.now }
-        requires room { spare.old.room ≡ CAPACITY }
-        ensures room { spare.new.room ≡ CAPACITY }
+        requires room { IsBookCapacity (S.spec self.now.object.now) spare.old.room }
+        ensures room { spare.new.room ≡ spare.old.room }
         ensures walk { IfOk result (λ begun. IfSome begun (λ walk. IsWalk self.now.book.now
             self.now.prefix.now (S.spec self.now.object.now) walk (places_of walk.choices.items))) }
         ensures none { IfOk result
@@ -122,7 +123,7 @@ impl<S: SearchHints> Search<'_, S> {
         let Some(first) = least_open(self.book, &counts) else {
             return Ok(None);
         };
-        let mut here = State::with_room(self.alloc, CAPACITY)?;
+        let mut here = empty_state(self.alloc, self.object)?;
         here.copy_from(&self.prefix.here);
         let choices = self.choices(&counts, &here, spare, first)?;
         let memo = Memo::new(self.alloc, counts.len());
@@ -145,7 +146,7 @@ impl<S: SearchHints> Search<'_, S> {
             × S.sees self.now.object.now self.now.book.now sight) }
         requires walk { IsWalk self.now.book.now self.now.prefix.now
             (S.spec self.now.object.now) walk.old (places_of walk.old.choices.items) }
-        requires room { spare.old.room ≡ CAPACITY }
+        requires room { IsBookCapacity (S.spec self.now.object.now) spare.old.room }
         ensures found { IfOk result
             (λ found. IfSome found (λ rest. IsLegalOrder (S.spec self.now.object.now)
             self.now.book.now (self.now.prefix.now.places.items ++ rest.items))) }
@@ -177,7 +178,7 @@ impl<S: SearchHints> Search<'_, S> {
             × S.sees self.now.object.now self.now.book.now sight) }
         requires walk { IsWalk self.now.book.now self.now.prefix.now
             (S.spec self.now.object.now) walk.old (places_of walk.old.choices.items) }
-        requires room { spare.old.room ≡ CAPACITY }
+        requires room { IsBookCapacity (S.spec self.now.object.now) spare.old.room }
         ensures found { IfOk result
             (λ found. IfSome found (λ rest. IsLegalOrder (S.spec self.now.object.now)
             self.now.book.now (self.now.prefix.now.places.items ++ rest.items))) }
@@ -202,8 +203,8 @@ impl<S: SearchHints> Search<'_, S> {
             × S.sees self.now.object.now self.now.book.now sight) }
         requires walk { IsWalk self.now.book.now self.now.prefix.now
             (S.spec self.now.object.now) walk.old (places_of walk.old.choices.items) }
-        requires room { spare.old.room ≡ CAPACITY }
-        ensures room { spare.new.room ≡ CAPACITY }
+        requires room { IsBookCapacity (S.spec self.now.object.now) spare.old.room }
+        ensures room { spare.new.room ≡ spare.old.room }
         ensures outcome { IfOk result (IsRightOutcome self.now.book.now self.now.prefix.now
             (S.spec self.now.object.now) (weight walk.old) walk.new) }
     {
@@ -232,11 +233,11 @@ impl<S: SearchHints> Search<'_, S> {
             × S.sees self.now.object.now self.now.book.now sight) }
         requires walk { IsWalk self.now.book.now self.now.prefix.now
             (S.spec self.now.object.now) walk.old (place ∷ places_of walk.old.choices.items) }
-        requires room { spare.old.room ≡ CAPACITY }
-        ensures room { spare.new.room ≡ CAPACITY }
+        requires room { IsBookCapacity (S.spec self.now.object.now) spare.old.room }
+        ensures room { spare.new.room ≡ spare.old.room }
         ensures outcome { IfOk result
             (IsRightOutcome self.now.book.now self.now.prefix.now (S.spec self.now.object.now)
-            (weigh CAPACITY walk.old.frames.items (length walk.old.choices.items + 1)) walk.new) }
+            (weigh MOST_CALLS walk.old.frames.items (length walk.old.choices.items + 1)) walk.new) }
     {
         self.step(walk, spare, place);
         if walk.memo.remembers(&walk.counts, walk.here.words()) {
@@ -273,7 +274,7 @@ impl<S: SearchHints> Search<'_, S> {
     fn step(&self, walk: &mut Walk, spare: &mut State, place: Place)
         requires walk { IsWalk self.now.book.now self.now.prefix.now
             (S.spec self.now.object.now) walk.old (place ∷ places_of walk.old.choices.items) }
-        requires room { spare.old.room ≡ CAPACITY }
+        requires room { IsBookCapacity (S.spec self.now.object.now) spare.old.room }
         ensures spare { spare.new ≡ record spare.old { words = walk.old.here.words } }
         ensures here { walk.new.here ≡ record walk.old.here {
           words =
@@ -300,7 +301,7 @@ impl<S: SearchHints> Search<'_, S> {
         requires walk { IsWalk self.now.book.now self.now.prefix.now
             (S.spec self.now.object.now) walk.old [] }
         ensures { IsRightOutcome self.now.book.now self.now.prefix.now (S.spec self.now.object.now)
-            (weigh CAPACITY walk.old.frames.items 0) walk.new result }
+            (weigh MOST_CALLS walk.old.frames.items 0) walk.new result }
     {
         let Some(frame) = walk.frames.pop() else {
             return StepOutcome::NoneLeft;
@@ -340,9 +341,8 @@ impl<S: SearchHints> Search<'_, S> {
             here.now.words }
         requires wide { length counts.now ≡ length self.now.book.now }
         requires first { IsLeast self.now.book.now counts.now (length self.now.book.now) first }
-        requires fits { MayGrow counts.now here.now.words }
-        requires room { spare.old.room ≡ CAPACITY }
-        ensures room { spare.new.room ≡ CAPACITY }
+        requires fits { MayGrow (S.spec self.now.object.now).next here.now.words spare.old.room }
+        ensures room { spare.new.room ≡ spare.old.room }
         ensures open { IfOk result (λ choices. IsOpen self.now.book.now
             (S.spec self.now.object.now).next counts.now here.now.words (places_of choices.items)) }
         ensures few { IfOk result (λ choices. length choices.items ≤ length self.now.book.now) }
@@ -404,9 +404,8 @@ impl<S: SearchHints> Search<'_, S> {
         requires view { (r : Record) → record_of self.now.book.now (next_call counts.now first)
             ≡ Some r → r.view ≡ view.now }
         requires views { length view.now ≡ length self.now.book.now }
-        requires fits { MayGrow counts.now here.now.words }
-        requires room { spare.old.room ≡ CAPACITY }
-        ensures room { spare.new.room ≡ CAPACITY }
+        requires fits { MayGrow (S.spec self.now.object.now).next here.now.words spare.old.room }
+        ensures room { spare.new.room ≡ spare.old.room }
         ensures some { IfSome result (StandsAtOnce self.now.book.now
             (S.spec self.now.object.now).next counts.now here.now.words) }
     {
@@ -434,9 +433,8 @@ impl<S: SearchHints> Search<'_, S> {
         requires wide { length counts.now ≡ length self.now.book.now }
         requires caller { caller < length counts.now }
         requires may { MayComeNext self.now.book.now counts.now (next_call counts.now caller) }
-        requires fits { MayGrow counts.now here.now.words }
-        requires room { spare.old.room ≡ CAPACITY }
-        ensures room { spare.new.room ≡ CAPACITY }
+        requires fits { MayGrow (S.spec self.now.object.now).next here.now.words spare.old.room }
+        ensures room { spare.new.room ≡ spare.old.room }
         ensures some { IfSome result (StandsAtOnce self.now.book.now
             (S.spec self.now.object.now).next counts.now here.now.words) }
     {
@@ -524,12 +522,11 @@ impl<S: SearchHints> Search<'_, S> {
         requires wide { length counts.now ≡ length self.now.book.now }
         requires caller { caller < length counts.now }
         requires may { MayComeNext self.now.book.now counts.now (next_call counts.now caller) }
-        requires fits { MayGrow counts.now here.now.words }
-        requires room { spare.old.room ≡ CAPACITY }
+        requires fits { MayGrow (S.spec self.now.object.now).next here.now.words spare.old.room }
         requires sound { AllByRecursion (MayStandNext self.now.book.now
             (S.spec self.now.object.now).next counts.now here.now.words)
             (places_of choices.old.items) }
-        ensures room { spare.new.room ≡ CAPACITY }
+        ensures room { spare.new.room ≡ spare.old.room }
         ensures more { OnOk result
             (IsOneMore self.now.book.now (S.spec self.now.object.now).next counts.now here.now.words
             caller (places_of choices.old.items) (places_of choices.new.items)) }

@@ -1,8 +1,8 @@
 ghost use Rattle.std.specs.Prelude.{◌≡◌, ◌<◌, length};
 ghost use Rattle.book_base.specs.Book.{IsCall};
+ghost use Rattle.frontier_check.specs.Prefix.{IsBookCapacity};
 
 use crate::call_turns::total;
-use crate::walk::CAPACITY;
 use book_base::{Book, Call, Cut, NoMemory, OpWord, SeqObject, State};
 use std::alloc::Global;
 
@@ -41,8 +41,8 @@ impl Takes {
         spare: &mut State,
     ) -> Result<Takes, NoMemory>
         requires wide { length cut.now ≡ length book.now }
-        requires room { spare.old.room ≡ CAPACITY }
-        ensures room { spare.new.room ≡ CAPACITY }
+        requires room { IsBookCapacity (S.spec object.now) spare.old.room }
+        ensures room { spare.new.room ≡ spare.old.room }
     {
         let mut takes = Takes {
             takes: Vec::new(alloc),
@@ -72,8 +72,8 @@ impl Takes {
         spare: &mut State,
     ) -> Result<(), NoMemory>
         requires caller { caller < length book.now }
-        requires room { spare.old.room ≡ CAPACITY }
-        ensures room { spare.new.room ≡ CAPACITY }
+        requires room { IsBookCapacity (S.spec object.now) spare.old.room }
+        ensures room { spare.new.room ≡ spare.old.room }
     {
         let answers = book.answers(caller).min(book.calls(caller));
         for number in first..answers {
@@ -108,8 +108,8 @@ impl Takes {
     // put two words in, in either order. `true` is answered too where no take is kept, or fewer
     // than two operations that may put a word in.
     fn is_queue<S: SeqObject>(&self, object: &S, spare: &mut State) -> bool
-        requires { spare.old.room ≡ CAPACITY }
-        ensures { spare.new.room ≡ CAPACITY }
+        requires { IsBookCapacity (S.spec object.now) spare.old.room }
+        ensures { spare.new.room ≡ spare.old.room }
     {
         let (Some(take), Some(put), Some(other)) = (self.op, self.put, self.other) else {
             return true;
@@ -142,8 +142,8 @@ impl Takes {
         call: Call,
     ) -> u64
         requires call { IsCall book.now call }
-        requires room { spare.old.room ≡ CAPACITY }
-        ensures room { spare.new.room ≡ CAPACITY }
+        requires room { IsBookCapacity (S.spec object.now) spare.old.room }
+        ensures room { spare.new.room ≡ spare.old.room }
     {
         let put = book.op(call);
         let Some(take) = self.op else {
@@ -174,26 +174,15 @@ fn is_in(cut: &Cut, call: Call) -> bool {
     call.caller < cut.n() && cut.holds(call.caller, call.number)
 }
 
-/// The object's reply to an operation at the list of a state; the state gets the list after the
-/// operation. Where the list already fills the state's capacity, the answer is `None` and the state
-/// stays as it is.
-pub fn checked_step<S: SeqObject>(object: &S, state: &mut State, op: OpWord) -> Option<u64>
-    ensures { state.new.room ≡ state.old.room }
-{
-    if state.len() >= state.room() {
-        return None;
-    }
-    Some(object.step(state, op))
-}
-
 // Whether an operation doesn't make the object's first list longer.
 fn may_take<S: SeqObject>(object: &S, spare: &mut State, op: OpWord) -> bool
-    requires { spare.old.room ≡ CAPACITY }
-    ensures { spare.new.room ≡ CAPACITY }
+    requires { IsBookCapacity (S.spec object.now) spare.old.room }
+    ensures { spare.new.room ≡ spare.old.room }
 {
     object.reset(spare);
     let before = spare.len();
-    checked_step(object, spare, op).is_some() && spare.len() <= before
+    let _reply = object.step(spare, op);
+    spare.len() <= before
 }
 
 // The reply of `take` at the list that `put` makes of the object's first list; `None` unless that
@@ -204,15 +193,15 @@ fn reply_of_take<S: SeqObject>(
     put: OpWord,
     take: OpWord,
 ) -> Option<u64>
-    requires { spare.old.room ≡ CAPACITY }
-    ensures { spare.new.room ≡ CAPACITY }
+    requires { IsBookCapacity (S.spec object.now) spare.old.room }
+    ensures { spare.new.room ≡ spare.old.room }
 {
     object.reset(spare);
-    let _reply = checked_step(object, spare, put)?;
+    let _put = object.step(spare, put);
     if spare.len() != 1 {
         return None;
     }
-    let reply = checked_step(object, spare, take)?;
+    let reply = object.step(spare, take);
     if spare.is_empty() { Some(reply) } else { None }
 }
 
@@ -225,14 +214,14 @@ fn is_first_out<S: SeqObject>(
     second: OpWord,
     take: OpWord,
 ) -> bool
-    requires { spare.old.room ≡ CAPACITY }
-    ensures { spare.new.room ≡ CAPACITY }
+    requires { IsBookCapacity (S.spec object.now) spare.old.room }
+    ensures { spare.new.room ≡ spare.old.room }
 {
     let Some(shown) = reply_of_take(object, spare, first, take) else {
         return false;
     };
     object.reset(spare);
-    let put = checked_step(object, spare, first).is_some()
-        && checked_step(object, spare, second).is_some();
-    put && checked_step(object, spare, take) == Some(shown)
+    let _first = object.step(spare, first);
+    let _second = object.step(spare, second);
+    object.step(spare, take) == shown
 }

@@ -2,10 +2,9 @@ ghost use Rattle.std.specs.Prelude.{◌≡◌, ◌++◌, IfOk, IfSome, IfNone, I
 ghost use Rattle.search_hints.specs.PruningRules.{ArePruningRules};
 ghost use Rattle.book_base.specs.Order.{IsLegalOrder, HasLegalOrder};
 ghost use Rattle.book_base.specs.Pruning.{HasOneOpen};
-ghost use Rattle.frontier_check.specs.Prefix.{IsPut, IsPrefix};
+ghost use Rattle.frontier_check.specs.Prefix.{IsBookCapacity, IsPut, IsPrefix};
 ghost use Rattle.frontier_check.specs.Standing.{AreMarks, IsStandingFor};
 ghost use Rattle.frontier_check.specs.Verdict.{IsRight, KeepsLastOrder};
-ghost use Rattle.frontier_check.specs.declared.walk.TheConstants.{CAPACITY};
 
 use crate::call_turns::CallTurns;
 use crate::fresh::{calls_after, holds_answered, put_fresh};
@@ -17,8 +16,7 @@ use crate::remaining::decided_after;
 use crate::resume::resume;
 use crate::search::Search;
 use book_base::{Book, Call, Cut, NoMemory, Place};
-use next_calls::has_one_open;
-use search_hints::{Decision, PruningRules, SearchHints, Sight};
+use search_hints::{Decision, PruningRules, SearchHints, Sight, has_one_open};
 use std::alloc::Global;
 
 /// Whether a book has a legal order.
@@ -312,7 +310,7 @@ fn order_by<S: SearchHints>(
     marks: &mut Vec<OrderMark>,
 ) -> Result<(Vec<Place>, bool), NoMemory>
     requires put { IsPut (S.spec object.now) book.now prefix }
-    requires room { prefix.here.room ≡ CAPACITY }
+    requires room { IsBookCapacity (S.spec object.now) prefix.here.room }
     requires marks { AreMarks (S.spec object.now) book.now prefix.places.items 0 marks.old.items }
     ensures legal { IfOk result
         (λ r. IsTrue r.1 → IsLegalOrder (S.spec object.now) book.now r.0.items) }

@@ -1,15 +1,15 @@
 ghost use Rattle.std.specs.Prelude.{◌≡◌, ◌<◌, ◌≤◌, length, slice_set, IfOk};
 ghost use Rattle.book_base.specs.declared.TheConstants.{MAX_CALLS};
+ghost use Rattle.frontier_check.specs.Prefix.{IsBookCapacity};
 ghost use Rattle.frontier_check.specs.Search.{order_of};
 
 use crate::choice::Choice;
 use crate::memo::Memo;
-use book_base::{MAX_CALLERS, MAX_CALLS, NoMemory, Place, State};
+use book_base::{MAX_CALLERS, MAX_CALLS, NoMemory, Place, SeqObject, State};
 use std::alloc::Global;
 
-/// The capacity of the states of a search, in words: the most calls that a book may have, and one
-/// more.
-pub const CAPACITY: u64 = MAX_CALLERS as u64 * MAX_CALLS + 1;
+/// The greatest number of calls that a book may have, so that a walk has fewer frames.
+pub const MOST_CALLS: u64 = MAX_CALLERS as u64 * MAX_CALLS;
 
 /// A frame of a walk: a place that was put, the words of the object's list before it, and the
 /// choices that are still to be tried in its stead.
@@ -55,6 +55,13 @@ pub fn places(alloc: Global, frames: &[WalkFrame]) -> Result<Vec<Place>, NoMemor
         order.push(frame.place)?;
     }
     Ok(order)
+}
+
+/// An empty state with capacity for each list that the object reaches in a book.
+pub fn empty_state<S: SeqObject>(alloc: Global, object: &S) -> Result<State, NoMemory>
+    ensures { IfOk result (λ state. IsBookCapacity (S.spec object.now) state.room) }
+{
+    State::with_room(alloc, object.capacity(MOST_CALLS))
 }
 
 /// Makes `words` the list of a state, which keeps its capacity.

@@ -1,3 +1,5 @@
 pub mod Ends
 pub mod Parts
 pub mod FirstErrors
+pub mod GivenLemmas
+pub mod Judging

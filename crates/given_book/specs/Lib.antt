@@ -1,2 +1,5 @@
 pub mod Given
 pub mod FirstError
+pub mod Explaining
+pub mod Marking
+pub mod Texts

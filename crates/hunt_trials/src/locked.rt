@@ -1,12 +1,15 @@
 //! The sequential object of a kind behind a lock.
 
 use crate::trial::calls_of_script;
-use book_base::{BAD, MAX_ROOM, NoMemory, OpWord, SeqObject, State};
+use book_base::{BAD, MAX_CALLERS, MAX_CALLS, NoMemory, OpWord, SeqObject, State};
 use client_scripts::Script;
 use drv_wrapper::{Announced, BlackBox};
 use hunts::{CountingPass, Maker, Noise, NoisyLock};
 use seq_objects::Kind;
 use std::alloc::Global;
+
+// The greatest number of calls that a table may have.
+const MOST_CALLS: u64 = MAX_CALLERS as u64 * MAX_CALLS;
 
 /// An object of a kind: a call is one step of the sequential object, under a lock.
 #[derive(Drop)]
@@ -51,7 +54,8 @@ impl Maker<Locked> for LockedObjects {
         script: &Script,
         noise: Noise,
     ) -> Result<(Locked, Vec<CountingPass>), NoMemory> {
-        let mut state = State::with_room(alloc, calls_of_script(script).min(MAX_ROOM - 1) + 1)?;
+        let operations = calls_of_script(script).min(MOST_CALLS);
+        let mut state = State::with_room(alloc, self.kind.capacity(operations))?;
         self.kind.reset(&mut state);
         let object = Locked {
             kind: self.kind,

@@ -4,7 +4,7 @@ use book_base::{BAD, NoMemory, OpWord};
 use client_scripts::Script;
 use drv_wrapper::{Announced, BlackBox};
 use hunts::{CountingPass, Maker, Noise, NoisyLock, QueueCall};
-use seq_objects::{DONE, NONE, value_reply};
+use seq_objects::{DONE, NONE, wrapping_value_reply};
 use std::alloc::Global;
 use std::collections::VecDeque;
 
@@ -34,7 +34,7 @@ impl TwoQueues {
                 Err(_) => None,
             },
             QueueCall::Dequeue => match items.pop_front() {
-                Some(value) => Some(value_reply(u64::from(value))),
+                Some(value) => Some(wrapping_value_reply(u64::from(value))),
                 None => Some(NONE),
             },
         }

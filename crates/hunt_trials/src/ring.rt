@@ -5,7 +5,7 @@ use book_base::{BAD, NoMemory, OpWord};
 use client_scripts::Script;
 use drv_wrapper::{Announced, BlackBox};
 use hunts::{CountingPass, Maker, Noise, NoisyCell, NoisyLock, QueueCall};
-use seq_objects::{DONE, NONE, value_reply};
+use seq_objects::{DONE, NONE, wrapping_value_reply};
 use std::alloc::Global;
 
 /// A queue over places: an enqueue fills the place at the tail and moves the tail forward, a
@@ -41,7 +41,7 @@ impl Ring {
         }
         let value = self.place(head)?.load();
         self.head.store(head.wrapping_add(1));
-        Some(value_reply(u64::from(value)))
+        Some(wrapping_value_reply(u64::from(value)))
     }
 
     fn steps(&self, op: OpWord) -> Option<u64> {

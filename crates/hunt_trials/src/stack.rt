@@ -5,7 +5,7 @@ use book_base::{BAD, NoMemory, OpWord};
 use client_scripts::Script;
 use drv_wrapper::{Announced, BlackBox};
 use hunts::{CountingPass, Maker, Noise, NoisyCell, StackCall};
-use seq_objects::{DONE, NONE, value_reply};
+use seq_objects::{DONE, NONE, wrapping_value_reply};
 use std::alloc::Global;
 
 // How often a call tries to change the top. Each failure is another call's success, so no call
@@ -68,7 +68,7 @@ impl Stack {
             }
             let place = self.place(seen)?;
             if self.changes(seen, place.below.load()) {
-                return Some(value_reply(u64::from(place.value.load())));
+                return Some(wrapping_value_reply(u64::from(place.value.load())));
             }
         }
         None

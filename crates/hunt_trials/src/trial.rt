@@ -4,10 +4,9 @@ ghost use Rattle.std.specs.Prelude.{◌≤◌};
 ghost use Rattle.text_fields.specs.declared.TheConstants.{TEXT_CALLERS, TEXT_CALLS};
 
 use book_base::{Book, NoMemory};
-use client_scripts::Script;
+use client_scripts::{Script, Weights, Workload};
 use drv_wrapper::BlackBox;
 use hunts::{Loudness, Maker, Settings, Unwatched, hunt};
-use random_scripts::{Weights, Workload};
 use seq_objects::Kind;
 use smaller_book::shrink;
 use std::alloc::Global;

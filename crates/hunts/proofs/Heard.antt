@@ -4,8 +4,8 @@ use Rattle.std.proofs.lemmas.List.{append-nil}
 use Rattle.std.specs.Prelude.{option_map}
 use Rattle.hunts.specs.declared.runs.Settings.{Settings}
 use Rattle.client_scripts.specs.Plans.{Plan}
-use Rattle.random_scripts.specs.Drawn.{drawn_plan}
-use Rattle.random_scripts.specs.declared.workload.Workload.{Workload}
+use Rattle.client_scripts.specs.Drawn.{drawn_plan}
+use Rattle.client_scripts.specs.declared.workload.Workload.{Workload}
 use Rattle.hunts.specs.Hunting.{first_news, seed_at, news_of}
 use Rattle.hunts.specs.Watching.{RunNews, Begins, Ran, Hears}
 

@@ -11,7 +11,7 @@ use Rattle.world_core.specs.Shape.{Shape}
 use Rattle.world_core.specs.Local.{Local}
 use Rattle.report_lines.specs.Lawful.{IsLawful}
 use Rattle.reports.specs.Findings.{Findings, IsWitness}
-use Rattle.lawful_reports.proofs.Errors.{witnesses_have_no_order}
+use Rattle.reports.proofs.LawfulErrors.{witnesses_have_no_order}
 use Rattle.client_calls.specs.Asking.{own_count}
 use Rattle.run_report.specs.Places.{AreInOrder}
 use Rattle.run_report.specs.Starts.{run_allotments}

@@ -1,6 +1,6 @@
 -- What holds of a hunt that command words ask for, or of words that ask for none.
 use Rattle.std.specs.Prelude.{ℕ, List}
-use Rattle.random_scripts.specs.Drawn.{IsWorkload}
+use Rattle.client_scripts.specs.Drawn.{IsWorkload}
 use Rattle.hunts.specs.declared.asked.Asked.{Asked}
 use Rattle.hunts.specs.declared.asked.Asked.TheVariants as asks
 use Rattle.hunts.specs.declared.asked.NoChange.{NoChange}

@@ -4,8 +4,8 @@ use Rattle.book_base.specs.Order.{HasLegalOrder}
 use Rattle.seq_objects.specs.Objects.{kind_spec}
 use Rattle.report_lines.specs.Lawful.{IsLawful}
 use Rattle.client_scripts.specs.Plans.{Plan}
-use Rattle.random_scripts.specs.declared.workload.Workload.{Workload}
-use Rattle.random_scripts.specs.Drawn.{drawn_plan}
+use Rattle.client_scripts.specs.declared.workload.Workload.{Workload}
+use Rattle.client_scripts.specs.Drawn.{drawn_plan}
 use Rattle.reports.specs.Findings.{Findings, IsWitness, HasNoError}
 use Rattle.run_report.specs.Places.{AreInOrder}
 use Rattle.run_report.specs.Starts.{run_allotments}

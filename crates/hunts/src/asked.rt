@@ -1,7 +1,7 @@
 //! What the command words of a hunt ask for.
 
 ghost use Rattle.std.specs.Prelude.{◌≡◌, map, string_bytes, IfOk, IfErr};
-ghost use Rattle.random_scripts.specs.Drawn.{IsWorkload};
+ghost use Rattle.client_scripts.specs.Drawn.{IsWorkload};
 ghost use Rattle.hunts.specs.declared.runs.Settings.{Settings as TheSettings};
 ghost use Rattle.hunts.specs.Asking.{Change, IsAsked, shown_of, settings_in};
 ghost use Rattle.hunts.specs.AskedHunts.{IsNoChange, AsksForWorkload};

@@ -12,7 +12,7 @@ use crate::Catch;
 use crate::shown::Shown;
 use book_base::{Book, NoMemory};
 use book_picture::{MarkedCalls, draw_book};
-use book_writer::write_book;
+use book_text::write_book;
 use frontier_check::Verdict;
 use report_text::report_text;
 use seq_objects::Kind;

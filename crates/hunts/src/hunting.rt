@@ -1,7 +1,7 @@
 //! A hunt, and what is written of it.
 
 ghost use Rattle.std.specs.Prelude.{ℕ, map, string_bytes, IfOk};
-ghost use Rattle.random_scripts.specs.Drawn.{IsWorkload};
+ghost use Rattle.client_scripts.specs.Drawn.{IsWorkload};
 ghost use Rattle.byte_streams.specs.Fault.{LeavesSink};
 ghost use Rattle.hunts.specs.Hunting.{first_news};
 ghost use Rattle.hunts.specs.Watching.{Hears};

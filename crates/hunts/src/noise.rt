@@ -1,5 +1,5 @@
 use book_base::NoMemory;
-use random_scripts::{draw, key_of};
+use client_scripts::{draw, key_of};
 use std::alloc::Global;
 use std::sync::Arc;
 use std::sync::atomic::{AtomicU64, Ordering};

@@ -1,7 +1,7 @@
 //! The one call that the `main` of a crate needs to hunt over an object of its own.
 
 ghost use Rattle.std.specs.Prelude.{None};
-ghost use Rattle.random_scripts.specs.Drawn.{IsWorkload};
+ghost use Rattle.client_scripts.specs.Drawn.{IsWorkload};
 
 use crate::asked::Asked;
 use crate::hunting::hunt_by_words;

@@ -1,7 +1,7 @@
 //! Hunts.
 
 ghost use Rattle.std.specs.Prelude.{◌≤◌, IfOk};
-ghost use Rattle.random_scripts.specs.Drawn.{IsWorkload};
+ghost use Rattle.client_scripts.specs.Drawn.{IsWorkload};
 ghost use Rattle.hunts.specs.Hunting.{first_news, IsHunted};
 ghost use Rattle.hunts.specs.Watching.{Hears};
 
@@ -10,8 +10,8 @@ use crate::maker::Maker;
 use crate::onlooker::Onlooker;
 use crate::trial::{Catch, run_seed};
 use book_base::NoMemory;
+use client_scripts::Workload;
 use drv_wrapper::{BlackBox, ObjectPass};
-use random_scripts::Workload;
 use std::alloc::Global;
 use std::thread::Threads;
 

@@ -1,11 +1,11 @@
 //! The settings of a hunt that command words change.
 
 ghost use Rattle.std.specs.Prelude.{◌≡◌, ◌≢◌, ℕ, IfSome, IfNone, decimal};
-ghost use Rattle.random_scripts.specs.Drawn.{IsWorkload};
+ghost use Rattle.client_scripts.specs.Drawn.{IsWorkload};
 ghost use Rattle.hunts.specs.Asking.{setting_named, least, most, IsWithin, changed, bounds_text};
 
 use crate::Settings;
-use random_scripts::Workload;
+use client_scripts::Workload;
 use seq_objects::number;
 use text_fields::{TEXT_CALLERS, TEXT_CALLS};
 

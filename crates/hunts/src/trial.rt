@@ -1,7 +1,7 @@
 //! A run of the script of a seed, and whether it shows an error.
 
 ghost use Rattle.std.specs.Prelude.{IfOk, IfSome, IfNone, OnOk};
-ghost use Rattle.random_scripts.specs.Drawn.{IsWorkload};
+ghost use Rattle.client_scripts.specs.Drawn.{IsWorkload};
 ghost use Rattle.hunts.specs.Hunting.{IsCaught, IsQuiet, news_of};
 ghost use Rattle.hunts.specs.Watching.{Hears};
 
@@ -10,9 +10,8 @@ use crate::once::run_once;
 use crate::onlooker::Onlooker;
 use crate::{Loudness, Noise};
 use book_base::{Book, NoMemory};
-use client_scripts::Script;
+use client_scripts::{Script, Workload, random_script};
 use drv_wrapper::{BlackBox, ObjectPass};
-use random_scripts::{Workload, random_script};
 use reports::Report;
 use std::alloc::Global;
 use std::thread::Threads;

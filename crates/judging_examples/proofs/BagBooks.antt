@@ -10,8 +10,8 @@ use Rattle.book_base.specs.Book.{Page, IsAnswered, Precedes, record_of, answers_
 use Rattle.book_base.specs.Order.{step_at, HasLegalOrder}
 use Rattle.book_base.specs.Next.{MayComeNext, MayStandNext}
 use Rattle.judging_examples.specs.Books.{answer, stand}
-use Rattle.book_laws.proofs.LegalOrder.{legal_order_from_continues}
-use Rattle.history_rules.specs.Container.{Effect, times, GivesOne, IsContainer}
+use Rattle.legal_orders.proofs.LegalOrder.{legal_order_from_continues}
+use Rattle.legal_orders.specs.Container.{Effect, times, GivesOne, IsContainer}
 use Rattle.container_pruning.specs.declared.deal.Deal.TheVariants as deals
 use Rattle.queue_pairs.specs.declared.table.QueueDeal.{QueueDeal}
 use Rattle.queue_pairs.specs.declared.table.QueueDeal.TheVariants as did
@@ -19,11 +19,11 @@ use Rattle.queue_pairs.specs.declared.table.Table.{Table}
 use Rattle.queue_pairs.specs.declared.table.TimedCall.{TimedCall}
 use Rattle.queue_pairs.specs.Moments.{moment_of}
 use Rattle.queue_pairs.specs.Tables.{known_deal, rows_of, IsTimed, IsRowTo, AreRowsTo, IsTable}
-use Rattle.container_counts.specs.declared.counts.Counted.TheVariants as counted
-use Rattle.container_counts.specs.Counts.{listed, puts_one, shows_one, may_take_one, is_counted, PutsAhead, TakesAhead, IsRefuted}
+use Rattle.queue_pairs.specs.declared.counts.Counted.TheVariants as counted
+use Rattle.queue_pairs.specs.Counts.{listed, puts_one, shows_one, may_take_one, is_counted, PutsAhead, TakesAhead, IsRefuted}
 use Rattle.judging_examples.specs.Bags.{bag, bag_shown, without_first, bag_after, bag_next, bag_spec, taken_unput, put_and_taken}
-use Rattle.container_counts.proofs.Counting.{bit}
-use Rattle.container_counts.proofs.Refuting.{takes-refute, finds_leave_nothing}
+use Rattle.queue_pairs.proofs.Counting.{bit}
+use Rattle.queue_pairs.proofs.Refuting.{takes-refute, finds_leave_nothing}
 
 abbrev call : ℕ → Call
 call n = record { caller = 0; number = n }

@@ -14,10 +14,10 @@ use Rattle.book_base.specs.Pruning.{HasOneOpen}
 use Rattle.search_hints.specs.Marks.{IsMarked, MarksSuffice}
 use Rattle.book_base.proofs.ViewLemmas.{same_call}
 use Rattle.judging_examples.specs.Books.{answer, stand}
-use Rattle.book_laws.proofs.LegalOrder.{legal_order_from_continues}
-use Rattle.history_rules.specs.Container.{Effect, Puts, Takes, Neither, value_put}
-use Rattle.stack_pruning.specs.LastFirst.{GivesLastFirst}
-use Rattle.stack_pruning.proofs.Stepping.{put_no_take, neither_no_take}
+use Rattle.legal_orders.proofs.LegalOrder.{legal_order_from_continues}
+use Rattle.legal_orders.specs.Container.{Effect, Puts, Takes, Neither, value_put}
+use Rattle.list_pruning.specs.LastFirst.{GivesLastFirst}
+use Rattle.list_pruning.proofs.Stepping.{put_no_take, neither_no_take}
 use Rattle.stack_levels.specs.Levels.{Layer, IsAmong, IsOneLevel, LeavesTop, TakeLeads, IsFollowed, IsClosedAt, IsKeptLayer, IsClosed}
 use Rattle.judging_examples.specs.Piles.{pile, pile_deed, pile_shown, pile_next, pile_spec, pile_after, without_last, layer, puts_and_takes, one_below_two, up_to_two, without_start, taken_too_often, one_on_one, up_and_down, unanswered, both_below, one_below}
 use Rattle.stack_levels.proofs.Refuting.{closed_tables_have_no_order}

@@ -12,10 +12,10 @@ use Rattle.book_base.specs.Sequential.{IsRunFrom}
 use Rattle.book_base.specs.Order.{step_at, IsLegalOrder, HasLegalOrder}
 use Rattle.book_base.specs.Next.{next_call, MayStandNext}
 use Rattle.judging_examples.specs.Books.{line_next, line_spec, answer, stand, overtaken, overtaken_seen, overtaken_early, overtaking, tenfold_next, tenfold_spec, mistaken}
-use Rattle.book_laws.proofs.LegalOrder.{legal_order_from_continues}
-use Rattle.book_laws.proofs.Precedence.{may_come_next-from_first}
-use Rattle.book_laws.proofs.BookAtLaws.{is_the_book_at, stays_valid, larger_has_none}
-use Rattle.book_laws.proofs.Final.{ended_order_is_legal}
+use Rattle.legal_orders.proofs.LegalOrder.{legal_order_from_continues}
+use Rattle.legal_orders.proofs.Precedence.{may_come_next-from_first}
+use Rattle.legal_orders.proofs.BookAtLaws.{is_the_book_at, stays_valid, larger_has_none}
+use Rattle.legal_orders.proofs.Final.{ended_order_is_legal}
 
 -- a cut of two callers is within another where both counts are no greater
 within_two : (a b c d : ℕ) → a ≤ c → b ≤ d → IsWithin (a ∷ b ∷ []) (c ∷ d ∷ [])

@@ -2,12 +2,12 @@
 use Rattle.std.proofs.Common.{◌≡◌, ℕ, zero, suc, ◌∙◌, List, [], ◌∷◌, ◌++◌, Some, refl, sym, ap, inl, arith}
 use Rattle.std.proofs.lemmas.Option.{same_Some, none-some}
 use Rattle.book_base.specs.Book.{operation_of, Precedes}
-use Rattle.history_rules.specs.Container.{Effect, Puts, Takes, Neither, value_put, GivesFirst, IsQueue, IsStack}
-use Rattle.history_rules.specs.Calls.{PutsInAlone, TakesOut}
+use Rattle.legal_orders.specs.Container.{Effect, Puts, Takes, Neither, value_put, GivesFirst, IsQueue, IsStack}
+use Rattle.legal_orders.specs.Calls.{PutsInAlone, TakesOut}
 use Rattle.book_base.specs.Reaching.{IsInfeasible, MustComeFirst}
 use Rattle.judging_examples.specs.SmallObjects.{sample, sample_deed, sample_shown, queue_next, queue_spec, stack_next, call_of, six_first}
-use Rattle.history_rules.proofs.QueueRules.{puts_in_order}
-use Rattle.history_rules.proofs.MoreTaken.{infeasible_until_then}
+use Rattle.legal_orders.proofs.QueueRules.{puts_in_order}
+use Rattle.legal_orders.proofs.MoreTaken.{infeasible_until_then}
 
 -- equal puts put in equal values
 same_put : (v w : ℕ) → Puts v ≡ Puts w → v ≡ w

@@ -2,7 +2,7 @@
 use Rattle.std.specs.Prelude.{ℕ, zero, suc, List, [], ◌∷◌, Option, Some, None}
 use Rattle.book_base.specs.SeqSpec.{SeqSpec}
 use Rattle.book_base.specs.Book.{Page}
-use Rattle.history_rules.specs.Container.{Effect, Puts, Takes, Neither, Reading}
+use Rattle.legal_orders.specs.Container.{Effect, Puts, Takes, Neither, Reading}
 use Rattle.judging_examples.specs.Books.{answer, caller_page}
 
 -- A bag holds ones and twos, and gives out the value that was put in last. The operation 0 takes,

@@ -2,7 +2,7 @@
 use Rattle.std.specs.Prelude.{ℕ, zero, suc, false, true, Bool, List, [], ◌∷◌, ◌++◌, Option, Some, None}
 use Rattle.book_base.specs.SeqSpec.{SeqSpec}
 use Rattle.book_base.specs.Book.{Page}
-use Rattle.history_rules.specs.Container.{Effect, Puts, Takes, Neither, Reading}
+use Rattle.legal_orders.specs.Container.{Effect, Puts, Takes, Neither, Reading}
 use Rattle.judging_examples.specs.Books.{answer, caller_page}
 use Rattle.stack_levels.specs.Levels.{Layer}
 

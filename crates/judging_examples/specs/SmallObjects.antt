@@ -5,7 +5,7 @@ use Rattle.book_base.specs.declared.call.Call.{Call}
 use Rattle.book_base.specs.declared.call.Record.{Record}
 use Rattle.book_base.specs.SeqSpec.{SeqSpec}
 use Rattle.book_base.specs.Book.{Page}
-use Rattle.history_rules.specs.Container.{Effect, Puts, Takes, Reading}
+use Rattle.legal_orders.specs.Container.{Effect, Puts, Takes, Reading}
 
 -- what an operation of a small object does: 0 takes, and v + 1 puts in v
 abbrev pub sample_deed : ℕ → Effect

@@ -2,10 +2,10 @@
 
 ghost use Rattle.std.specs.Prelude.{[], ◌∷◌};
 ghost use Rattle.book_base.specs.Order.{HasLegalOrder};
-ghost use Rattle.history_rules.specs.Container.{IsContainer};
+ghost use Rattle.legal_orders.specs.Container.{IsContainer};
 ghost use Rattle.queue_pairs.specs.declared.table.Table.{Table};
 ghost use Rattle.queue_pairs.specs.Tables.{IsTable};
-ghost use Rattle.container_counts.specs.Counts.{IsRefuted, PutsAhead, TakesAhead};
+ghost use Rattle.queue_pairs.specs.Counts.{IsRefuted, PutsAhead, TakesAhead};
 ghost use Rattle.judging_examples.specs.Bags.{bag, bag_next, bag_spec, put_and_taken, taken_unput};
 
 /// A book of a bag in which a value is taken out that nobody put in is refuted by counts.

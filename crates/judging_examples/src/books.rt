@@ -4,7 +4,7 @@ ghost use Rattle.std.specs.Prelude.{◌≡◌, [], ◌∷◌, take};
 ghost use Rattle.book_base.specs.Book.{IsValid};
 ghost use Rattle.book_base.specs.BookAt.{book_at};
 ghost use Rattle.book_base.specs.Order.{IsLegalOrder, HasLegalOrder};
-ghost use Rattle.book_laws.specs.Greatest.{greatest_counts};
+ghost use Rattle.legal_orders.specs.Greatest.{greatest_counts};
 ghost use Rattle.judging_examples.specs.Books.{line_spec, caller_page, overtaken, overtaken_seen, overtaken_early, overtaking, tenfold_spec, mistaken};
 
 /// The books at three cuts of one book. Each has exactly the calls that the view of some record

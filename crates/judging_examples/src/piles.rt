@@ -3,7 +3,7 @@
 
 ghost use Rattle.std.specs.Prelude.{ℕ, List, [], ◌∷◌, Some, None};
 ghost use Rattle.book_base.specs.Order.{HasLegalOrder};
-ghost use Rattle.stack_pruning.specs.LastFirst.{GivesLastFirst};
+ghost use Rattle.list_pruning.specs.LastFirst.{GivesLastFirst};
 ghost use Rattle.stack_levels.specs.Levels.{Layer, IsAmong, IsClosed, LeavesTop, TakeLeads};
 ghost use Rattle.judging_examples.specs.Piles.{
   both_below,

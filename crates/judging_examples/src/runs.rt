@@ -5,7 +5,7 @@ ghost use Rattle.std.specs.Prelude.{[], ◌∷◌};
 ghost use Rattle.seq_objects.specs.declared.kind.Kind.TheVariants as kinds;
 ghost use Rattle.seq_objects.specs.Words as words;
 ghost use Rattle.seq_objects.specs.Replies.{reply_done, reply_none, reply_value, reply_no, reply_yes, reply_bad};
-ghost use Rattle.object_laws.specs.Runs.{IsRunOfKind};
+ghost use Rattle.broken_rules.specs.Runs.{IsRunOfKind};
 ghost use Rattle.judging_examples.specs.Runs.{operation};
 
 /// Runs of a queue: two values come out in their order, and then none.

@@ -1,7 +1,7 @@
 //! Worked cases: small objects that the rules speak of, and a book that a rule decides.
 
 ghost use Rattle.std.specs.Prelude.{[], ◌∷◌};
-ghost use Rattle.history_rules.specs.Container.{IsQueue, IsStack};
+ghost use Rattle.legal_orders.specs.Container.{IsQueue, IsStack};
 ghost use Rattle.book_base.specs.Reaching.{IsInfeasible, MustComeFirst};
 ghost use Rattle.judging_examples.specs.SmallObjects.{sample, queue_next, queue_spec, stack_next, call_of, six_first};
 

@@ -1,8 +1,8 @@
 -- A register holds the value written last.
 use Rattle.std.proofs.Common.{◌≡◌, ◌≢◌, ℕ, ◌^◌, ◌<◌, List, Option, None, Some, refl, arith}
 use Rattle.std.proofs.lemmas.Bool.{cond_both}
-use Rattle.history_rules.specs.Container.{Puts, Takes}
-use Rattle.value_pruning.specs.HoldsLast.{HoldsLast}
+use Rattle.legal_orders.specs.Container.{Puts, Takes}
+use Rattle.list_pruning.specs.HoldsLast.{HoldsLast}
 use Rattle.seq_objects.specs.declared.register.RegisterOperation.{RegisterOperation}
 use Rattle.seq_objects.specs.declared.register.RegisterOperation.TheVariants.{Write, Read}
 use Rattle.seq_objects.specs.Words as words

@@ -2,8 +2,8 @@
 use Rattle.std.proofs.Common.{◌≡◌, ◌≢◌, ℕ, ◌*◌, ◌^◌, ◌<◌, ◌∙◌, ◌==◌, ◌&&◌, true, List, [], ◌∷◌, ◌++◌, length, take, get_or, Option, None, Some, refl, sym, ap, arith, length-append}
 use Rattle.std.proofs.lemmas.Bool.{cond_both, eqb-true, and_parts}
 use Rattle.std.proofs.Math.Seq.{take-append_seam, get_or-append_seam}
-use Rattle.history_rules.specs.Container.{Puts, Takes, Neither}
-use Rattle.stack_pruning.specs.LastFirst.{GivesLastFirst}
+use Rattle.legal_orders.specs.Container.{Puts, Takes, Neither}
+use Rattle.list_pruning.specs.LastFirst.{GivesLastFirst}
 use Rattle.seq_objects.specs.declared.stack.StackOperation.{StackOperation}
 use Rattle.seq_objects.specs.declared.stack.StackOperation.TheVariants.{Push, Pop}
 use Rattle.seq_objects.specs.Words as words

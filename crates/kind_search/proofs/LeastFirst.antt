@@ -4,8 +4,8 @@ use Rattle.std.specs.List.{prefix_len}
 use Rattle.std.proofs.lemmas.Bool.{cases_lt, cond_both, cond-true, cond-false, lt-ltb, le-ltb, eqb-true, and_parts}
 use Rattle.std.proofs.lemmas.Option.{same_Some}
 use Rattle.list_laws.proofs.Options.{if_some}
-use Rattle.history_rules.specs.Container.{Puts, Takes, Neither}
-use Rattle.value_pruning.specs.LeastFirst.{placed, GivesLeastFirst}
+use Rattle.legal_orders.specs.Container.{Puts, Takes, Neither}
+use Rattle.list_pruning.specs.LeastFirst.{placed, GivesLeastFirst}
 use Rattle.seq_objects.specs.declared.pqueue.PqueueOperation.{PqueueOperation}
 use Rattle.seq_objects.specs.declared.pqueue.PqueueOperation.TheVariants.{Insert, Min}
 use Rattle.seq_objects.specs.Words as words

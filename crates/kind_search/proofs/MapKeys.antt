@@ -5,7 +5,7 @@ use Rattle.std.proofs.lemmas.Bool.{eqb-true, eq-eqb, ne_eqb}
 use Rattle.std.proofs.lemmas.Option.{same_Some, none-some}
 use Rattle.std.proofs.lemmas.List.Quantifiers.{position-Some}
 use Rattle.list_laws.proofs.Options.{cases_Option}
-use Rattle.pruning_laws.specs.Keys.{IsKeyed}
+use Rattle.legal_orders.specs.Keys.{IsKeyed}
 use Rattle.seq_objects.specs.declared.map.MapOperation.{MapOperation}
 use Rattle.seq_objects.specs.declared.map.MapOperation.TheVariants.{Put, Get, Delete}
 use Rattle.seq_objects.specs.Replies.{reply_none, reply_value, reply_bad}

@@ -12,8 +12,8 @@ use Rattle.book_base.specs.Pruning.{HasOneOpen, IsForced}
 use Rattle.search_hints.specs.Marks.{IsMarked, MarksAllNext, MarksSuffice}
 use Rattle.book_base.proofs.ViewLemmas.{same_call}
 use Rattle.book_base.proofs.PageLemmas.{caller_from_call}
-use Rattle.pruning_laws.specs.Keys.{IsKeyed}
-use Rattle.pruning_laws.proofs.Bringing.{forced_key_goes_first}
+use Rattle.legal_orders.specs.Keys.{IsKeyed}
+use Rattle.legal_orders.proofs.Bringing.{forced_key_goes_first}
 use Rattle.kind_search.specs.Keys.{next_word}
 
 -- Of the marked callers below a number exactly those keep their marks that have a property.

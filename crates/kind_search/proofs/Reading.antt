@@ -7,7 +7,7 @@ use Rattle.std.proofs.lemmas.List.{map-append, reverse-append, take_more, take_a
 use Rattle.std.proofs.lemmas.List.Elements.{Contains-get_or}
 use Rattle.std.proofs.lemmas.List.Sorted.{Contains-permutation, IsPermutation-reverse}
 use Rattle.list_laws.proofs.Options.{if_some}
-use Rattle.history_rules.specs.Container.{Puts, Takes, Neither, GivesFirst, IsQueue, IsStack}
+use Rattle.legal_orders.specs.Container.{Puts, Takes, Neither, GivesFirst, IsQueue, IsStack}
 use Rattle.container_pruning.specs.FoundRules.{HoldsItsWords}
 use Rattle.seq_objects.specs.declared.queue.QueueOperation.{QueueOperation}
 use Rattle.seq_objects.specs.declared.queue.QueueOperation.TheVariants.{Enqueue, Dequeue}

@@ -1,6 +1,6 @@
 -- How a priority queue is read as a container: as puts and takes of values.
 use Rattle.std.specs.Prelude.{map, Option, Some, None}
-use Rattle.history_rules.specs.Container.{Effect, Puts, Takes, Neither, Reading}
+use Rattle.legal_orders.specs.Container.{Effect, Puts, Takes, Neither, Reading}
 use Rattle.seq_objects.specs.declared.pqueue.PqueueOperation.{PqueueOperation}
 use Rattle.seq_objects.specs.declared.pqueue.PqueueOperation.TheVariants.{Insert, Min}
 use Rattle.seq_objects.specs.PqueueSteps.{pqueue_operation}

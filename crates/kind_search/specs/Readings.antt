@@ -1,7 +1,7 @@
 -- How queues and stacks are read as containers: as puts and takes of values. The value of a word of
 -- a list is its low 32 bits, which a reply shows.
 use Rattle.std.specs.Prelude.{map, reverse, Option, Some, None}
-use Rattle.history_rules.specs.Container.{Effect, Puts, Takes, Neither, Reading}
+use Rattle.legal_orders.specs.Container.{Effect, Puts, Takes, Neither, Reading}
 use Rattle.seq_objects.specs.declared.queue.QueueOperation.{QueueOperation}
 use Rattle.seq_objects.specs.declared.queue.QueueOperation.TheVariants.{Enqueue, Dequeue}
 use Rattle.seq_objects.specs.declared.stack.StackOperation.{StackOperation}

@@ -1,7 +1,7 @@
 -- How a register is read: as puts and takes of the value that it holds. A take doesn't remove the
 -- value.
 use Rattle.std.specs.Prelude.{ℕ, List, map, Option, Some, None}
-use Rattle.history_rules.specs.Container.{Effect, Puts, Takes, Neither, Reading}
+use Rattle.legal_orders.specs.Container.{Effect, Puts, Takes, Neither, Reading}
 use Rattle.seq_objects.specs.declared.register.RegisterOperation.{RegisterOperation}
 use Rattle.seq_objects.specs.declared.register.RegisterOperation.TheVariants.{Write, Read}
 use Rattle.seq_objects.specs.Items.{first_or_zero}

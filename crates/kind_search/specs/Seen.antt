@@ -2,7 +2,7 @@
 use Rattle.std.specs.Prelude.{ℕ, List}
 use Rattle.book_base.specs.Book.{Page}
 use Rattle.search_hints.specs.declared.sight.Sight.{Sight}
-use Rattle.value_pruning.specs.Sights.{ListsValues}
+use Rattle.list_pruning.specs.Sights.{ListsValues}
 use Rattle.seq_objects.specs.declared.kind.Kind.{Kind}
 use Rattle.seq_objects.specs.declared.kind.Kind.TheVariants as kinds
 use Rattle.kind_search.specs.Readings.{stack_reading}

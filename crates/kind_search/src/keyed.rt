@@ -3,7 +3,7 @@ ghost use Rattle.book_base.specs.Book.{IsCall};
 ghost use Rattle.book_base.specs.Next.{next_call};
 ghost use Rattle.book_base.specs.Pruning.{HasOneOpen, IsForced};
 ghost use Rattle.search_hints.specs.Marks.{MarksAllNext, MarksSuffice, IsMarkedWithin};
-ghost use Rattle.pruning_laws.specs.Keys.{IsKeyed};
+ghost use Rattle.legal_orders.specs.Keys.{IsKeyed};
 ghost use Rattle.kind_search.specs.Keys.{next_word, IsNarrowedToKey, map_key, set_key};
 
 use book_base::{Book, Call, Cut, OpWord};

@@ -1,7 +1,7 @@
 ghost use Rattle.std.specs.Prelude.{◌≡◌, length};
 ghost use Rattle.book_base.specs.Pruning.{HasOneOpen, IsForced, IsReached};
 ghost use Rattle.search_hints.specs.Marks.{IsMarkedWithin, MarksAllNext, MarksSuffice};
-ghost use Rattle.seq_objects.specs.Objects.{kind_next, kind_spec, length-kind_init, length-kind_next, kind_next-unknown};
+ghost use Rattle.seq_objects.specs.Objects.{kind_next, kind_spec, kind_next-unknown};
 ghost use Rattle.seq_objects.specs.Words.{is_known_word};
 ghost use Rattle.kind_search.specs.RegisterReading.{held_in};
 ghost use Rattle.kind_search.specs.Seen.{kind_sees, IsNarrowedByKind};
@@ -10,13 +10,12 @@ use crate::keyed::{MapKeys, SetKeys, empty_sight, narrow_to_key};
 use crate::readers::{PqueueReader, QueueReader, RegisterReader, StackReader};
 use book_base::{Book, Cut, NoMemory, OpWord, SeqObject, State};
 use container_pruning::{queue_pruning_rules, stack_pruning_rules};
+use list_pruning::{narrow_holds_last, narrow_last_first, narrow_least_first, sight_of_values};
 use queue_refutation::decide_queue;
 use search_hints::{Decision, MarkedCallers, PruningRules, SearchHints, Sight};
 use seq_objects::Kind;
 use stack_levels::decide_stack;
-use stack_pruning::narrow_last_first;
 use std::alloc::Global;
-use value_pruning::{narrow_holds_last, narrow_least_first, sight_of_values};
 
 /// How many values a register can have: those below 2^32.
 const VALUES: u64 = 1 << 32;
@@ -32,14 +31,14 @@ impl SeqObject for SearchedKind {
 
     ghost spec = { λ object. kind_spec object.kind };
 
-    ghost begins_small = { λ object. length-kind_init object.kind };
-
-    ghost grows_by_one = { λ object. length-kind_next object.kind };
-
     ghost unknown_is_bad = { λ object. kind_next-unknown object.kind };
 
     fn known(&self, op: OpWord) -> bool {
         self.kind.known(op)
+    }
+
+    fn capacity(&self, operations: u64) -> u64 {
+        self.kind.capacity(operations)
     }
 
     fn reset(&self, state: &mut State) {

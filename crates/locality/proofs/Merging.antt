@@ -20,10 +20,10 @@ use Rattle.book_base.specs.Sequential.{IsRunFrom, IsLegalRun}
 use Rattle.book_base.specs.Order.{call_at, step_at, StandsAt, HasLegalOrder}
 use Rattle.book_base.specs.Pruning.{HasOneOpen}
 use Rattle.book_base.proofs.PageLemmas.{caller_from_call}
-use Rattle.book_laws.proofs.LegalOrder.{answer_stands}
+use Rattle.legal_orders.proofs.LegalOrder.{answer_stands}
 use Rattle.queue_pairs.specs.Moments.{moment_of}
 use Rattle.queue_pairs.proofs.Moments.{later_moment, held_unless_preceded}
-use Rattle.object_laws.proofs.Stepping.{runs_before}
+use Rattle.broken_rules.proofs.Stepping.{runs_before}
 use Rattle.smaller_book.proofs.Following.{some_that}
 use Rattle.locality.specs.Locality.{IsProduct, steps_of_key, Locality}
 use Rattle.locality.proofs.Restricting.{legal_wholes_have_legal_parts}

@@ -12,7 +12,7 @@ use Rattle.book_base.specs.SeqSpec.{SeqSpec}
 use Rattle.book_base.specs.Book.{Page, IsCall, IsAnswered, IsValid, operation_of, record_of, Precedes}
 use Rattle.book_base.specs.Sequential.{IsLegalRun}
 use Rattle.book_base.specs.Order.{call_at, step_at, IsLegalOrder}
-use Rattle.book_laws.proofs.LegalOrder.{same_call, same_place, answer_stands}
+use Rattle.legal_orders.proofs.LegalOrder.{same_call, same_place, answer_stands}
 use Rattle.smaller_book.specs.Part.{numbers_of, AreRising, original, IsPart, KeepsAnswers}
 use Rattle.smaller_book.proofs.Counts.{below_from_counted}
 use Rattle.smaller_book.proofs.Following.{some_that, record_was}

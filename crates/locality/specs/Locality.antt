@@ -8,7 +8,7 @@ use Rattle.book_base.specs.Book.{Page, IsValid, operation_of, record_of}
 use Rattle.book_base.specs.Sequential.{IsRunFrom}
 use Rattle.book_base.specs.Order.{HasLegalOrder}
 use Rattle.book_base.specs.Pruning.{HasOneOpen}
-use Rattle.pruning_laws.specs.Keys.{IsKeyed}
+use Rattle.legal_orders.specs.Keys.{IsKeyed}
 use Rattle.smaller_book.specs.Part.{IsNamed, IsPart, KeepsAnswers}
 
 -- An object is a product of objects, one for each key: `key` gives the key of each operation word,

@@ -11,7 +11,7 @@ use Rattle.book_base.specs.Book.{Page, answers_of, IsAnswered, Precedes}
 use Rattle.book_base.specs.Order.{HasLegalOrder}
 use Rattle.book_base.specs.Next.{raised, MayStandNext, list_after, Continues}
 use Rattle.book_base.specs.Pruning.{HasOneOpen, IsDeadEnd}
-use Rattle.book_laws.proofs.LegalOrder.{legal_order_from_continues, continues_from_legal_order}
+use Rattle.legal_orders.proofs.LegalOrder.{legal_order_from_continues, continues_from_legal_order}
 use Rattle.locality.proofs.Merging.{locality}
 use Rattle.model_examples.specs.Counters.{side_key, side_list, side_counter, both_counters, both_after}
 use Rattle.model_examples.specs.OpenCalls.{crossed_calls, one_each, crossed_names, crossed_part}

@@ -7,7 +7,7 @@ use Rattle.book_base.specs.SeqSpec.{SeqSpec}
 use Rattle.book_base.specs.Cut.{Holds}
 use Rattle.book_base.specs.Book.{answers_of, IsAnswered, Precedes}
 use Rattle.book_base.specs.Order.{IsLegalOrder}
-use Rattle.book_laws.proofs.LegalOrder.{legal_order_from_continues}
+use Rattle.legal_orders.proofs.LegalOrder.{legal_order_from_continues}
 use Rattle.model_examples.specs.Locks.{two_calls, two_places}
 
 abbrev call_of : ℕ → ℕ → Call

@@ -5,11 +5,11 @@ use Rattle.book_base.specs.SeqSpec.{SeqSpec}
 use Rattle.book_base.specs.Book.{Page}
 use Rattle.book_base.specs.BookAt.{IsBookAt, book_at}
 use Rattle.book_base.specs.Order.{HasLegalOrder}
-use Rattle.book_laws.proofs.BookAt.{book_at_is_the_book_at, books_at_are_one}
+use Rattle.legal_orders.proofs.BookAt.{book_at_is_the_book_at, books_at_are_one}
 use Rattle.world_core.specs.Shape.{Shape}
 use Rattle.world_core.specs.Local.{Local, fresh}
 use Rattle.world_core.specs.Calls.{AreTogether, IsPublished, book_in}
-use Rattle.world_books.proofs.Validity.{books_are_valid, published_cuts_are_within, book_long}
+use Rattle.world_laws.proofs.Validity.{books_are_valid, published_cuts_are_within, book_long}
 use Rattle.monitor.specs.declared.witness.Witness.{Witness}
 use Rattle.monitor.specs.Worlds.{published_of, published_book}
 use Rattle.monitor.proofs.Judged.{witnesses_are_final}

@@ -8,14 +8,14 @@ use Rattle.book_base.specs.Cut.{IsWithin}
 use Rattle.book_base.specs.Book.{Page}
 use Rattle.book_base.specs.BookAt.{book_at}
 use Rattle.book_base.specs.Order.{HasLegalOrder}
-use Rattle.book_laws.proofs.BookAtLaws.{larger_has_none}
+use Rattle.legal_orders.proofs.BookAtLaws.{larger_has_none}
 use Rattle.world_core.specs.declared.region.Region.TheVariants.{M}
 use Rattle.world_core.specs.Shape.{Shape}
 use Rattle.world_core.specs.Local.{Local, Given, fresh}
 use Rattle.world_core.specs.Calls.{AreTogether, IsPublished, book_in, local_at}
 use Rattle.world_laws.proofs.Locals.{given_cuts_are_published}
-use Rattle.world_books.proofs.Gathered.{gathered_is_the_book_at}
-use Rattle.world_books.proofs.Validity.{books_are_valid}
+use Rattle.world_laws.proofs.Gathered.{gathered_is_the_book_at}
+use Rattle.world_laws.proofs.Validity.{books_are_valid}
 use Rattle.collect_scan.specs.Given.{given_with}
 use Rattle.monitor.specs.declared.witness.Witness.{Witness}
 use Rattle.monitor.specs.declared.round.Round.TheVariants.{Legal, Illegal}

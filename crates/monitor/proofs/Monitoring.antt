@@ -15,13 +15,13 @@ use Rattle.book_base.specs.Order.{HasLegalOrder}
 use Rattle.world_core.specs.Shape.{Meaning}
 use Rattle.world_core.specs.Local.{Local, fresh}
 use Rattle.world_core.specs.Calls.{Reached, Is_announced, Has_record, Has_seen, Made, AreTogether, page_with, calls_in, book_in, local_at}
-use Rattle.world_books.proofs.Validity.{books_are_valid}
+use Rattle.world_laws.proofs.Validity.{books_are_valid}
 use Rattle.report_lines.specs.declared.line.LineEnd.{LineEnd}
 use Rattle.report_lines.specs.declared.line.Line.{Line}
 use Rattle.report_lines.specs.Lines.{any_error, book_of_lines, lines_at}
 use Rattle.report_lines.specs.Phases.{CallMark, Seen, Progress, HasMade, mark_of, mark_under_way, marks_of, marks_after, published_by, progress_of}
 use Rattle.report_lines.specs.Allotments.{operations_at, stop_at, phases_for}
-use Rattle.report_laws.proofs.Stepping.{length-marks_after}
+use Rattle.report_lines.proofs.Stepping.{length-marks_after}
 use Rattle.row_table.specs.declared.rows.Rows.{Rows}
 use Rattle.row_table.specs.declared.bench.Bench.{Bench}
 use Rattle.row_table.specs.declared.stance.Stance.{Stance}

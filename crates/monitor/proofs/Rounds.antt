@@ -6,8 +6,8 @@ use Rattle.list_laws.proofs.Places.{slice_get-push_cases}
 use Rattle.book_base.specs.SeqSpec.{SeqSpec}
 use Rattle.world_core.specs.declared.region.Region.TheVariants.{M}
 use Rattle.world_core.specs.Local.{Local, Given}
-use Rattle.world_books.specs.Gathering.{HasPeekedAll}
-use Rattle.world_books.proofs.Gathered.{gathered_stays}
+use Rattle.world_laws.specs.Gathering.{HasPeekedAll}
+use Rattle.world_laws.proofs.Gathered.{gathered_stays}
 use Rattle.collect_scan.specs.Given.{given_with}
 use Rattle.monitor.specs.declared.witness.Witness.{Witness}
 use Rattle.monitor.specs.Rounds.{HasScannedOnce, IsLegalAt, IsLegalRound, AreLegal, IsIllegalAt, HasMadeRounds, WasCutShort}

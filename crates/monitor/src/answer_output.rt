@@ -7,7 +7,7 @@ ghost use Rattle.monitor.specs.MonitorTexts.{IsAnswerText, IsAnswerOutput, statu
 
 use crate::Witness;
 use book_base::NoMemory;
-use book_writer::write_book;
+use book_text::write_book;
 use byte_streams::{Sink, Status, write_text};
 use seq_objects::Kind;
 use std::alloc::Global;

@@ -1,8 +1,7 @@
 use crate::older::{old_book, old_script, set_book};
 use anyhow::{Result, anyhow};
 use book_base::{ReadFault, What};
-use book_text::read_book;
-use book_writer::write_book;
+use book_text::{read_book, write_book};
 use certificate_text::{read_certificate, write_certificate};
 use client_scripts::{read_script, write_script};
 use report_text::{read_report, report_text};

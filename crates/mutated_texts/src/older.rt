@@ -5,12 +5,11 @@ ghost use Rattle.std.specs.Prelude.{◌<◌, length};
 ghost use Rattle.book_base.specs.Book.{IsCall};
 
 use book_base::{Book, Call, Cut, NoMemory, OpWord, ReadFault, low};
+use book_text::fields::{put_counts, put_pairs, put_spaced};
 use book_text::read_book1;
-use book_writer::fields::{put_counts, put_pairs, put_spaced};
 use client_scripts::{read_script1, write_script};
 use seq_objects::{Kind, put_number, put_reply};
-use set_order::Joins;
-use setbook_text::read_setbook;
+use set_order::{Joins, read_setbook};
 use sketch::announced;
 use std::alloc::Global;
 

@@ -6,14 +6,14 @@ use Rattle.book_base.specs.Cut.{Holds}
 use Rattle.book_base.specs.Book.{Page, record_of}
 use Rattle.book_base.specs.BookAt.{book_at}
 use Rattle.book_base.specs.Order.{IsLegalOrder, HasLegalOrder}
-use Rattle.book_laws.proofs.BookAt.{books_at_are_one, record_of-part, book_at_is_the_book_at}
+use Rattle.legal_orders.proofs.BookAt.{books_at_are_one, record_of-part, book_at_is_the_book_at}
 use Rattle.report_lines.specs.declared.line.LineEnd.{LineEnd}
 use Rattle.report_lines.specs.declared.line.Line.{Line}
 use Rattle.report_lines.specs.Lines.{book_of_lines, lines_at, delivered_in, delivered_at}
 use Rattle.report_lines.specs.Allotments.{operations_at}
 use Rattle.report_lines.specs.Lawful.{delivered_cut}
-use Rattle.report_laws.proofs.Lines.{caller_within}
-use Rattle.report_laws.proofs.Fitting.{lines_before_the_last_are_delivered}
+use Rattle.report_lines.proofs.Lines.{caller_within}
+use Rattle.report_lines.proofs.Fitting.{lines_before_the_last_are_delivered}
 use Rattle.reports.specs.Filling.{answer_in}
 use Rattle.reports.proofs.Filling.{page_of-lines, delivered_led, record_at}
 use Rattle.certificate_text.proofs.Readings.{one_certificate}

@@ -11,13 +11,13 @@ use Rattle.book_base.specs.declared.call.Call.{Call}
 use Rattle.book_base.specs.declared.call.Record.{Record}
 use Rattle.book_base.specs.Book.{answered}
 use Rattle.book_base.specs.BookAt.{greatest_count}
-use Rattle.book_laws.proofs.GreatestCounts.{greatest_count-append, greatest_count-reached}
+use Rattle.legal_orders.proofs.GreatestCounts.{greatest_count-append, greatest_count-reached}
 use Rattle.report_lines.specs.declared.line.LineEnd.{LineEnd}
 use Rattle.report_lines.specs.declared.line.LineEnd.TheVariants.{Pending, Unchecked, Delivered, Error}
 use Rattle.report_lines.specs.declared.line.Line.{Line}
 use Rattle.report_lines.specs.Lines.{book_of_lines, lines_at, line_at, seen_in, delivered_in, seen_at}
 use Rattle.report_lines.specs.Lawful.{delivered_cuts}
-use Rattle.report_laws.proofs.Lines.{from_delivered_cuts, seen_from_delivered}
+use Rattle.report_lines.proofs.Lines.{from_delivered_cuts, seen_from_delivered}
 use Rattle.reports.specs.Findings.{Findings, IsInBook, IsReport}
 use Rattle.named_runs.specs.Certificates.{delivered_cuts_in, delivered_cut_of}
 

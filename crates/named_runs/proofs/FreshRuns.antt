@@ -11,7 +11,7 @@ use Rattle.row_table.specs.Callers.{shape_of}
 use Rattle.row_table.specs.declared.rows.Rows.{Rows}
 use Rattle.row_table.specs.declared.bench.Bench.{Bench}
 use Rattle.reports.specs.Findings.{Findings}
-use Rattle.faulty_objects.specs.declared.behaviour.Behaviour.{Behaviour}
+use Rattle.test_objects.specs.declared.behaviour.Behaviour.{Behaviour}
 use Rattle.named_runs.specs.declared.form.Form.{Form}
 use Rattle.byte_streams.specs.declared.status.Status.{Status}
 use Rattle.run_report.specs.Reporting.{outside_shape}

@@ -18,7 +18,7 @@ use Rattle.run_report.specs.Returns.{IsBackOn}
 use Rattle.run_report.specs.Starts.{run_allotments}
 use Rattle.run_report.specs.Reporting.{outside_shape, IsReportOf}
 use Rattle.run_report.proofs.Workers.{the_local}
-use Rattle.faulty_objects.specs.declared.behaviour.Behaviour.{Behaviour}
+use Rattle.test_objects.specs.declared.behaviour.Behaviour.{Behaviour}
 use Rattle.byte_streams.specs.declared.status.Status.{Status}
 use Rattle.named_runs.specs.declared.form.Form.{Form}
 use Rattle.named_runs.specs.Runs.{RunEnds}

@@ -10,7 +10,7 @@ use Rattle.book_base.specs.SeqSpec.{SeqSpec}
 use Rattle.book_base.specs.Book.{Page}
 use Rattle.book_base.specs.BookAt.{IsBookAt}
 use Rattle.book_base.specs.Order.{IsLegalOrder}
-use Rattle.book_laws.proofs.BookAt.{books_at_are_one}
+use Rattle.legal_orders.proofs.BookAt.{books_at_are_one}
 use Rattle.book_text.specs.Grammar.{book_lines}
 use Rattle.report_lines.specs.declared.line.Line.{Line}
 use Rattle.report_lines.specs.Lines.{book_of_lines, lines_at, error_in, error_at, is_error, any_error}

@@ -7,7 +7,7 @@ use Rattle.world_core.specs.Local.{Local}
 use Rattle.report_lines.specs.declared.line.Line.{Line}
 use Rattle.report_lines.specs.Lines.{any_error}
 use Rattle.report_lines.specs.Lawful.{IsLawful}
-use Rattle.report_laws.proofs.Determined.{locals_determine_lines}
+use Rattle.report_lines.proofs.Determined.{locals_determine_lines}
 use Rattle.seq_objects.specs.declared.kind.Kind.{Kind}
 use Rattle.seq_objects.specs.Objects.{kind_spec}
 use Rattle.client_scripts.specs.Plans.{Plan}

@@ -3,7 +3,7 @@ use Rattle.std.proofs.Common.{◌≡◌, ◌∙◌, sym, ap, subst, ℕ, ◌<◌
 use Rattle.std.specs.List.{All}
 use Rattle.std.proofs.lemmas.List.Elements.{All-take}
 use Rattle.std.proofs.lemmas.Option.{get_or_from_slice_get}
-use Rattle.shared_log.specs.declared.entry.Entry.{Entry}
+use Rattle.shared_words.specs.declared.entry.Entry.{Entry}
 use Rattle.shared_words.specs.declared.shared_words.SharedWords.{SharedWords}
 use Rattle.shared_words.specs.declared.words_pass.WordsPass.{WordsPass}
 use Rattle.shared_words.specs.Deeds.{Deed, AreCalls}
@@ -11,8 +11,8 @@ use Rattle.shared_words.specs.Passes.{caller_of_pass, deeds_of, pairs_in, IsPass
 use Rattle.world_core.specs.Calls.{Made}
 use Rattle.report_lines.specs.Phases.{IsTold, answered}
 use Rattle.run_report.proofs.Places.{item_at}
-use Rattle.lawful_objects.specs.Pairs.{pairs_of}
-use Rattle.lawful_objects.proofs.Pairing.{pairs_have_the_calls}
+use Rattle.test_objects.specs.Pairs.{pairs_of}
+use Rattle.test_objects.proofs.Pairing.{pairs_have_the_calls}
 use Rattle.core_runs.specs.Logged.{IsLoggedBy, AreFormed}
 use Rattle.named_runs.specs.NamedObjects.{AreOwnPasses, TellOwnCalls}
 use Rattle.named_runs.proofs.OpenedPasses.{passes_count, pass_at}

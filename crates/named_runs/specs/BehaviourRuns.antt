@@ -14,7 +14,7 @@ use Rattle.run_report.specs.Places.{AreInOrder}
 use Rattle.run_report.specs.Starts.{run_allotments, replay_allotments}
 use Rattle.reports.specs.Findings.{Findings}
 use Rattle.run_report.specs.Reporting.{outside_shape, IsReportOf, IsToldIn}
-use Rattle.faulty_objects.specs.declared.behaviour.Behaviour.{Behaviour}
+use Rattle.test_objects.specs.declared.behaviour.Behaviour.{Behaviour}
 use Rattle.core_runs.specs.LoggedReports.{phases_in, calls_of_lines}
 use Rattle.named_runs.specs.NamedObjects.{IsOfBehaviour}
 use Rattle.named_runs.specs.Worlds.{inside_of, world_of}

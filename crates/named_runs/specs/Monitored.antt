@@ -4,7 +4,7 @@ use Rattle.seq_objects.specs.declared.kind.Kind.{Kind}
 use Rattle.world_core.specs.Local.{Local}
 use Rattle.world_core.specs.Calls.{Made, AreTogether, calls_in, local_at}
 use Rattle.client_scripts.specs.Plans.{Plan}
-use Rattle.faulty_objects.specs.declared.behaviour.Behaviour.{Behaviour}
+use Rattle.test_objects.specs.declared.behaviour.Behaviour.{Behaviour}
 use Rattle.byte_streams.specs.declared.status.Status.{Status}
 use Rattle.run_report.specs.Starts.{run_allotments}
 use Rattle.monitor.specs.Monitoring.{HaveMadeAll}

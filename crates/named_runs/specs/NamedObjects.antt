@@ -1,20 +1,20 @@
 -- Which named object answered the calls of a run's callers.
 use Rattle.std.specs.Prelude.{◌≡◌, ℕ, List, Option, IfSome, map, All}
 use Rattle.std.specs.List.{range_with_len}
-use Rattle.shared_log.specs.declared.entry.Entry.{Entry}
+use Rattle.shared_words.specs.declared.entry.Entry.{Entry}
 use Rattle.world_core.specs.Calls.{Made}
 use Rattle.report_lines.specs.Phases.{IsTold}
 use Rattle.seq_objects.specs.declared.kind.Kind.{Kind}
 use Rattle.seq_objects.specs.Objects.{kind_init, kind_next, kind_spec}
-use Rattle.lawful_objects.specs.Replays.{last_reply}
-use Rattle.lawful_objects.specs.Forms.{IsTallyReply, IsCellReply}
-use Rattle.faulty_objects.specs.Lossy.{lossy_reply}
-use Rattle.faulty_objects.specs.Twice.{twice_reply}
-use Rattle.faulty_objects.specs.Late.{late_reply}
-use Rattle.faulty_objects.specs.Invent.{invent_reply}
-use Rattle.faulty_objects.specs.Forms.{IsQueueReply}
-use Rattle.faulty_objects.specs.declared.behaviour.Behaviour.{Behaviour}
-use Rattle.faulty_objects.specs.declared.behaviour.Behaviour.TheVariants.{Lawful, Tally, Cell, Lossy, Twice, Late, Invent, Split, Onepass}
+use Rattle.test_objects.specs.Replays.{last_reply}
+use Rattle.test_objects.specs.Forms.{IsTallyReply, IsCellReply}
+use Rattle.test_objects.specs.Lossy.{lossy_reply}
+use Rattle.test_objects.specs.Twice.{twice_reply}
+use Rattle.test_objects.specs.Late.{late_reply}
+use Rattle.test_objects.specs.Invent.{invent_reply}
+use Rattle.test_objects.specs.FaultyForms.{IsQueueReply}
+use Rattle.test_objects.specs.declared.behaviour.Behaviour.{Behaviour}
+use Rattle.test_objects.specs.declared.behaviour.Behaviour.TheVariants.{Lawful, Tally, Cell, Lossy, Twice, Late, Invent, Split, Onepass}
 use Rattle.run_report.specs.Places.{AreInOrder}
 use Rattle.core_runs.specs.Logged.{IsLoggedBy, AreFormed}
 

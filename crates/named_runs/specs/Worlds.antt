@@ -5,12 +5,12 @@ use Rattle.seq_objects.specs.declared.kind.Kind.{Kind}
 use Rattle.seq_objects.specs.declared.kind.Kind.TheVariants.{Counter, Register}
 use Rattle.seq_objects.specs.Objects.{kind_spec}
 use Rattle.world_core.specs.Shape.{Shape}
-use Rattle.object_orders.specs.OneWord.{one_word_shape}
-use Rattle.object_orders.specs.TallyAndCell.{tally, cell}
-use Rattle.log_program.specs.LogProgram.{log_shape}
+use Rattle.world_objects.specs.OneWord.{one_word_shape}
+use Rattle.world_objects.specs.TallyAndCell.{tally, cell}
+use Rattle.world_objects.specs.LogProgram.{log_shape}
 use Rattle.run_report.specs.Reporting.{outside_shape}
-use Rattle.faulty_objects.specs.declared.behaviour.Behaviour.{Behaviour}
-use Rattle.faulty_objects.specs.declared.behaviour.Behaviour.TheVariants.{Lawful, Tally, Cell}
+use Rattle.test_objects.specs.declared.behaviour.Behaviour.{Behaviour}
+use Rattle.test_objects.specs.declared.behaviour.Behaviour.TheVariants.{Lawful, Tally, Cell}
 
 -- The shape of the world of a run, by its number of callers and with the greatest cap, where the
 -- object of the behaviour is inside the world for scripts of this kind: the shape of the log for

@@ -17,11 +17,12 @@ use crate::inside_run::run_inside;
 use crate::named::{monitor_named, replay_named, run_named};
 use byte_streams::{Sink, Status};
 use client_scripts::Script;
-use faulty_objects::{Behaviour, Invent, Late, Lossy, OnePass, SplitTally, Twice};
-use lawful_objects::{LogBox, Plain, Tally, WordCell};
 use seq_objects::Kind;
 use std::alloc::Global;
 use std::thread::Threads;
+use test_objects::{
+    Behaviour, Invent, Late, LogBox, Lossy, OnePass, Plain, SplitTally, Tally, Twice, WordCell,
+};
 
 // Calls a function with the type of the object of a behaviour as its first type argument.
 macro_rules! over_behaviour {

@@ -13,11 +13,11 @@ use book_base::MAX_CALLS;
 use byte_streams::{Sink, Status};
 use client_scripts::Script;
 use core_objects::{CoreCell, CoreLog, CoreTally};
-use faulty_objects::Behaviour;
 use kind_search::SearchedKind;
 use seq_objects::Kind;
 use std::alloc::Global;
 use std::thread::Threads;
+use test_objects::Behaviour;
 
 // Runs all callers of a script over the object of a behaviour that is inside the world, each in a
 // thread of its own where one can be had, and writes what the form shows of their report: over the

@@ -17,9 +17,9 @@ use crate::fresh::{monitor_fresh, replay_fresh, run_fresh};
 use crate::named_object::NamedObject;
 use byte_streams::{Sink, Status};
 use client_scripts::Script;
-use faulty_objects::Behaviour;
 use std::alloc::Global;
 use std::thread::Threads;
+use test_objects::Behaviour;
 
 /// Runs a script over the object of this behaviour.
 pub(crate) fn run_named<O: NamedObject + Sync, R: Threads + Sync, K: Sink>(

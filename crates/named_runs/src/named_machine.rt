@@ -3,13 +3,12 @@
 ghost use Rattle.std.specs.Prelude.{ℕ, List};
 ghost use Rattle.world_core.specs.Calls.{Made};
 ghost use Rattle.core_runs.specs.Logged.{IsLoggedBy};
-ghost use Rattle.faulty_objects.specs.declared.behaviour.Behaviour.{Behaviour as TheBehaviour};
-ghost use Rattle.faulty_objects.specs.declared.behaviour.Behaviour.TheVariants as behaviours;
+ghost use Rattle.test_objects.specs.declared.behaviour.Behaviour.{Behaviour as TheBehaviour};
+ghost use Rattle.test_objects.specs.declared.behaviour.Behaviour.TheVariants as behaviours;
 ghost use Rattle.named_runs.specs.NamedObjects.{IsOfBehaviour};
 
-use faulty_objects::{Invent, Late, Lossy, Twice};
-use lawful_objects::{Machine, Plain};
 use seq_objects::Kind;
+use test_objects::{Invent, Late, Lossy, Machine, Plain, Twice};
 
 /// A machine that can be made for the sequential object of each kind.
 pub(crate) trait NamedMachine: Machine + Drop + Sized {

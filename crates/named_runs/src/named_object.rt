@@ -3,18 +3,17 @@
 ghost use Rattle.std.specs.Prelude.{◌≡◌, ◌≤◌, ℕ, IfOk, All};
 ghost use Rattle.book_base.specs.declared.TheConstants.{MAX_CALLERS, MAX_CALLS};
 ghost use Rattle.seq_objects.specs.declared.kind.Kind.{Kind as TheKind};
-ghost use Rattle.faulty_objects.specs.declared.behaviour.Behaviour.{Behaviour as TheBehaviour};
-ghost use Rattle.faulty_objects.specs.declared.behaviour.Behaviour.TheVariants as behaviours;
+ghost use Rattle.test_objects.specs.declared.behaviour.Behaviour.{Behaviour as TheBehaviour};
+ghost use Rattle.test_objects.specs.declared.behaviour.Behaviour.TheVariants as behaviours;
 ghost use Rattle.named_runs.specs.NamedObjects.{AreOwnPasses, HasAnswered};
 
 use crate::named_machine::NamedMachine;
 use book_base::{MAX_CALLERS, MAX_CALLS, NoMemory};
 use drv_wrapper::{BlackBox, ObjectPass};
-use faulty_objects::{OnePass, SplitTally};
-use lawful_objects::{LogBox, LogPass, Tally, WordCell};
 use seq_objects::Kind;
 use shared_words::WordsPass;
 use std::alloc::Global;
+use test_objects::{LogBox, LogPass, OnePass, SplitTally, Tally, WordCell};
 
 /// An object that a name stands for. It is opened with a pass for each of its callers, and closed
 /// with these passes once all calls are made. Closing it shows that the object of this behaviour
@@ -48,7 +47,7 @@ pub(crate) trait NamedObject: BlackBox + Sized {
 }
 
 impl<M: NamedMachine> NamedObject for LogBox<M> {
-    ghost use Rattle.lawful_objects.specs.Passes.{callers_in, machine_in};
+    ghost use Rattle.test_objects.specs.Passes.{callers_in, machine_in};
     ghost use Rattle.named_runs.specs.NamedObjects.{IsLogFor};
 
     ghost behaviour = { M.behaviour };

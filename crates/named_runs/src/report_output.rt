@@ -9,7 +9,7 @@ ghost use Rattle.named_runs.specs.Runs.{IsWitnessText, IsWritten, HasForm, IsRun
 use crate::certificate::report_certificate;
 use crate::form::Form;
 use book_base::NoMemory;
-use book_writer::write_book;
+use book_text::write_book;
 use byte_streams::{Sink, Status, write_text};
 use report_text::report_text;
 use reports::{Counts, Report};

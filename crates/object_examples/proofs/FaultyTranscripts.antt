@@ -10,12 +10,12 @@ use Rattle.shared_words.specs.Histories.{Access, access, deeds_by, IsRightAccess
 use Rattle.shared_words.specs.Transcripts.{Transcript, AreOfOneHistory}
 use Rattle.object_examples.specs.WordHistories.{adds}
 use Rattle.object_examples.proofs.WordHistories.{kind_of, told_word, first_word, last_word, last_of, lawful_by_steps, zero_of_2, one_of_2}
-use Rattle.lawful_objects.specs.Forms.{increment, cell_may}
+use Rattle.test_objects.specs.Forms.{increment, cell_may}
 use Rattle.object_examples.specs.Transcripts.{counts_once}
-use Rattle.faulty_objects.specs.Forms.{IsSplit, enqueue, dequeue, item_index, queue_may, empty_places, IsDequeued, IsOnePass, up, meeting_may, other_caller, IsMeeting}
-use Rattle.faulty_objects.specs.Together.{TellOneSplit, TellOneQueue, TellOneMeeting}
+use Rattle.test_objects.specs.FaultyForms.{IsSplit, enqueue, dequeue, item_index, queue_may, empty_places, IsDequeued, IsOnePass, up, meeting_may, other_caller, IsMeeting}
+use Rattle.test_objects.specs.FaultyTogether.{TellOneSplit, TellOneQueue, TellOneMeeting}
 use Rattle.object_examples.specs.FaultyTranscripts.{both_load_first, one_by_one, enqueues_5, dequeues, put_5, finds_at_0, both_raise_first, found_too_early, raises_the_other, meets}
-use Rattle.faulty_objects.proofs.Together.{one_split, one_queue, one_meeting}
+use Rattle.test_objects.proofs.FaultyTogether.{one_split, one_queue, one_meeting}
 
 -- four accesses of callers below 2 are a history of callers below 2
 four_of_2 : (a b c d : Access) → a.caller < 2 → b.caller < 2 → c.caller < 2 → d.caller < 2

@@ -11,10 +11,10 @@ use Rattle.shared_words.specs.Transcripts.{Transcript, AreOfOneHistory}
 use Rattle.object_examples.specs.WordHistories.{adds, three_additions}
 use Rattle.object_examples.proofs.WordHistories.{kind_of, told_word, first_word, last_word, last_of, lawful_by_steps, zero_of_2, one_of_2, three_are_of_2}
 use Rattle.shared_words.proofs.Histories.{deeds_by-own}
-use Rattle.lawful_objects.specs.Forms.{increment, write, read, tally_may, cell_may, IsTallied, IsCellCall}
-use Rattle.lawful_objects.specs.Together.{TellOneTally, TellOneCell}
+use Rattle.test_objects.specs.Forms.{increment, write, read, tally_may, cell_may, IsTallied, IsCellCall}
+use Rattle.test_objects.specs.Together.{TellOneTally, TellOneCell}
 use Rattle.object_examples.specs.Transcripts.{counts_0_and_2, counts_once, writes_7, reads_value, stored_then_loaded, loaded_then_stored}
-use Rattle.lawful_objects.proofs.Together.{one_tally, one_cell}
+use Rattle.test_objects.proofs.Together.{one_tally, one_cell}
 
 -- ---- a tally
 

@@ -6,7 +6,7 @@ use Rattle.shared_words.specs.Deeds.{Added, Stored, Loaded, Swapped}
 use Rattle.shared_words.specs.Histories.{Access, access}
 use Rattle.shared_words.specs.Transcripts.{Transcript}
 use Rattle.object_examples.specs.WordHistories.{adds, transcript}
-use Rattle.faulty_objects.specs.Forms.{enqueue, dequeue, item_index, up}
+use Rattle.test_objects.specs.FaultyForms.{enqueue, dequeue, item_index, up}
 
 -- Two callers of a split tally each load its word and find 0, and then each of them stores `word`.
 abbrev pub both_load_first : ℕ → List Access

@@ -8,7 +8,7 @@ use Rattle.world_core.specs.World.{Step}
 use Rattle.world_examples.specs.Histories.{numbering}
 use Rattle.world_examples.specs.Schedules.{by, scan, stages, publication, object_step}
 use Rattle.object_examples.specs.TallyRuns.{gets}
-use Rattle.log_program.specs.LogProgram.{log_shape}
+use Rattle.world_objects.specs.LogProgram.{log_shape}
 
 -- Two callers with one call each over the log of an object whose reply is the number of operations
 -- before. The words of caller 0 lie at places 0 and 1, those of caller 1 at 2 and 3, and the log at

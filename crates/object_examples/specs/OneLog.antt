@@ -1,9 +1,9 @@
 -- Worked calls of one caller and of two, and which of them are in one log.
 use Rattle.std.specs.Prelude.{ℕ, zero, suc, List, [], ◌∷◌}
-use Rattle.shared_log.specs.declared.entry.Entry.{Entry}
+use Rattle.shared_words.specs.declared.entry.Entry.{Entry}
 use Rattle.world_core.specs.Calls.{Is_announced, Has_record, Made}
 use Rattle.world_examples.specs.Histories.{numbering}
-use Rattle.lawful_objects.specs.Replays.{last_reply}
+use Rattle.test_objects.specs.Replays.{last_reply}
 
 -- The answer to a log of an object that replies to each operation with the number of operations
 -- before it.

@@ -5,8 +5,8 @@ use Rattle.world_core.specs.Shape.{Shape}
 use Rattle.world_core.specs.Event.{Object, Look, Begins_view}
 use Rattle.world_core.specs.World.{Step}
 use Rattle.world_examples.specs.Schedules.{by, announcement, object_step}
-use Rattle.object_orders.specs.OneWord.{one_word_shape}
-use Rattle.object_orders.specs.TallyAndCell.{tally, cell}
+use Rattle.world_objects.specs.OneWord.{one_word_shape}
+use Rattle.world_objects.specs.TallyAndCell.{tally, cell}
 
 -- Two callers with one call each over the tally.
 abbrev pub tally_pair : Shape

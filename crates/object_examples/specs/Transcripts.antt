@@ -6,7 +6,7 @@ use Rattle.shared_words.specs.Deeds.{Stored, Loaded}
 use Rattle.shared_words.specs.Histories.{Access, access}
 use Rattle.shared_words.specs.Transcripts.{Transcript}
 use Rattle.object_examples.specs.WordHistories.{transcript}
-use Rattle.lawful_objects.specs.Forms.{increment, write, read}
+use Rattle.test_objects.specs.Forms.{increment, write, read}
 
 -- Caller 0 of a tally asks for two increments, which reply 0 and 2, and between them for an
 -- operation that a tally doesn't know.

@@ -4,7 +4,7 @@
 ghost use Rattle.std.specs.Prelude.{[], ◌∷◌, ◌++◌};
 ghost use Rattle.seq_objects.specs.Replies.{reply_none, reply_value};
 ghost use Rattle.object_examples.specs.Transcripts.{counts_once};
-ghost use Rattle.faulty_objects.specs.Together.{TellOneSplit, TellOneQueue, TellOneMeeting};
+ghost use Rattle.test_objects.specs.FaultyTogether.{TellOneSplit, TellOneQueue, TellOneMeeting};
 ghost use Rattle.object_examples.specs.FaultyTranscripts.{both_load_first, one_by_one, enqueues_5, dequeues, put_5, finds_at_0, both_raise_first, found_too_early, raises_the_other, meets};
 
 /// Two callers of a split tally make an increment each.

@@ -6,7 +6,7 @@ ghost use Rattle.seq_objects.specs.Replies.{reply_value};
 ghost use Rattle.shared_words.specs.Deeds as deeds;
 ghost use Rattle.shared_words.specs.Histories.{Access, access};
 ghost use Rattle.object_examples.specs.WordHistories.{adds, three_additions};
-ghost use Rattle.lawful_objects.specs.Together.{TellOneTally, TellOneCell};
+ghost use Rattle.test_objects.specs.Together.{TellOneTally, TellOneCell};
 ghost use Rattle.object_examples.specs.Transcripts.{counts_0_and_2, counts_once, writes_7, reads_value, stored_then_loaded, loaded_then_stored};
 
 /// Two callers of a tally make three increments.

@@ -10,7 +10,7 @@ use Rattle.book_base.specs.Book.{Page, record_of}
 use Rattle.book_base.specs.Sequential.{IsRunFrom}
 use Rattle.book_base.specs.Order.{call_at, StandsAt, step_at}
 use Rattle.book_base.specs.Next.{list_after}
-use Rattle.book_laws.proofs.LegalOrder.{answer_stands}
+use Rattle.legal_orders.proofs.LegalOrder.{answer_stands}
 use Rattle.order_check.specs.declared.fault.OrderFault.{OrderFault}
 use Rattle.order_check.specs.declared.fault.OrderFault.TheVariants.{Unknown, Twice, Skipped, Late, Record, Run, Missing}
 use Rattle.order_check.specs.Fault.{reply_after_places, FailsTest, place_of, turn_of, step_of}

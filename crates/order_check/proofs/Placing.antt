@@ -17,7 +17,7 @@ use Rattle.book_base.specs.Book.{Page, calls_of, answers_of, IsCall, IsAnswered,
 use Rattle.book_base.specs.Order.{call_at, StandsAt, step_at, IsLegalOrder}
 use Rattle.book_base.proofs.PageLemmas.{caller_from_call}
 use Rattle.book_base.specs.Next.{raised, list_after, HoldsAnswered}
-use Rattle.book_laws.proofs.LegalOrder.{same_call, raised_same, raised_other, raised_more, raised_cases}
+use Rattle.legal_orders.proofs.LegalOrder.{same_call, raised_same, raised_other, raised_more, raised_cases}
 use Rattle.order_check.specs.declared.fault.OrderFault.{OrderFault}
 use Rattle.order_check.specs.declared.fault.OrderFault.TheVariants.{Unknown, Twice, Skipped, Late, Record, Run, Missing}
 use Rattle.order_check.specs.Fault.{FailsTest, list_before, reply_after_places, place_of, turn_of, step_of, HasTurnBefore, IsTriedBefore, IsFirstFault}

@@ -11,8 +11,8 @@ use crate::place::{call_at, first_fault_at};
 use book_base::{Book, Call, Cut, MAX_CALLERS, MAX_CALLS, NoMemory, Place, SeqObject, State};
 use std::alloc::Global;
 
-// The capacity of a list with one word more than a book may have calls.
-const CAPACITY: u64 = MAX_CALLERS as u64 * MAX_CALLS + 1;
+// The greatest number of calls that a book may have.
+const MOST_CALLS: u64 = MAX_CALLERS as u64 * MAX_CALLS;
 
 /// Judges a list of places, without a search: Ok where it is a legal order of the book, and else its
 /// first fault.
@@ -32,7 +32,7 @@ pub fn check_order<S: SeqObject>(
         (λ answer. IfErr answer (IsFirstFault (S.spec object.now) book.now order.now)) }
 {
     let mut standing = Cut::zero(book.callers());
-    let mut state = State::with_room(alloc, CAPACITY)?;
+    let mut state = State::with_room(alloc, object.capacity(MOST_CALLS))?;
     object.reset(&mut state);
     for p in 0..order.len() {
         if let Some(fault) = first_fault_at(book, order, p, &standing) {

@@ -2,7 +2,7 @@
 use Rattle.std.proofs.Common.{◌≡◌, ℕ, true, Bool, ◌==◌, ap, ◌∙◌}
 use Rattle.std.proofs.lemmas.Bool.{and_parts, eqb-true}
 use Rattle.seq_objects.specs.Words.{OperationEntry, code_of, has_arguments, is_operation_of}
-use Rattle.faulty_objects.specs.Calls.{is_put, is_take}
+use Rattle.test_objects.specs.Calls.{is_put, is_take}
 
 code_is : (word : ℕ) (e : OperationEntry) → is_operation_of word e ≡ true → code_of word ≡ e.code
 code_is word e is = eqb-true (code_of word) e.code

@@ -1,16 +1,16 @@
 -- Worked logs of faulty machines, and which operations these machines take for puts and takes.
 use Rattle.std.specs.Prelude.{◌≡◌, ℕ, true, false, List, map}
 use Rattle.std.specs.List.{AllByRecursion}
-use Rattle.shared_log.specs.declared.entry.Entry.{Entry}
-use Rattle.shared_log.specs.Entries.{entry}
+use Rattle.shared_words.specs.declared.entry.Entry.{Entry}
+use Rattle.shared_words.specs.Entries.{entry}
 use Rattle.seq_objects.specs.declared.kind.Kind.TheVariants.{Queue, Counter}
 use Rattle.seq_objects.specs.Words as words
 use Rattle.seq_objects.specs.Words.{word_of, is_operation_of}
 use Rattle.seq_objects.specs.Replies.{reply_word}
 use Rattle.seq_objects.specs.Objects.{kind_spec}
-use Rattle.faulty_objects.specs.Calls.{is_put, is_take}
-use Rattle.faulty_objects.specs.Late.{late_reply}
-use Rattle.faulty_objects.specs.Invent.{invent_reply}
+use Rattle.test_objects.specs.Calls.{is_put, is_take}
+use Rattle.test_objects.specs.Late.{late_reply}
+use Rattle.test_objects.specs.Invent.{invent_reply}
 
 -- Each operation of these entries is a put, and no take.
 abbrev pub ArePuts : List words.OperationEntry → Type 0

@@ -17,8 +17,8 @@ ghost use Rattle.report_lines.specs.Phases.{judged};
 ghost use Rattle.byte_streams.specs.declared.TheConstants.{INPUT_LIMIT};
 ghost use Rattle.byte_streams.specs.declared.status.Status.TheVariants as statuses;
 ghost use Rattle.byte_streams.specs.Status.{code_of};
-ghost use Rattle.faulty_objects.specs.Calls.{is_put, is_take};
-ghost use Rattle.faulty_objects.specs.Forms.{most_loads};
+ghost use Rattle.test_objects.specs.Calls.{is_put, is_take};
+ghost use Rattle.test_objects.specs.FaultyForms.{most_loads};
 ghost use Rattle.pinned_numbers.specs.Machines.{ArePuts, AreTakes, AreNeither, late_text, invented_text};
 
 /// The limits of books, tables and states.

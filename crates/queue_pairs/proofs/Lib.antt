@@ -5,3 +5,7 @@ pub mod Swapped
 pub mod Swapping
 pub mod Spanning
 pub mod Tabling
+pub mod Entries
+pub mod Counting
+pub mod Holding
+pub mod Refuting

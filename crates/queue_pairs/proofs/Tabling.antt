@@ -6,7 +6,7 @@ use Rattle.list_laws.proofs.Places.{slice_get-push_old, slice_get-push_last, sli
 use Rattle.book_base.specs.declared.call.Call.{Call}
 use Rattle.book_base.specs.Book.{Page, calls_of, IsCall}
 use Rattle.book_base.proofs.ViewLemmas.{same_call}
-use Rattle.history_rules.specs.Container.{Reading}
+use Rattle.legal_orders.specs.Container.{Reading}
 use Rattle.container_pruning.specs.declared.deal.Deal.TheVariants as deals
 use Rattle.container_pruning.specs.Deals.{deal_of}
 use Rattle.container_pruning.proofs.Dealing.{call_by_deal}

@@ -17,8 +17,8 @@ use Rattle.book_base.specs.Next.{raised, MayStandNext, HoldsAnswered, list_after
 use Rattle.book_base.specs.Pruning.{HasOneOpen}
 use Rattle.book_base.proofs.PageLemmas.{caller_from_call}
 use Rattle.book_base.proofs.ViewLemmas.{answer_stands, same_call}
-use Rattle.book_laws.proofs.LegalOrder.{raised_same, raised_more, raised_cases, within_cut, continues_from_legal_order, legal_order_from_continues}
-use Rattle.history_rules.specs.Container.{Effect, Puts, Takes, Neither, Reading, GivesFirst, IsQueue}
+use Rattle.legal_orders.proofs.LegalOrder.{raised_same, raised_more, raised_cases, within_cut, continues_from_legal_order, legal_order_from_continues}
+use Rattle.legal_orders.specs.Container.{Effect, Puts, Takes, Neither, Reading, GivesFirst, IsQueue}
 use Rattle.container_pruning.specs.declared.deal.Deal.{Deal}
 use Rattle.container_pruning.specs.declared.deal.Deal.TheVariants as deals
 use Rattle.container_pruning.specs.Deals.{shown_deal, recorded_deal, deal_by_deed, deal_by_operation, deal_of}

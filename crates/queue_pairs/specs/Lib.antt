@@ -5,3 +5,5 @@ pub mod Serving
 pub mod Spans
 pub mod Tables
 pub mod NextEntries
+pub mod Counts
+pub mod CountLaws

@@ -4,7 +4,7 @@ use Rattle.book_base.specs.SeqSpec.{SeqSpec}
 use Rattle.book_base.specs.Book.{Page, IsValid}
 use Rattle.book_base.specs.Order.{HasLegalOrder}
 use Rattle.book_base.specs.Pruning.{HasOneOpen}
-use Rattle.history_rules.specs.Container.{Reading, IsQueue}
+use Rattle.legal_orders.specs.Container.{Reading, IsQueue}
 use Rattle.queue_pairs.specs.Pairs.{HasPairs}
 
 -- Where a valid book with one open has a legal order for a queue that begins empty, the book has

@@ -5,7 +5,7 @@ use Rattle.book_base.specs.declared.call.Call.{Call}
 use Rattle.book_base.specs.declared.call.Record.{Record}
 use Rattle.book_base.specs.Book.{Page, IsValid, record_of}
 use Rattle.book_base.specs.Pruning.{HasOneOpen}
-use Rattle.history_rules.specs.Container.{Reading}
+use Rattle.legal_orders.specs.Container.{Reading}
 use Rattle.container_pruning.specs.Deals.{deal_of}
 use Rattle.queue_pairs.specs.Moments.{moment_of, MayTakeEffect}
 use Rattle.queue_pairs.specs.Pairs.{Paired, Pair, PairStep, Pairs, IsPutOf, IsPut, IsTake, IsNext, AreSteps}

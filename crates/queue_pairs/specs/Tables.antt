@@ -2,7 +2,7 @@
 use Rattle.std.specs.Prelude.{◌≡◌, ℕ, ◌<◌, ◌≤◌, ◌⊎◌, Bool, true, false, List, [], length, map, Option, Some, None, slice_get, slice_index_or, if◌then◌else◌}
 use Rattle.book_base.specs.declared.call.Call.{Call}
 use Rattle.book_base.specs.Book.{Page, calls_of, IsValid, IsSmall}
-use Rattle.history_rules.specs.Container.{Reading}
+use Rattle.legal_orders.specs.Container.{Reading}
 use Rattle.container_pruning.specs.declared.deal.Deal.{Deal as KnownDeal}
 use Rattle.container_pruning.specs.declared.deal.Deal.TheVariants as deals
 use Rattle.container_pruning.specs.Deals.{deal_of}

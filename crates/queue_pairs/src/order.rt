@@ -6,8 +6,8 @@ use crate::walk::{PairStep, PairWalk, StepChoice};
 use book_base::{Book, Call, MAX_CALLERS, MAX_CALLS, NoMemory, Place, SeqObject, State};
 use std::alloc::Global;
 
-// The capacity of a list with one word more than a book may have calls.
-const CAPACITY: u64 = MAX_CALLERS as u64 * MAX_CALLS + 1;
+// The greatest number of calls that a book may have.
+const MOST_CALLS: u64 = MAX_CALLERS as u64 * MAX_CALLS;
 
 /// A call, and the moment at which it takes effect.
 #[derive(Clone, Copy)]
@@ -94,18 +94,21 @@ fn left_moment(walk: &PairWalk, caller: usize, timed: TimedCall) -> Option<u64> 
 }
 
 /// The places of calls in an order, each with the reply that the object gives there. The answer is
-/// `None` where a call isn't the book's, or the object's list is full.
+/// `None` where a call isn't the book's, or where they are more than a book may have.
 pub fn places_of<S: SeqObject>(
     alloc: Global,
     object: &S,
     book: &Book,
     calls: &[Call],
 ) -> Result<Option<Vec<Place>>, NoMemory> {
-    let mut state = State::with_room(alloc, CAPACITY)?;
+    if calls.len() as u64 > MOST_CALLS {
+        return Ok(None);
+    }
+    let mut state = State::with_room(alloc, object.capacity(calls.len() as u64))?;
     object.reset(&mut state);
     let mut places = Vec::with_capacity(alloc, calls.len())?;
     for call in calls {
-        if !is_call(book, *call) || state.len() >= state.room() {
+        if !is_call(book, *call) {
             return Ok(None);
         }
         let reply = object.step(&mut state, book.op(*call));

@@ -8,7 +8,7 @@ use Rattle.book_base.specs.declared.call.Record.{Record}
 use Rattle.book_base.specs.Book.{Page, record_of}
 use Rattle.book_base.specs.Pruning.{HasOneOpen}
 use Rattle.book_base.proofs.PageLemmas.{caller_from_call}
-use Rattle.history_rules.specs.Container.{Reading}
+use Rattle.legal_orders.specs.Container.{Reading}
 use Rattle.container_pruning.specs.declared.deal.Deal.TheVariants as deals
 use Rattle.container_pruning.specs.Deals.{deal_of}
 use Rattle.queue_pairs.specs.declared.TheConstants.{NEVER}
@@ -20,12 +20,12 @@ use Rattle.queue_pairs.specs.Moments.{moment_of}
 use Rattle.queue_pairs.specs.Pairs.{Paired, Pair, PairStep, Pairs, FindNothing, IsPut, IsTake, IsNext, MayPair, after, AreSteps, none_paired}
 use Rattle.queue_pairs.specs.Tables.{known_deal, is_put, is_take, rows_of, timed_at, IsTimed, IsTable}
 use Rattle.queue_pairs.proofs.Walking.{legal_orders_have_pairs}
-use Rattle.container_counts.specs.declared.counts.Counted.TheVariants as counted
-use Rattle.container_counts.specs.Counts.{listed, puts_one, shows_one, may_take_one, is_counted, PutsAhead, TakesAhead}
+use Rattle.queue_pairs.specs.declared.counts.Counted.TheVariants as counted
+use Rattle.queue_pairs.specs.Counts.{listed, puts_one, shows_one, may_take_one, is_counted, PutsAhead, TakesAhead}
 use Rattle.queue_refutation.specs.Counts.{HasNoPairs}
 use Rattle.queue_refutation.specs.CountLaws.{TakesFollowPuts}
 use Rattle.queue_refutation.specs.DeadEnds.{QueueHasNoOrder}
-use Rattle.container_counts.proofs.Counting.{bit, left_in, left-start, left-some, outside-past}
+use Rattle.queue_pairs.proofs.Counting.{bit, left_in, left-start, left-some, outside-past}
 use Rattle.queue_refutation.proofs.Entries.{IsRead, timed-is, timed-there, put-is, took-is, open-is, puts-read, takes-read, answered-last}
 use Rattle.queue_refutation.proofs.Leading.{pair-puts-due, pair-takes-due}
 

@@ -7,7 +7,7 @@ use Rattle.book_base.specs.declared.call.Call.{Call}
 use Rattle.book_base.specs.Book.{Page, answers_of, IsCall}
 use Rattle.book_base.proofs.PageLemmas.{caller_from_call}
 use Rattle.book_base.proofs.ViewLemmas.{answer_stands}
-use Rattle.history_rules.specs.Container.{Reading}
+use Rattle.legal_orders.specs.Container.{Reading}
 use Rattle.container_pruning.specs.declared.deal.Deal.TheVariants as deals
 use Rattle.container_pruning.proofs.Dealing.{call_by_deal}
 use Rattle.queue_pairs.specs.declared.TheConstants.{NEVER}
@@ -21,7 +21,7 @@ use Rattle.queue_pairs.specs.Pairs.{Pair, IsPut, IsTake, IsNext, MayPair}
 use Rattle.queue_pairs.specs.Tables.{known_deal, is_put, is_take, only_by, timed_at, put_at, take_at, IsTimed, IsTable, IsFirstFrom}
 use Rattle.queue_pairs.specs.NextEntries.{paired, IsNextEntry}
 use Rattle.queue_pairs.proofs.Serving.{next-same}
-pub use Rattle.container_counts.proofs.Entries.{timed-is, timed-there, answered-last}
+pub use Rattle.queue_pairs.proofs.Entries.{timed-is, timed-there, answered-last}
 
 -- ---- what an entry's deal says
 

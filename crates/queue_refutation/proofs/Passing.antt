@@ -11,7 +11,7 @@ use Rattle.book_base.specs.declared.call.Record.{Record}
 use Rattle.book_base.specs.Book.{Page, answers_of, IsCall, record_of}
 use Rattle.book_base.proofs.PageLemmas.{caller_from_call}
 use Rattle.book_base.proofs.ViewLemmas.{answer_stands}
-use Rattle.history_rules.specs.Container.{Reading}
+use Rattle.legal_orders.specs.Container.{Reading}
 use Rattle.container_pruning.specs.declared.deal.Deal.TheVariants as deals
 use Rattle.container_pruning.specs.Deals.{deal_of}
 use Rattle.container_pruning.proofs.Dealing.{call_by_deal}

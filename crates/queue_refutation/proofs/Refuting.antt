@@ -6,7 +6,7 @@ use Rattle.std.proofs.lemmas.List.{length-replicate}
 use Rattle.std.proofs.lemmas.Option.{same_Some, none-some}
 use Rattle.book_base.specs.Book.{Page, IsValid}
 use Rattle.book_base.specs.Pruning.{HasOneOpen}
-use Rattle.history_rules.specs.Container.{Reading}
+use Rattle.legal_orders.specs.Container.{Reading}
 use Rattle.queue_pairs.specs.Pairs.{Paired, PairStep, AreSteps, none_paired}
 use Rattle.queue_pairs.proofs.Walking.{steps_from_order}
 use Rattle.queue_refutation.specs.Closed.{IsOnePaired, AreClosed}

@@ -3,7 +3,7 @@ use Rattle.std.proofs.Common.{ℕ, List, refl, inl, inr, arith}
 use Rattle.std.proofs.lemmas.Bool.{cases_lt}
 use Rattle.book_base.specs.declared.call.Call.{Call}
 use Rattle.book_base.specs.Book.{Page}
-use Rattle.history_rules.specs.Container.{Reading}
+use Rattle.legal_orders.specs.Container.{Reading}
 use Rattle.queue_pairs.specs.Pairs.{Paired, Pairs, FindNothing, MayFind, after}
 use Rattle.queue_pairs.specs.Serving.{IsDueNoLater}
 use Rattle.queue_pairs.proofs.Serving.{held_later}

@@ -2,12 +2,12 @@
 -- prefixes of one list.
 use Rattle.std.specs.Prelude.{ℕ, ◌<◌, List, [], ◌∷◌}
 use Rattle.book_base.specs.Book.{Page}
-use Rattle.history_rules.specs.Container.{Reading}
+use Rattle.legal_orders.specs.Container.{Reading}
 use Rattle.queue_pairs.specs.declared.TheConstants.{NEVER}
 use Rattle.queue_pairs.specs.declared.table.Table.{Table}
 use Rattle.queue_pairs.specs.Pairs.{HasPairs}
 use Rattle.queue_pairs.specs.Tables.{IsTable}
-use Rattle.container_counts.specs.Counts.{PutsAhead, TakesAhead}
+use Rattle.queue_pairs.specs.Counts.{PutsAhead, TakesAhead}
 
 -- In a queue's book that has pairs: where takes of a value by one moment are ahead of its puts by
 -- another moment, the takes' moment is later than the puts' moment, and no value's puts by the

@@ -1,7 +1,7 @@
 -- Tables whose books have no pairs.
 use Rattle.std.specs.Prelude.{List}
 use Rattle.book_base.specs.Book.{Page}
-use Rattle.history_rules.specs.Container.{Reading}
+use Rattle.legal_orders.specs.Container.{Reading}
 use Rattle.queue_pairs.specs.declared.table.Table.{Table}
 use Rattle.queue_pairs.specs.Pairs.{HasPairs}
 use Rattle.queue_pairs.specs.Tables.{IsTable}

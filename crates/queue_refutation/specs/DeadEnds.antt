@@ -5,7 +5,7 @@ use Rattle.book_base.specs.declared.call.Call.{Call}
 use Rattle.book_base.specs.SeqSpec.{SeqSpec}
 use Rattle.book_base.specs.Book.{Page}
 use Rattle.book_base.specs.Order.{HasLegalOrder}
-use Rattle.history_rules.specs.Container.{Reading, IsQueue}
+use Rattle.legal_orders.specs.Container.{Reading, IsQueue}
 use Rattle.queue_pairs.specs.declared.next_entries.TimedPair.{TimedPair}
 use Rattle.queue_pairs.specs.declared.standing.PairState.{PairState}
 use Rattle.queue_pairs.specs.declared.table.Table.{Table}

@@ -4,7 +4,7 @@ use Rattle.book_base.specs.SeqSpec.{SeqSpec}
 use Rattle.book_base.specs.Book.{Page, IsValid}
 use Rattle.book_base.specs.Order.{HasLegalOrder}
 use Rattle.book_base.specs.Pruning.{HasOneOpen}
-use Rattle.history_rules.specs.Container.{Reading, IsQueue}
+use Rattle.legal_orders.specs.Container.{Reading, IsQueue}
 use Rattle.queue_pairs.specs.Pairs.{Paired, Pair, PairStep, Pairs, MayPair, AreSteps, none_paired}
 use Rattle.queue_refutation.specs.Closed.{IsOnePaired, PairServesFor, IsUnanswered, AreClosed, HasSuccessors}
 

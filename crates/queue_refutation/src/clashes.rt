@@ -1,12 +1,11 @@
 ghost use Rattle.std.specs.Prelude.{◌<◌, [], ◌∷◌, length, IfOk, IfSome, IsTrue};
-ghost use Rattle.container_counts.specs.Counts.{PutsAhead, TakesAhead};
+ghost use Rattle.queue_pairs.specs.Counts.{PutsAhead, TakesAhead};
 ghost use Rattle.queue_refutation.specs.Counts.{HasNoPairs};
 ghost use Rattle.queue_refutation.specs.DeadEnds.{QueueHasNoOrder};
 
 use book_base::{Book, NoMemory};
-use container_counts::{puts_are_ahead, takes_are_ahead};
-use next_calls::has_one_open;
-use queue_pairs::{NEVER, QueueDeal, Table, TimedCall};
+use queue_pairs::{NEVER, QueueDeal, Table, TimedCall, puts_are_ahead, takes_are_ahead};
+use search_hints::has_one_open;
 use std::alloc::Global;
 
 // How many different values are counted at most. Where there are more, few calls have the same

@@ -1,7 +1,7 @@
 ghost use Rattle.std.specs.Prelude.{◌≡◌, ℕ, ◌⊎◌, ◌<◌, ◌≤◌, List, Some, IsTrue, slice_get};
 ghost use Rattle.book_base.specs.declared.TheConstants.{MAX_CALLERS, MAX_CALLS};
 ghost use Rattle.book_base.specs.Book.{Page};
-ghost use Rattle.history_rules.specs.Container.{Reading};
+ghost use Rattle.legal_orders.specs.Container.{Reading};
 ghost use Rattle.queue_pairs.specs.declared.TheConstants.{NEVER};
 ghost use Rattle.queue_pairs.specs.declared.standing.PairState.{PairState};
 ghost use Rattle.queue_pairs.specs.Pairs.{Pairs, after};
@@ -12,8 +12,8 @@ ghost use Rattle.queue_refutation.specs.DeadEnds.{listed, QueueHasNoOrder, Lead,
 
 use book_base::{Book, Call, MAX_CALLERS, MAX_CALLS};
 use indexmap::IndexSet;
-use next_calls::has_one_open;
 use queue_pairs::{NEVER, NextEntries, PairState, QueueDeal, Table, TimedCall, TimedPair};
+use search_hints::has_one_open;
 
 /// Standings that a search entered, to be checked once more. Where whatever may come next at each
 /// of them leads to one of them, or needn't be tried, no steps lead from any of them to a whole

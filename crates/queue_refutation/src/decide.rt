@@ -1,6 +1,6 @@
 ghost use Rattle.std.specs.Prelude.{◌≡◌, [], IfOk, IsTrue};
 ghost use Rattle.search_hints.specs.Decision.{IsRightDecision};
-ghost use Rattle.history_rules.specs.Container.{IsQueue};
+ghost use Rattle.legal_orders.specs.Container.{IsQueue};
 ghost use Rattle.queue_refutation.specs.DeadEnds.{QueueHasNoOrder};
 
 use crate::clashes::refute_by_counts;
@@ -44,7 +44,7 @@ pub fn decide_queue<S: SeqObject, R: Reader>(
     ensures { IfOk result (IsRightDecision (S.spec queue.now) book.now) }
 {
     let table = Table::of(alloc, reader, book)?;
-    if container_counts::refute_by_counts(alloc, &table)? {
+    if queue_pairs::refute_by_counts(alloc, &table)? {
         return Ok(Decision::NoOrder);
     }
     if refute_by_counts(alloc, &table, book)? {

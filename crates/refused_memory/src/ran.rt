@@ -7,14 +7,13 @@ use anyhow::{Result, anyhow};
 use book_base::{MAX_CALLS, NoMemory};
 use client_scripts::{Script, read_script};
 use drv_wrapper::{BlackBox, ObjectPass};
-use faulty_objects::Lossy;
 use kind_search::SearchedKind;
-use lawful_objects::LogBox;
 use reports::Counts;
 use row_table::{Bench, Rows};
 use run_report::run_over;
 use std::alloc::Global;
 use std::thread::Threads;
+use test_objects::{LogBox, Lossy};
 use world_core::Outside;
 
 /// The script of two callers of a set that loses each second value: one puts 1 and 2 in and asks

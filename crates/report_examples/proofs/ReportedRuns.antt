@@ -4,12 +4,12 @@ use Rattle.std.proofs.lemmas.Option.{none-some, same_Some}
 use Rattle.book_base.specs.Cut.{IsWithin}
 use Rattle.book_base.specs.BookAt.{book_at}
 use Rattle.book_base.specs.Order.{HasLegalOrder}
-use Rattle.book_laws.proofs.BookAtLaws.{larger_has_none}
+use Rattle.legal_orders.proofs.BookAtLaws.{larger_has_none}
 use Rattle.world_core.specs.World.{end_of}
 use Rattle.world_core.specs.Calls.{AreTogether}
 use Rattle.world_examples.specs.Schedules.{pair, two_calls, tenfold, silent}
 use Rattle.world_examples.specs.JudgedRuns.{locals_after, both_answered}
-use Rattle.world_books.proofs.Validity.{books_are_valid}
+use Rattle.world_laws.proofs.Validity.{books_are_valid}
 use Rattle.world_examples.proofs.JudgedRuns.{both_together, delivered, silent_error}
 use Rattle.report_lines.specs.declared.line.Line.{Line}
 use Rattle.report_lines.specs.Lines.{book_of_lines, lines_at, IsJudged, AreLinesOf}

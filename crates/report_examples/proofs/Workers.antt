@@ -14,10 +14,10 @@ use Rattle.report_lines.specs.declared.line.Line.{Line}
 use Rattle.reports.specs.Cases.{unchecked, delivered}
 use Rattle.report_examples.specs.Lines.{call}
 use Rattle.report_lines.specs.Workers.{IsJudgedBy, HasWorked}
-use Rattle.report_laws.specs.Working.{HaveWorked}
+use Rattle.report_lines.specs.Working.{HaveWorked}
 use Rattle.report_examples.specs.ReportedRuns.{five_and_six, fifty, sixty, one_unchecked, one_judging}
 use Rattle.report_examples.proofs.ReportedRuns.{second_is_legal}
-use Rattle.report_laws.proofs.Workers.{workers_go_through}
+use Rattle.report_lines.proofs.Workers.{workers_go_through}
 
 pub judging_together : AreTogether pair (locals_after one_judging)
 judging_together = (end_of pair one_judging, (one_judging, refl, refl), refl)

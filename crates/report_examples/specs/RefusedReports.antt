@@ -8,7 +8,7 @@ use Rattle.report_lines.specs.declared.line.Line.{Line}
 use Rattle.reports.specs.Cases.{pending, delivered, failed}
 use Rattle.report_lines.specs.Lawful.{IsLawful}
 use Rattle.report_examples.specs.ReportedRuns.{fifty, sixty}
-use Rattle.lawful_reports.specs.Orders.{DeliveredLinesStandIn, delivered_book}
+use Rattle.reports.specs.Orders.{DeliveredLinesStandIn, delivered_book}
 
 -- Lines of two callers: the first has a delivered line with the operation 5 and the reply 50, and
 -- the second has the lines `own`.

@@ -12,7 +12,7 @@ ghost use Rattle.reports.specs.Cases.{answer, pending, unchecked, delivered};
 ghost use Rattle.report_lines.specs.Lines.{calls_of, any_error, AreLinesOf};
 ghost use Rattle.report_lines.specs.Lawful.{IsLawful};
 ghost use Rattle.report_examples.specs.ReportedRuns.{five_and_six, fifty, sixty, both_delivered, both_failed, first_failed, nothing};
-ghost use Rattle.lawful_reports.specs.Errors.{NoLinearizableRunHasTheseCalls, NoLinearizableRunHasTheseLines};
+ghost use Rattle.reports.specs.LawfulErrors.{NoLinearizableRunHasTheseCalls, NoLinearizableRunHasTheseLines};
 ghost use Rattle.report_examples.specs.RefusedReports.{with_second, with_first, after_an_error, AreNoReport, StandInOrder, first_place};
 
 /// Delivered lines have places in the order of their calls, and not in an order that leaves one of

@@ -10,8 +10,8 @@ ghost use Rattle.report_lines.specs.declared.line.LineEnd.TheVariants.{Delivered
 ghost use Rattle.report_lines.specs.Lines.{lines_at, AreLinesOf};
 ghost use Rattle.report_lines.specs.Lawful.{IsAllotted, AreSeen, IsLawful};
 ghost use Rattle.report_lines.specs.Workers.{IsJudgedBy};
-ghost use Rattle.report_laws.specs.Reporting.{HaveMade};
-ghost use Rattle.report_laws.specs.Working.{HaveWorked};
+ghost use Rattle.report_lines.specs.Reporting.{HaveMade};
+ghost use Rattle.report_lines.specs.Working.{HaveWorked};
 ghost use Rattle.report_examples.specs.ReportedRuns.{five_and_six, both_delivered, both_failed, first_failed, seen_otherwise, sixty, stopped, nothing, one_unchecked, second_begun, one_judging};
 
 /// A run of two whole calls has two lawful reports: where the object should give ten times the

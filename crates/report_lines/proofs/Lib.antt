@@ -1,2 +1,12 @@
 pub mod Accounts
 pub mod Verdicts
+pub mod Stepping
+pub mod Telling
+pub mod Pieces
+pub mod Lines
+pub mod Worlds
+pub mod Workers
+pub mod Determined
+pub mod Finality
+pub mod Runs
+pub mod Fitting

@@ -5,3 +5,7 @@ pub mod Account
 pub mod Allotments
 pub mod Lawful
 pub mod Workers
+pub mod Steps
+pub mod Telling
+pub mod Working
+pub mod Reporting

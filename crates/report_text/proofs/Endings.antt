@@ -5,9 +5,9 @@ use Rattle.text_fields.specs.declared.version.Version.TheVariants.{Second}
 use Rattle.text_fields.specs.Lines.{line_text, text_of, by_number}
 use Rattle.text_fields.specs.Head.{head_lines}
 use Rattle.book_text.specs.Grammar.{end_words}
-use Rattle.book_writer.specs.Fields.{spaced}
-use Rattle.book_writer.proofs.Lines.{both_pieces, spaced-append}
-use Rattle.book_writer.proofs.Texts.{one_more, lines_more}
+use Rattle.book_text.specs.Fields.{spaced}
+use Rattle.book_text.proofs.WrittenLines.{both_pieces, spaced-append}
+use Rattle.book_text.proofs.Texts.{one_more, lines_more}
 use Rattle.reports.specs.Findings.{Findings, sizes}
 use Rattle.reports.specs.Grammar.{caller_lines, report_lines}
 

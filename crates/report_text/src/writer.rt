@@ -4,13 +4,13 @@ ghost use Rattle.std.specs.Prelude.{◌≡◌, ◌<◌, ◌++◌, length, Some, 
 ghost use Rattle.text_fields.specs.declared.version.Version.TheVariants.{Second};
 ghost use Rattle.text_fields.specs.Lines.{line_text, text_of, by_number};
 ghost use Rattle.book_text.specs.CallLines.{answer_words};
-ghost use Rattle.book_writer.specs.Fields.{spaced};
+ghost use Rattle.book_text.specs.Fields.{spaced};
 ghost use Rattle.report_lines.specs.Lines.{lines_at};
 ghost use Rattle.report_text.specs.ReportRules.{IsReportText};
 ghost use Rattle.reports.specs.Grammar.{ending_words, line_words, caller_lines, IsWrittenText};
 
 use book_base::{Call, NoMemory, Record};
-use book_writer::fields::{put_head, put_operation, put_pairs, put_spaced};
+use book_text::fields::{put_head, put_operation, put_pairs, put_spaced};
 use report_lines::{Line, LineEnd};
 use reports::Report;
 use seq_objects::{Kind, put_number, put_reply};

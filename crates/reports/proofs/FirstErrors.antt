@@ -7,7 +7,7 @@ use Rattle.list_laws.proofs.Options.{some_from_is_some}
 use Rattle.book_base.specs.declared.call.Call.{Call}
 use Rattle.book_base.proofs.ViewLemmas.{same_call}
 use Rattle.book_base.specs.BookAt.{IsBookAt}
-use Rattle.book_laws.proofs.BookAt.{books_at_are_one}
+use Rattle.legal_orders.proofs.BookAt.{books_at_are_one}
 use Rattle.report_lines.specs.declared.line.Line.{Line}
 use Rattle.report_lines.specs.Lines.{lines_at, error_in, error_at, is_error, any_error, book_of_lines}
 use Rattle.reports.specs.Findings.{StandsBefore, IsFirstError, HasFirstErrorIn}

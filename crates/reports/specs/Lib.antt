@@ -5,3 +5,5 @@ pub mod Tally
 pub mod Errors
 pub mod Grammar
 pub mod Cases
+pub mod Orders
+pub mod LawfulErrors

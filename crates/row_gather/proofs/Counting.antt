@@ -5,7 +5,7 @@ use Rattle.std.proofs.lemmas.List.{map_more, get_or-map}
 use Rattle.std.proofs.lemmas.Option.{none-some}
 use Rattle.book_base.specs.declared.call.Record.{Record}
 use Rattle.book_base.specs.BookAt.{greatest_count}
-use Rattle.book_laws.proofs.GreatestCounts.{greatest_count-append, greatest_count-at_least, greatest_count-reached}
+use Rattle.legal_orders.proofs.GreatestCounts.{greatest_count-append, greatest_count-at_least, greatest_count-reached}
 use Rattle.row_gather.specs.Words.{records_at, greatest_of, greatest_in}
 
 -- The greatest count for a caller in the views of the first k + 1 records is the greater one of

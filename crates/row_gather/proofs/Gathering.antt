@@ -9,7 +9,7 @@ use Rattle.book_base.specs.Book.{Page, page_of, calls_of, answers_of, record_of,
 use Rattle.book_base.specs.BookAt.{IsHeldBySomeView}
 use Rattle.book_base.proofs.PageLemmas.{caller_from_call, caller_from_answer}
 use Rattle.book_base.proofs.ViewLemmas.{same_call}
-use Rattle.book_laws.proofs.BookAtLaws.{stays_valid}
+use Rattle.legal_orders.proofs.BookAtLaws.{stays_valid}
 use Rattle.world_core.specs.declared.region.Region.TheVariants.{N, M}
 use Rattle.world_core.specs.Shape.{Shape}
 use Rattle.world_core.specs.Local.{Local}
@@ -17,8 +17,8 @@ use Rattle.world_core.specs.Event.{knows_row}
 use Rattle.world_core.specs.Calls.{IsLocalOf, IsGathered, book_in}
 use Rattle.world_laws.specs.Given.{IsGivenIn}
 use Rattle.world_laws.proofs.Locals.{given_cuts_are_low, known_rows_are_counted}
-use Rattle.world_books.proofs.Gathered.{gathered_is_the_book_at}
-use Rattle.world_books.proofs.Validity.{books_are_valid}
+use Rattle.world_laws.proofs.Gathered.{gathered_is_the_book_at}
+use Rattle.world_laws.proofs.Validity.{books_are_valid}
 use Rattle.row_gather.specs.Words.{KnowsRows, IsPeekedRecord, records_at, ArePeekedTo, greatest_in, HasPeekedCalls}
 use Rattle.row_gather.specs.Filling.{IsFilled}
 use Rattle.row_gather.specs.Exact.{IsBookOfAll}

@@ -2,7 +2,7 @@
 use Rattle.std.proofs.Common.{◌≡◌, ℕ, List, Some, None, length, sym, subst}
 use Rattle.world_core.specs.Local.{Local}
 use Rattle.world_core.specs.Calls.{IsGathered}
-use Rattle.world_books.proofs.Gathered.{gathered_stays}
+use Rattle.world_laws.proofs.Gathered.{gathered_stays}
 use Rattle.row_gather.specs.declared.gathered.Gathered.{Gathered}
 use Rattle.row_gather.specs.Gathered.{IsGatheredBy, GatheredByStays}
 

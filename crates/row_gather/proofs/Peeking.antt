@@ -16,8 +16,8 @@ use Rattle.world_core.specs.Local.{Local, Scan, Given, Looked, Peeked}
 use Rattle.world_core.specs.Event.{Peek, is_same_region, is_view_entry, is_peek_wanted, with_peek, fed, knows_row, local_after}
 use Rattle.world_core.specs.Calls.{HasPeeked}
 use Rattle.world_laws.specs.Given.{IsGivenIn}
-use Rattle.world_books.specs.Gathering.{HasPeekedAll}
-use Rattle.world_books.proofs.Gathered.{view_place}
+use Rattle.world_laws.specs.Gathering.{HasPeekedAll}
+use Rattle.world_laws.proofs.Gathered.{view_place}
 use Rattle.row_table.specs.declared.caller.Caller.{Caller}
 use Rattle.row_table.specs.declared.rows.Rows.{Rows}
 use Rattle.row_table.specs.Callers.{IsStill, HasDone, local_with, stance_of}

@@ -14,7 +14,7 @@ use Rattle.book_base.proofs.ViewLemmas.{same_call}
 use Rattle.world_core.specs.declared.region.Region.TheVariants.{N, M}
 use Rattle.world_core.specs.Local.{Local}
 use Rattle.world_core.specs.Calls.{HasPeeked}
-use Rattle.world_books.specs.Gathering.{HasPeekedAll}
+use Rattle.world_laws.specs.Gathering.{HasPeekedAll}
 use Rattle.row_gather.specs.Words.{IsPeekedOperation, IsPeekedRecord, ArePeekedRecords, records_at, ArePeekedTo, AreWide, ArePeekedOperations, HasPeekedCalls}
 
 -- ---- what was peeked stays

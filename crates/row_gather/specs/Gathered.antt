@@ -5,7 +5,7 @@ use Rattle.book_base.specs.Cut.{IsWithin}
 use Rattle.book_base.specs.Book.{Page, answered}
 use Rattle.world_core.specs.Local.{Local}
 use Rattle.world_core.specs.Calls.{IsGathered}
-use Rattle.world_books.specs.Gathering.{HasPeekedAll}
+use Rattle.world_laws.specs.Gathering.{HasPeekedAll}
 use Rattle.row_gather.specs.declared.gathered.Gathered.{Gathered}
 use Rattle.row_gather.specs.Words.{words_of_book}
 

@@ -12,8 +12,8 @@ use Rattle.text_fields.specs.declared.version.Version.TheVariants.{Second}
 use Rattle.report_lines.specs.declared.line.Line.{Line}
 use Rattle.report_lines.specs.Lines.{AreLinesOf}
 use Rattle.report_lines.specs.Lawful.{IsLawful}
-use Rattle.report_laws.specs.Working.{HaveWorked}
-use Rattle.report_laws.proofs.Workers.{workers_leave_the_lines, workers_are_lawful}
+use Rattle.report_lines.specs.Working.{HaveWorked}
+use Rattle.report_lines.proofs.Workers.{workers_leave_the_lines, workers_are_lawful}
 use Rattle.row_table.specs.declared.rows.Rows.{Rows}
 use Rattle.row_table.specs.declared.bench.Bench.{Bench}
 use Rattle.row_table.specs.Callers.{shape_of, locals_on, IsBenchOf}

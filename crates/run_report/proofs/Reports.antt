@@ -26,7 +26,7 @@ use Rattle.report_lines.specs.Lines.{made_of, lines_at, line_at, book_of_lines, 
 use Rattle.report_lines.specs.Phases.{operations_of}
 use Rattle.report_lines.specs.Allotments.{operations_at}
 use Rattle.report_lines.specs.Lawful.{IsLawful}
-use Rattle.report_laws.proofs.Fitting.{seen_cuts_are_in_the_book, lines_before_the_last_are_delivered}
+use Rattle.report_lines.proofs.Fitting.{seen_cuts_are_in_the_book, lines_before_the_last_are_delivered}
 use Rattle.run_report.proofs.Starts.{operations_within}
 use Rattle.client_scripts.specs.Plans.{Plan, IsPlan}
 use Rattle.reports.specs.Findings.{IsReport, sizes}

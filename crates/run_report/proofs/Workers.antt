@@ -11,7 +11,7 @@ use Rattle.report_lines.specs.Lines.{made_of, lines_at, any_error}
 use Rattle.report_lines.specs.Phases.{IsTold, asked}
 use Rattle.report_lines.specs.Allotments.{operations_at, phases_of}
 use Rattle.report_lines.specs.Workers.{HasWorked}
-use Rattle.report_laws.specs.Working.{HaveWorked}
+use Rattle.report_lines.specs.Working.{HaveWorked}
 use Rattle.row_table.specs.Seats.{View, has, the}
 use Rattle.row_table.specs.declared.rows.Rows.{Rows}
 use Rattle.row_table.specs.declared.bench.Bench.{Bench}

@@ -1,2 +1,4 @@
 pub mod PruningRuleLemmas
 pub mod PruningLemmas
+pub mod Least
+pub mod OneOpen

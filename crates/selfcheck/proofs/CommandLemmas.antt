@@ -5,8 +5,8 @@ use Rattle.std.specs.Str.{bytes_eq}
 use Rattle.std.proofs.lemmas.Slice.Eq.{bytes_eq-Decides}
 use Rattle.selfcheck.specs.declared.command.Command.{Command}
 use Rattle.selfcheck.specs.declared.command.Command.TheVariants.{Verify, Sketch, Order, Upgrade, Sets, Run, Replay, Certify, Monitor, Soak}
-use Rattle.faulty_objects.specs.declared.behaviour.Behaviour.{Behaviour}
-use Rattle.faulty_objects.specs.Names.{behaviour_name}
+use Rattle.test_objects.specs.declared.behaviour.Behaviour.{Behaviour}
+use Rattle.test_objects.specs.Names.{behaviour_name}
 use Rattle.selfcheck.specs.Arguments.{behaviour_named, soak_number}
 use Rattle.selfcheck.proofs.ArgumentLemmas.{behaviour_named-is, behaviour_named-from, soak_number-is, soak_number-from}
 use Rattle.selfcheck.specs.Command.{words_of, CanBeNamed, lone_commands, named_in, lone_command, argued_commands, argued_in, argued_command, command_of, HaveTheirCommand}

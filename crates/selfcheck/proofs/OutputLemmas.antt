@@ -6,7 +6,7 @@ use Rattle.book_base.specs.declared.fault.TextFault.{TextFault}
 use Rattle.book_base.specs.Book.{Page}
 use Rattle.seq_objects.specs.Objects.{kind_spec}
 use Rattle.book_text.proofs.Readings.{one_book, one_first_fault}
-use Rattle.book_writer.specs.Sketches.{sketch_lines}
+use Rattle.book_text.specs.Sketches.{sketch_lines}
 use Rattle.seq_objects.specs.declared.kind.Kind.{Kind}
 use Rattle.seq_objects.specs.declared.kind.Kind.TheVariants.{Queue}
 use Rattle.sketch.specs.declared.event.Event.{Event}
@@ -20,7 +20,7 @@ use Rattle.byte_streams.specs.declared.status.Status.{Status}
 use Rattle.byte_streams.specs.declared.status.Status.TheVariants.{Fine, Found, Usage, Refused, ReadFault, WriteFault, NoMemory}
 use Rattle.byte_streams.specs.declared.TheConstants.{INPUT_LIMIT}
 use Rattle.selfcheck.specs.Command.{command_of}
-use Rattle.faulty_objects.specs.declared.behaviour.Behaviour.TheVariants.{Lawful}
+use Rattle.test_objects.specs.declared.behaviour.Behaviour.TheVariants.{Lawful}
 use Rattle.named_runs.specs.declared.form.Form.TheVariants.{Report, Counts, Certificate}
 use Rattle.named_runs.specs.Runs.{counts_text}
 use Rattle.named_runs.specs.BehaviourRuns.{IsNamedRunReport, IsNamedReplayReport}
@@ -32,12 +32,12 @@ use Rattle.byte_streams.specs.Told.{AppendsPart}
 use Rattle.byte_streams.specs.Writing.{EndsWriting}
 use Rattle.byte_streams.proofs.WritingLemmas.{EndsWriting-weaker}
 use Rattle.selfcheck.specs.UpgradeLaws.{UpgradesSayTheSame, UpgradesKeepOrders}
-use Rattle.book_verdicts.proofs.BookLemmas.{IsTextOfBook-from_told, IsTextOfBook-from_legal, IsTextOfBook-from_illegal, legal_or_illegal, book_or_fault}
-use Rattle.book_verdicts.proofs.CertificateLemmas.{IsTextOfCertificate-from_legal, IsTextOfCertificate-from_faulty, certificate_or_fault, legal_or_faulty, one_order_fault}
+use Rattle.certificate_text.proofs.BookLemmas.{IsTextOfBook-from_told, IsTextOfBook-from_legal, IsTextOfBook-from_illegal, legal_or_illegal, book_or_fault}
+use Rattle.certificate_text.proofs.CertificateLemmas.{IsTextOfCertificate-from_legal, IsTextOfCertificate-from_faulty, certificate_or_fault, legal_or_faulty, one_order_fault}
 use Rattle.selfcheck.proofs.InputLemmas.{one_refusal}
 use Rattle.certificate_text.proofs.Readings.{one_fault}
 use Rattle.client_scripts.proofs.Readings as scripts
-use Rattle.setbook_text.proofs.SharpSetBooks as set_books
+use Rattle.set_order.proofs.SharpSetBooks as set_books
 use Rattle.selfcheck.proofs.SetLemmas.{IsSetInput-from_legal, IsSetInput-from_illegal, set_input_or_fault, legal_or_illegal_sets}
 use Rattle.selfcheck.proofs.ScriptLemmas.{IsScriptInput-from_shown, script_input_or_fault, run_statuses, fine_without_error}
 use Rattle.selfcheck.proofs.SoakLemmas.{soak_counts, soak_line}

@@ -1,8 +1,8 @@
 -- Lemmas on the texts of set books and what `sets` says of them.
 use Rattle.std.proofs.Common.{ℕ, List, subst}
 use Rattle.book_base.specs.declared.fault.TextFault.{TextFault}
-use Rattle.setbook_text.specs.SetBookRules.{IsFirstSetBookFault}
-use Rattle.setbook_text.proofs.SharpSetBooks.{one_book, no_first_fault}
+use Rattle.set_order.specs.SetBookRules.{IsFirstSetBookFault}
+use Rattle.set_order.proofs.SharpSetBooks.{one_book, no_first_fault}
 use Rattle.selfcheck.specs.SetInput.{JoinsAreLegal, IsSetInput, IsLegalSetInput, IsIllegalSetInput}
 
 pub legal_or_illegal_sets : (bytes : List ℕ) → IsLegalSetInput bytes → IsIllegalSetInput bytes → ⊥

@@ -13,7 +13,7 @@ use Rattle.report_lines.specs.Phases.{mark_of, Seen, marks_of, marks_after}
 use Rattle.report_lines.specs.Allotments.{phases_of}
 use Rattle.reports.specs.Findings.{Findings}
 use Rattle.reports.specs.Tally.{is_delivered, counts_of}
-use Rattle.faulty_objects.specs.declared.behaviour.Behaviour.TheVariants.{Lawful}
+use Rattle.test_objects.specs.declared.behaviour.Behaviour.TheVariants.{Lawful}
 use Rattle.run_report.specs.Starts.{run_allotments}
 use Rattle.named_runs.specs.Runs.{counts_text}
 use Rattle.named_runs.proofs.RunLemmas.{no_error_of}

@@ -8,8 +8,8 @@ use Rattle.text_fields.specs.declared.version.Version.TheVariants.{Second}
 use Rattle.byte_streams.specs.declared.status.Status.{Status}
 use Rattle.byte_streams.specs.declared.TheConstants.{INPUT_LIMIT}
 use Rattle.byte_streams.specs.Writing.{EndsWriting}
-use Rattle.faulty_objects.specs.declared.behaviour.Behaviour.{Behaviour}
-use Rattle.faulty_objects.specs.declared.behaviour.Behaviour.TheVariants.{Lawful}
+use Rattle.test_objects.specs.declared.behaviour.Behaviour.{Behaviour}
+use Rattle.test_objects.specs.declared.behaviour.Behaviour.TheVariants.{Lawful}
 use Rattle.named_runs.specs.declared.form.Form.TheVariants.{Counts}
 use Rattle.named_runs.specs.Runs.{IsRunOutput, RunEnds}
 use Rattle.selfcheck.specs.declared.command.Command.TheVariants.{Monitor, Soak}

@@ -4,7 +4,7 @@ use Rattle.std.specs.Str.{bytes_eq}
 use Rattle.std.specs.declared.alloc.Global.{Global}
 use Rattle.selfcheck.specs.declared.command.Command.{Command}
 use Rattle.selfcheck.specs.declared.command.Command.TheVariants.{Verify, Sketch, Order, Upgrade, Sets, Run, Replay, Certify, Monitor, Soak}
-use Rattle.faulty_objects.specs.Names.{behaviour_name}
+use Rattle.test_objects.specs.Names.{behaviour_name}
 use Rattle.selfcheck.specs.Arguments.{behaviour_named, soak_number}
 
 -- The words of a command.

@@ -10,7 +10,7 @@ use Rattle.text_fields.specs.Lines.{Unread, line_at, words_of}
 use Rattle.book_text.specs.BookRules.{whole_text}
 use Rattle.client_scripts.specs.Plans.{Plan}
 use Rattle.client_scripts.specs.ScriptRules.{IsScriptText, IsFirstScriptFault}
-use Rattle.faulty_objects.specs.declared.behaviour.Behaviour.{Behaviour}
+use Rattle.test_objects.specs.declared.behaviour.Behaviour.{Behaviour}
 use Rattle.byte_streams.specs.declared.status.Status.{Status}
 use Rattle.named_runs.specs.Monitored.{AreNamedMonitored, IsMonitorOutput}
 

@@ -5,12 +5,12 @@ use Rattle.std.specs.Io.KnownBytes.{Appends, Keeps}
 use Rattle.book_base.specs.declared.fault.TextFault.{TextFault}
 use Rattle.book_base.specs.Book.{Page}
 use Rattle.book_text.specs.BookRules.{IsFirstBookFault}
-use Rattle.book_writer.specs.Sketches.{sketch_lines}
+use Rattle.book_text.specs.Sketches.{sketch_lines}
 use Rattle.client_scripts.specs.ScriptRules.{IsFirstScriptFault}
 use Rattle.certificate_text.specs.CertificateRules.{IsFirstCertificateFault}
 use Rattle.order_check.specs.declared.fault.OrderFault.{OrderFault}
 use Rattle.seq_objects.specs.declared.kind.Kind.{Kind}
-use Rattle.setbook_text.specs.SetBookRules.{IsFirstSetBookFault}
+use Rattle.set_order.specs.SetBookRules.{IsFirstSetBookFault}
 use Rattle.sketch.specs.declared.event.Event.{Event}
 use Rattle.sketch.specs.Sketch.{IsSketch}
 use Rattle.text_fields.specs.Lines.{text_of}
@@ -22,8 +22,8 @@ use Rattle.byte_streams.specs.declared.status.Status.{Status}
 use Rattle.byte_streams.specs.declared.status.Status.TheVariants.{Fine, Found, Usage, Refused, ReadFault, WriteFault, NoMemory}
 use Rattle.byte_streams.specs.declared.TheConstants.{INPUT_LIMIT}
 use Rattle.selfcheck.specs.Command.{command_of, reads_source}
-use Rattle.book_verdicts.specs.Books.{Tells, IsTextOfBook, IsLegalBook, IsIllegalBook}
-use Rattle.book_verdicts.specs.Certificates.{IsTextOfCertificate, IsLegalCertificate, IsFaultyCertificate}
+use Rattle.certificate_text.specs.Books.{Tells, IsTextOfBook, IsLegalBook, IsIllegalBook}
+use Rattle.certificate_text.specs.Certificates.{IsTextOfCertificate, IsLegalCertificate, IsFaultyCertificate}
 use Rattle.selfcheck.specs.Input.{IsRefusedFor}
 use Rattle.selfcheck.specs.Orders.{order_fault_text}
 use Rattle.selfcheck.specs.ScriptInput.{IsScriptInput, IsRunInside, IsRunOf, IsReplayOf, IsCertifiedOf, IsSoakOf}

@@ -8,8 +8,8 @@ use Rattle.client_scripts.specs.ScriptRules.{IsScriptText}
 use Rattle.seq_objects.specs.declared.kind.Kind.TheVariants.{Queue}
 use Rattle.text_fields.specs.declared.version.Version.TheVariants.{Second}
 use Rattle.reports.specs.Findings.{Findings}
-use Rattle.faulty_objects.specs.declared.behaviour.Behaviour.{Behaviour}
-use Rattle.faulty_objects.specs.declared.behaviour.Behaviour.TheVariants.{Lawful}
+use Rattle.test_objects.specs.declared.behaviour.Behaviour.{Behaviour}
+use Rattle.test_objects.specs.declared.behaviour.Behaviour.TheVariants.{Lawful}
 use Rattle.named_runs.specs.declared.form.Form.{Form}
 use Rattle.named_runs.specs.declared.form.Form.TheVariants.{Report, Counts, Certificate}
 use Rattle.byte_streams.specs.declared.status.Status.{Status}

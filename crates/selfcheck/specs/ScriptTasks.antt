@@ -1,6 +1,6 @@
 -- What commands do with the script of an input.
 use Rattle.client_scripts.specs.Plans.{Plan}
-use Rattle.faulty_objects.specs.declared.behaviour.Behaviour.{Behaviour}
+use Rattle.test_objects.specs.declared.behaviour.Behaviour.{Behaviour}
 use Rattle.reports.specs.Findings.{Findings}
 use Rattle.named_runs.specs.declared.form.Form.{Form}
 use Rattle.named_runs.specs.declared.form.Form.TheVariants.{Report, Certificate}

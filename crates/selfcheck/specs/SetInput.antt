@@ -4,7 +4,7 @@ use Rattle.std.specs.Prelude.{ℕ, List, [], ◌∷◌}
 use Rattle.book_base.specs.Book.{Page}
 use Rattle.set_order.specs.Joins.{served_joins}
 use Rattle.set_order.specs.SetOrder.{HasLegalSetOrder}
-use Rattle.setbook_text.specs.SetBookRules.{IsSetBookText}
+use Rattle.set_order.specs.SetBookRules.{IsSetBookText}
 
 -- A book of joins has a legal set order.
 abbrev pub JoinsAreLegal : List Page → Type 0

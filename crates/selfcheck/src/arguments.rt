@@ -3,8 +3,8 @@
 ghost use Rattle.std.specs.Prelude.{◌≡◌};
 ghost use Rattle.selfcheck.specs.Arguments.{behaviour_named, soak_number};
 
-use faulty_objects::Behaviour;
 use seq_objects::number;
+use test_objects::Behaviour;
 
 /// The greatest number that a soak can have.
 const MOST: u64 = 4_294_967_295;

@@ -3,8 +3,8 @@ ghost use Rattle.std.specs.Prelude.{◌≡◌, None, IfOk, IsOkAnd, IsTrue};
 use crate::arguments::{behaviour_named, soak_number};
 use crate::subcommands::{may_be_parsed, parse};
 use book_base::NoMemory;
-use faulty_objects::Behaviour;
 use std::alloc::Global;
+use test_objects::Behaviour;
 
 /// A command: what the program is to do.
 #[derive(Clone, Copy, Debug, PartialEq, Eq)]

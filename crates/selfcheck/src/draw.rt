@@ -5,7 +5,7 @@ use crate::command::Command;
 use crate::input::read_input;
 use crate::output::Output;
 use book_base::{NoMemory, ReadFault};
-use book_writer::events_text;
+use book_text::events_text;
 use byte_streams::Status;
 use sketch::sketch;
 use std::alloc::Global;

@@ -2,7 +2,7 @@ ghost use Rattle.std.specs.Prelude.{◌≡◌, ◌<◌, ◌≤◌, length, IfOk,
 ghost use Rattle.book_base.specs.declared.fault.What.TheVariants.{Long};
 ghost use Rattle.book_text.specs.BookRules.{IsFirstBookFault};
 ghost use Rattle.text_fields.specs.declared.version.Version.TheVariants.{Second};
-ghost use Rattle.book_verdicts.specs.Books.{Tells};
+ghost use Rattle.certificate_text.specs.Books.{Tells};
 ghost use Rattle.selfcheck.specs.Refusal.{IsReadFault};
 
 use book_base::{Book, ReadFault, TextFault, What};

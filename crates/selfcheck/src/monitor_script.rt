@@ -18,11 +18,11 @@ use crate::write_output::write_told;
 use book_base::{MAX_CALLERS, ReadFault, TextFault, What};
 use byte_streams::{Sink, Status};
 use client_scripts::{Script, read_script};
-use faulty_objects::Behaviour;
 use named_runs::monitor_behaviour;
 use seq_objects::Kind;
 use std::alloc::Global;
 use std::thread::Threads;
+use test_objects::Behaviour;
 use text_fields::{Lines, Version, Words, are_words, callers_of};
 
 /// Reads a script from bytes, runs it over the object of a behaviour while two monitors watch, and

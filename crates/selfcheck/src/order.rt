@@ -1,5 +1,5 @@
 ghost use Rattle.std.specs.Prelude.{◌≤◌, length, IfOk, IfErr};
-ghost use Rattle.book_verdicts.specs.Certificates.{IsOrderVerdict};
+ghost use Rattle.certificate_text.specs.Certificates.{IsOrderVerdict};
 ghost use Rattle.certificate_text.specs.CertificateRules.{IsFirstCertificateFault};
 ghost use Rattle.selfcheck.specs.Output.{IsOutputOf};
 ghost use Rattle.selfcheck.specs.Refusal.{IsReadFault};
@@ -9,8 +9,8 @@ use crate::input::check_length;
 use crate::order_fault::fault_text;
 use crate::output::Output;
 use book_base::{NoMemory, ReadFault};
-use book_verdicts::OrderVerdict;
 use byte_streams::{INPUT_LIMIT, Status};
+use certificate_text::OrderVerdict;
 use std::alloc::Global;
 
 /// The output of `order` for the bytes read.
@@ -36,5 +36,5 @@ fn verdict(alloc: Global, bytes: &[u8]) -> Result<OrderVerdict, ReadFault>
     ensures refused { IfErr result (IsReadFault IsFirstCertificateFault bytes.now) }
 {
     check_length(bytes)?;
-    book_verdicts::order(alloc, bytes)
+    certificate_text::order(alloc, bytes)
 }

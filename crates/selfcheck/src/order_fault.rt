@@ -2,11 +2,11 @@
 
 ghost use Rattle.std.specs.Prelude.{◌≡◌, ◌∷◌, [], ◌++◌, decimal, IfOk, OnOk};
 ghost use Rattle.seq_objects.specs.Replies.{reply_word};
-ghost use Rattle.book_writer.specs.Fields.{spaced};
+ghost use Rattle.book_text.specs.Fields.{spaced};
 ghost use Rattle.selfcheck.specs.Orders.{fault_words, order_fault_text};
 
 use book_base::NoMemory;
-use book_writer::fields::put_spaced;
+use book_text::fields::put_spaced;
 use order_check::OrderFault;
 use seq_objects::put_reply;
 use std::alloc::Global;

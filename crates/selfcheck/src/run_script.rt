@@ -15,9 +15,9 @@ use crate::write_output::write_told;
 use book_base::ReadFault;
 use byte_streams::{Sink, Status};
 use client_scripts::{Script, read_script};
-use faulty_objects::Behaviour;
 use std::alloc::Global;
 use std::thread::Threads;
+use test_objects::Behaviour;
 
 /// Does a task with the script that the bytes are the text of, over the object of a behaviour, and
 /// writes its output. Where they are the text of no script, or are too many, it writes their first

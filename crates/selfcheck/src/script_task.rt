@@ -6,10 +6,10 @@ ghost use Rattle.selfcheck.specs.ScriptTasks.{IsReportBy, form_by};
 
 use byte_streams::{Sink, Status};
 use client_scripts::Script;
-use faulty_objects::Behaviour;
 use named_runs::{Form, replay_behaviour, run_behaviour};
 use std::alloc::Global;
 use std::thread::Threads;
+use test_objects::Behaviour;
 
 /// What a command does with the script of an input.
 #[derive(Clone, Copy, Debug, PartialEq, Eq)]

@@ -1,5 +1,5 @@
 ghost use Rattle.std.specs.Prelude.{◌≤◌, length, IfOk, IfErr};
-ghost use Rattle.setbook_text.specs.SetBookRules.{IsFirstSetBookFault, IsSetBookText};
+ghost use Rattle.set_order.specs.SetBookRules.{IsFirstSetBookFault, IsSetBookText};
 ghost use Rattle.byte_streams.specs.declared.TheConstants.{INPUT_LIMIT};
 ghost use Rattle.selfcheck.specs.Output.{IsOutputOf};
 ghost use Rattle.selfcheck.specs.Refusal.{IsReadFault};
@@ -9,8 +9,7 @@ use crate::input::check_length;
 use crate::output::Output;
 use book_base::{Book, NoMemory, ReadFault};
 use byte_streams::Status;
-use set_order::{Joins, SetVerdict, check_sets};
-use setbook_text::read_setbook;
+use set_order::{Joins, SetVerdict, check_sets, read_setbook};
 use std::alloc::Global;
 
 /// The output of `sets` for the bytes read.

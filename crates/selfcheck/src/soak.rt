@@ -7,11 +7,11 @@ use crate::command::Command;
 use book_base::NoMemory;
 use byte_streams::{Sink, Status};
 use client_scripts::make_script;
-use faulty_objects::Behaviour;
 use named_runs::{Form, run_behaviour};
 use seq_objects::Kind;
 use std::alloc::Global;
 use std::thread::Threads;
+use test_objects::Behaviour;
 
 /// How many callers the script of a soak has.
 const CALLERS: u32 = 4;

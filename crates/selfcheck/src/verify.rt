@@ -1,6 +1,6 @@
 ghost use Rattle.std.specs.Prelude.{◌≤◌, length, IfOk, IfErr};
 ghost use Rattle.book_text.specs.BookRules.{IsFirstBookFault};
-ghost use Rattle.book_verdicts.specs.Books.{IsBookVerdict};
+ghost use Rattle.certificate_text.specs.Books.{IsBookVerdict};
 ghost use Rattle.text_fields.specs.declared.version.Version.TheVariants.{Second};
 ghost use Rattle.selfcheck.specs.Output.{IsOutputOf};
 ghost use Rattle.selfcheck.specs.Refusal.{IsReadFault};
@@ -9,8 +9,8 @@ use crate::command::Command;
 use crate::input::check_length;
 use crate::output::Output;
 use book_base::{NoMemory, ReadFault};
-use book_verdicts::BookVerdict;
 use byte_streams::{INPUT_LIMIT, Status};
+use certificate_text::BookVerdict;
 use std::alloc::Global;
 
 /// The output of `verify` for the bytes read.
@@ -33,5 +33,5 @@ fn verdict(alloc: Global, bytes: &[u8]) -> Result<BookVerdict, ReadFault>
     ensures refused { IfErr result (IsReadFault (IsFirstBookFault Second) bytes.now) }
 {
     check_length(bytes)?;
-    book_verdicts::verify(alloc, bytes)
+    certificate_text::verify(alloc, bytes)
 }

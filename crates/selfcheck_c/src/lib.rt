@@ -8,8 +8,8 @@ ghost use Rattle.book_base.specs.declared.fault.TextFault.{TextFault};
 ghost use Rattle.book_text.specs.BookRules.{IsFirstBookFault};
 ghost use Rattle.certificate_text.specs.CertificateRules.{IsFirstCertificateFault};
 ghost use Rattle.text_fields.specs.declared.version.Version.TheVariants.{Second};
-ghost use Rattle.book_verdicts.specs.Books.{IsLegalBook, IsIllegalBook, Certifies};
-ghost use Rattle.book_verdicts.specs.Certificates.{IsLegalCertificate, IsIllegalCertificate};
+ghost use Rattle.certificate_text.specs.Books.{IsLegalBook, IsIllegalBook, Certifies};
+ghost use Rattle.certificate_text.specs.Certificates.{IsLegalCertificate, IsIllegalCertificate};
 ghost use Rattle.selfcheck_c.specs.Refusals.{IsBookRefusal, IsCertificateRefusal};
 
 mod buffer;
@@ -21,7 +21,7 @@ mod witnesses;
 use crate::buffer::put;
 pub use crate::refusal::Refusal;
 use book_base::ReadFault;
-use book_verdicts::{BookVerdict, OrderVerdict, certify, order, verify};
+use certificate_text::{BookVerdict, OrderVerdict, certify, order, verify};
 use std::alloc::Global;
 
 /// The book is legal, or the order of the certificate is.

@@ -3,8 +3,8 @@ ghost use Rattle.book_base.specs.declared.fault.TextFault.{TextFault};
 ghost use Rattle.book_base.specs.Book.{Page};
 ghost use Rattle.seq_objects.specs.declared.kind.Kind.{Kind};
 ghost use Rattle.given_book.specs.Given.{IsGiven, IsFirstGivenFault};
-ghost use Rattle.witness_texts.specs.Explaining.{IsExplained, SaysNoneBroken};
-ghost use Rattle.witness_texts.specs.Texts.{IsLegalGiven, IsIllegalGiven, IsSmallerWitness, IsPictureOf};
+ghost use Rattle.given_book.specs.Explaining.{IsExplained, SaysNoneBroken};
+ghost use Rattle.given_book.specs.Texts.{IsLegalGiven, IsIllegalGiven, IsSmallerWitness, IsPictureOf};
 ghost use Rattle.selfcheck_c.specs.declared.TheConstants.{LEGAL, ILLEGAL, REFUSED, NO_MEMORY, NO_ROOM};
 ghost use Rattle.selfcheck_c.specs.declared.handles.TheConstants.{DONE};
 ghost use Rattle.selfcheck_c.specs.Refusals.{IsGivenRefusal};
@@ -14,8 +14,8 @@ use crate::handles::DONE;
 use crate::refusal::Refusal;
 use crate::{ILLEGAL, LEGAL, NO_MEMORY, NO_ROOM, REFUSED};
 use book_base::ReadFault;
+use given_book::{Explanation, explained_text, picture_text, smaller_text};
 use std::alloc::Global;
-use witness_texts::{Explanation, explained_text, picture_text, smaller_text};
 
 /// Writes into a buffer the text of a smaller book of the book that the bytes give, where this book
 /// is illegal; the smaller one is illegal too. The bytes are a book's text in either version, or

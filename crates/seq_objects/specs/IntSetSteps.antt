@@ -51,7 +51,7 @@ length-added list value =
     cond_both (is_some (place_of list value)) (list, reply_no)
     (inserted list value, reply_yes) IsSmall
     (λ there. omega arith)
-    (λ absent. length-inserted list value)
+    (λ absent. omega (arith, length-inserted list value))
 
 length-removed : (list : List ℕ) (value : ℕ) → length (removed list value).0 ≤ length list + 1
 length-removed list value = elim (place_of list value) as

@@ -55,8 +55,8 @@ pub length-last_taken : (list : List ℕ) → length (last_taken list).0 ≤ len
 length-last_taken [] = omega arith
 length-last_taken (x ∷ rest) = omega (arith, length-take (length rest) (x ∷ rest))
 
--- A list with a value inserted has at most one item more than before.
-pub length-inserted : (list : List ℕ) (value : ℕ) → length (inserted list value) ≤ length list + 1
+-- A list with a value inserted has one item more than before.
+pub length-inserted : (list : List ℕ) (value : ℕ) → length (inserted list value) ≡ length list + 1
 length-inserted list value =
     let place : ℕ = place_for list value in
     let joined = length-append (take place list) (value ∷ drop place list) in

@@ -67,7 +67,7 @@ map_after list None = (list, reply_bad)
 length-put_at : (list : List ℕ) (item : ℕ) (place : Option ℕ)
     → length (put_at list item place).0 ≤ length list + 1
 length-put_at list item (Some place) = omega (arith, length-set list place item)
-length-put_at list item None = length-inserted list item
+length-put_at list item None = omega (arith, length-inserted list item)
 
 length-without_place : (list : List ℕ) (place : Option ℕ)
     → length (without list place) ≤ length list + 1

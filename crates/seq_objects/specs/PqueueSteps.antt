@@ -29,7 +29,7 @@ pqueue_after list None = (list, reply_bad)
 -- An operation of a priority queue makes its list longer by at most one item.
 pub length-pqueue_after : (list : List ℕ) (operation : Option PqueueOperation)
     → length (pqueue_after list operation).0 ≤ length list + 1
-length-pqueue_after list (Some (Insert value)) = length-inserted list value
+length-pqueue_after list (Some (Insert value)) = omega (arith, length-inserted list value)
 length-pqueue_after list (Some Min) = length-first_taken list
 length-pqueue_after list None = omega arith
 

@@ -1,14 +1,13 @@
-ghost use Rattle.std.specs.Prelude.{◌≡◌, ◌<◌, [], ◌∷◌, length, ◌↔◌, IsTrue};
+ghost use Rattle.std.specs.Prelude.{◌≡◌, ◌≤◌, [], ◌∷◌, length, ◌↔◌, IsTrue};
 ghost use Rattle.book_base.specs.Reaching.{Leaves, MayReply};
 ghost use Rattle.seq_objects.specs.declared.kind.Kind.TheVariants as kinds;
 ghost use Rattle.seq_objects.specs.Words.{is_known_word};
-ghost use Rattle.seq_objects.specs.Items.{length-one};
-ghost use Rattle.seq_objects.specs.CasRegisterSteps.{compared_and_set, cas_register_operation, cas_register_after, length-cas_register_after, cas_register_after-unknown};
+ghost use Rattle.seq_objects.specs.CasRegisterSteps.{compared_and_set, cas_register_operation, cas_register_after, cas_register_after-unknown};
 
 use crate::entry::{CAS, READ, WRITE, argument_of, extra_of};
 use crate::items::{first_or_zero, set_only};
 use crate::kind::Kind;
-use crate::reply::{DONE, NO, YES, is_value, is_yes_or_no, value_reply};
+use crate::reply::{DONE, NO, YES, is_value, is_yes_or_no, wrapping_value_reply};
 use book_base::{BAD, OpWord, SeqObject, State};
 
 /// How many values a register can have: those below 2^32.
@@ -47,7 +46,7 @@ impl CasRegisterOperation {
 
 /// Sets the register to `new` and replies `YES`, where it holds `expected`; else replies `NO`.
 fn compare_and_set(state: &mut State, expected: u32, new: u32) -> u64
-    requires { length state.old.words < state.old.room }
+    requires { length (compared_and_set state.old.words expected new).0 ≤ state.old.room }
     ensures list { state.new ≡
         record state.old { words = (compared_and_set state.old.words expected new).0 } }
     ensures reply { result ≡ (compared_and_set state.old.words expected new).1 }
@@ -64,14 +63,15 @@ impl SeqObject for CasRegister {
 
     ghost spec = { λ _. record { init = 0 ∷ []; next = λ list op. cas_register_after list (cas_register_operation op) } };
 
-    ghost begins_small = { λ _. length-one };
-
-    ghost grows_by_one = { λ _ list op. length-cas_register_after list (cas_register_operation op) };
-
     ghost unknown_is_bad = { λ _ list op. cas_register_after-unknown list op };
 
     fn known(&self, op: OpWord) -> bool {
         Kind::CasRegister.known(op)
+    }
+
+    #[tactic(auto, unfolding(crate::specs::Objects::kind_next))]
+    fn capacity(&self, operations: u64) -> u64 {
+        Kind::CasRegister.capacity(operations)
     }
 
     fn reset(&self, state: &mut State) {
@@ -85,7 +85,7 @@ impl SeqObject for CasRegister {
                 set_only(state, u64::from(value));
                 DONE
             }
-            Some(CasRegisterOperation::Read) => value_reply(first_or_zero(state)),
+            Some(CasRegisterOperation::Read) => wrapping_value_reply(first_or_zero(state)),
             Some(CasRegisterOperation::CompareAndSet(expected, new)) => {
                 compare_and_set(state, expected, new)
             }

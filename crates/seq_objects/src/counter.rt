@@ -2,13 +2,12 @@ ghost use Rattle.std.specs.Prelude.{[], ◌∷◌, ◌≡◌, ◌↔◌, IsTrue}
 ghost use Rattle.book_base.specs.Reaching.{Leaves, MayReply};
 ghost use Rattle.seq_objects.specs.declared.kind.Kind.TheVariants as kinds;
 ghost use Rattle.seq_objects.specs.Words.{is_known_word};
-ghost use Rattle.seq_objects.specs.Items.{length-one};
-ghost use Rattle.seq_objects.specs.CounterSteps.{counter_operation, counter_after, length-counter_after, counter_after-unknown};
+ghost use Rattle.seq_objects.specs.CounterSteps.{counter_operation, counter_after, counter_after-unknown};
 
 use crate::entry::INC;
 use crate::items::{first_or_zero, set_only};
 use crate::kind::Kind;
-use crate::reply::{is_value, value_reply};
+use crate::reply::{is_value, wrapping_value_reply};
 use book_base::{BAD, OpWord, SeqObject, State};
 
 /// How many values a count can have: it counts modulo 2^32.
@@ -42,14 +41,15 @@ impl SeqObject for Counter {
 
     ghost spec = { λ _. record { init = 0 ∷ []; next = λ list op. counter_after list (counter_operation op) } };
 
-    ghost begins_small = { λ _. length-one };
-
-    ghost grows_by_one = { λ _ list op. length-counter_after list (counter_operation op) };
-
     ghost unknown_is_bad = { λ _ list op. counter_after-unknown list op };
 
     fn known(&self, op: OpWord) -> bool {
         Kind::Counter.known(op)
+    }
+
+    #[tactic(auto, unfolding(crate::specs::Objects::kind_next))]
+    fn capacity(&self, operations: u64) -> u64 {
+        Kind::Counter.capacity(operations)
     }
 
     fn reset(&self, state: &mut State) {
@@ -62,7 +62,7 @@ impl SeqObject for Counter {
             Some(CounterOperation::Increment) => {
                 let count = first_or_zero(state) % COUNTS;
                 set_only(state, (count + 1) % COUNTS);
-                value_reply(count)
+                wrapping_value_reply(count)
             }
             None => BAD,
         }

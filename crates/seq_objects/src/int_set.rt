@@ -1,9 +1,8 @@
-ghost use Rattle.std.specs.Prelude.{◌≡◌, ◌<◌, [], length, ◌↔◌, IsTrue};
+ghost use Rattle.std.specs.Prelude.{◌≡◌, ◌≤◌, [], length, ◌↔◌, IsTrue};
 ghost use Rattle.book_base.specs.Reaching.{Leaves, MayReply};
 ghost use Rattle.seq_objects.specs.declared.kind.Kind.TheVariants as kinds;
 ghost use Rattle.seq_objects.specs.Words.{is_known_word};
-ghost use Rattle.seq_objects.specs.Items.{length-none};
-ghost use Rattle.seq_objects.specs.IntSetSteps.{set_operation, set_after, added, removed, length-set_after, set_after-unknown};
+ghost use Rattle.seq_objects.specs.IntSetSteps.{set_operation, set_after, added, removed, set_after-unknown};
 
 use crate::entry::{ADD, HAS, REMOVE, argument_of};
 use crate::items::{insert_in_order, place_of};
@@ -42,7 +41,7 @@ impl IntSetOperation {
 
 /// Adds a value and replies `YES`, where the set lacks it; else replies `NO`.
 fn add(state: &mut State, value: u64) -> u64
-    requires { length state.old.words < state.old.room }
+    requires { length (added state.old.words value).0 ≤ state.old.room }
     ensures list { state.new ≡ record state.old { words = (added state.old.words value).0 } }
     ensures reply { result ≡ (added state.old.words value).1 }
 {
@@ -70,14 +69,15 @@ impl SeqObject for IntSet {
 
     ghost spec = { λ _. record { init = []; next = λ list op. set_after list (set_operation op) } };
 
-    ghost begins_small = { λ _. length-none };
-
-    ghost grows_by_one = { λ _ list op. length-set_after list (set_operation op) };
-
     ghost unknown_is_bad = { λ _ list op. set_after-unknown list op };
 
     fn known(&self, op: OpWord) -> bool {
         Kind::IntSet.known(op)
+    }
+
+    #[tactic(auto, unfolding(crate::specs::Objects::kind_next))]
+    fn capacity(&self, operations: u64) -> u64 {
+        Kind::IntSet.capacity(operations)
     }
 
     fn reset(&self, state: &mut State) {

@@ -1,8 +1,8 @@
-ghost use Rattle.std.specs.Prelude.{◌≡◌, ◌<◌, [], ◌∷◌, length};
+ghost use Rattle.std.specs.Prelude.{◌≡◌, ◌≤◌, [], ◌∷◌, length};
 ghost use Rattle.book_base.specs.State.{Contents};
 ghost use Rattle.seq_objects.specs.Items as items;
 
-use crate::reply::{NONE, value_reply};
+use crate::reply::{NONE, wrapping_value_reply};
 use book_base::State;
 
 /// Takes out the first item: the reply gives it modulo 2^32, or says that there is none.
@@ -14,7 +14,7 @@ pub fn take_first(state: &mut State) -> u64
     if state.is_empty() {
         return NONE;
     }
-    value_reply(state.remove(0))
+    wrapping_value_reply(state.remove(0))
 }
 
 /// Takes out the last item: the reply gives it modulo 2^32, or says that there is none.
@@ -27,7 +27,7 @@ pub fn take_last(state: &mut State) -> u64
         return NONE;
     }
     let last = state.len() - 1;
-    value_reply(state.remove(last))
+    wrapping_value_reply(state.remove(last))
 }
 
 /// The first item, or 0 where there is none.
@@ -39,7 +39,7 @@ pub fn first_or_zero(state: &State) -> u64
 
 /// Makes `item` the only item of the list.
 pub fn set_only(state: &mut State, item: u64)
-    requires { length state.old.words < state.old.room }
+    requires { 1 ≤ state.old.room }
     ensures { state.new ≡ record state.old { words = item ∷ [] } }
 {
     state.clear();
@@ -65,7 +65,7 @@ pub fn place_for(words: &[u64], value: u64) -> usize
 
 /// Puts a value before the first greater item, or at the end where none is greater.
 pub fn insert_in_order(state: &mut State, value: u64)
-    requires { length state.old.words < state.old.room }
+    requires { length (items.inserted state.old.words value) ≤ state.old.room }
     ensures { state.new ≡ record state.old { words = items.inserted state.old.words value } }
 {
     let place = place_for(state.words(), value);

@@ -16,7 +16,7 @@ use crate::queue::Queue;
 use crate::register::Register;
 use crate::stack::Stack;
 use crate::whole::{put_whole, whole};
-use book_base::{NoMemory, OpWord, SeqObject, State};
+use book_base::{GrowsByOne, NoMemory, OpWord, SeqObject, State};
 
 /// A kind of sequential object.
 #[derive(Clone, Copy, Debug, PartialEq, Eq)]
@@ -137,15 +137,17 @@ impl SeqObject for Kind {
 
     ghost spec = { kind_spec };
 
-    ghost begins_small = { length-kind_init };
-
-    ghost grows_by_one = { length-kind_next };
-
     ghost unknown_is_bad = { kind_next-unknown };
 
     #[tactic(auto, unfolding(crate::specs::Words::is_known_word))]
     fn known(&self, op: OpWord) -> bool {
         entry_of(*self, op).is_some()
+    }
+
+    /// The number of operations and one more: a list has at most one word at first, and an
+    /// operation adds at most one.
+    fn capacity(&self, operations: u64) -> u64 {
+        operations + 1
     }
 
     fn reset(&self, state: &mut State) {
@@ -209,4 +211,10 @@ impl SeqObject for Kind {
             Kind::Map => Map.may_reply(op, reply),
         }
     }
+}
+
+impl GrowsByOne for Kind {
+    ghost begins_small = { length-kind_init };
+
+    ghost grows_by_one = { length-kind_next };
 }

@@ -30,6 +30,6 @@ pub use pqueue::{Pqueue, PqueueOperation};
 pub use queue::{Queue, QueueOperation};
 pub use register::{Register, RegisterOperation};
 pub use reply::{
-    DONE, NO, NONE, YES, is_value, put_reply, reply_from_word, shown_value, value_reply,
+    DONE, NO, NONE, YES, is_value, put_reply, reply_from_word, shown_value, wrapping_value_reply,
 };
 pub use stack::{Stack, StackOperation};

@@ -1,15 +1,14 @@
-ghost use Rattle.std.specs.Prelude.{◌≡◌, ◌<◌, [], length, ◌↔◌, IsTrue};
+ghost use Rattle.std.specs.Prelude.{◌≡◌, ◌≤◌, [], length, ◌↔◌, IsTrue};
 ghost use Rattle.book_base.specs.Reaching.{Leaves, MayReply};
 ghost use Rattle.seq_objects.specs.declared.kind.Kind.TheVariants as kinds;
 ghost use Rattle.seq_objects.specs.Words.{is_known_word};
-ghost use Rattle.seq_objects.specs.Items.{length-none};
 ghost use Rattle.seq_objects.specs.MapSteps as steps;
-ghost use Rattle.seq_objects.specs.MapSteps.{map_operation, map_after, length-map_after, map_after-unknown, put_in, value_at, without, place_of_key};
+ghost use Rattle.seq_objects.specs.MapSteps.{map_operation, map_after, map_after-unknown, put_in, value_at, without, place_of_key};
 
 use crate::entry::{DEL, GET, PUT, argument_of, extra_of};
 use crate::items::insert_in_order;
 use crate::kind::Kind;
-use crate::reply::{NONE, is_value, is_value_or_none, value_reply};
+use crate::reply::{NONE, is_value, is_value_or_none, wrapping_value_reply};
 use book_base::{BAD, OpWord, SeqObject, State};
 
 /// How many values a key can have.
@@ -63,7 +62,7 @@ fn place_of_key(words: &[u64], key: u32) -> Option<usize>
 
 /// Gives a key a value: the reply gives the value that the key had, or says that it had none.
 fn put(state: &mut State, key: u32, value: u32) -> u64
-    requires { length state.old.words < state.old.room }
+    requires { length (put_in state.old.words key value).0 ≤ state.old.room }
     ensures list { state.new ≡ record state.old { words = (put_in state.old.words key value).0 } }
     ensures reply { result ≡ (put_in state.old.words key value).1 }
 {
@@ -74,7 +73,7 @@ fn put(state: &mut State, key: u32, value: u32) -> u64
     };
     let old = state.remove(place as u64);
     state.insert(place as u64, item);
-    value_reply(old)
+    wrapping_value_reply(old)
 }
 
 /// The reply that gives the value of a key, or says that the key has none.
@@ -82,7 +81,7 @@ fn get(state: &State, key: u32) -> u64
     ensures { result ≡ value_at state.now.words (place_of_key state.now.words key) }
 {
     match place_of_key(state.words(), key) {
-        Some(place) => value_reply(state.get(place as u64)),
+        Some(place) => wrapping_value_reply(state.get(place as u64)),
         None => NONE,
     }
 }
@@ -94,7 +93,7 @@ fn delete(state: &mut State, key: u32) -> u64
     ensures reply { result ≡ value_at state.old.words (place_of_key state.old.words key) }
 {
     match place_of_key(state.words(), key) {
-        Some(place) => value_reply(state.remove(place as u64)),
+        Some(place) => wrapping_value_reply(state.remove(place as u64)),
         None => NONE,
     }
 }
@@ -104,14 +103,15 @@ impl SeqObject for Map {
 
     ghost spec = { λ _. record { init = []; next = λ list op. map_after list (map_operation op) } };
 
-    ghost begins_small = { λ _. length-none };
-
-    ghost grows_by_one = { λ _ list op. length-map_after list (map_operation op) };
-
     ghost unknown_is_bad = { λ _ list op. map_after-unknown list op };
 
     fn known(&self, op: OpWord) -> bool {
         Kind::Map.known(op)
+    }
+
+    #[tactic(auto, unfolding(crate::specs::Objects::kind_next))]
+    fn capacity(&self, operations: u64) -> u64 {
+        Kind::Map.capacity(operations)
     }
 
     fn reset(&self, state: &mut State) {
@@ -136,7 +136,7 @@ impl SeqObject for Map {
             // A put whose reply is the value that it puts in found this value there and changes
             // nothing. A reply that is neither `NONE` nor a value is the reply of no put.
             Some(MapOperation::Put(_, value)) => {
-                reply == value_reply(u64::from(value)) || reply != NONE && !is_value(reply)
+                reply == wrapping_value_reply(u64::from(value)) || reply != NONE && !is_value(reply)
             }
             Some(MapOperation::Get(_)) => true,
             Some(MapOperation::Delete(_)) => !is_value(reply),

@@ -2,13 +2,12 @@ ghost use Rattle.std.specs.Prelude.{[], ◌∷◌, ◌≡◌, ◌↔◌, IsTrue}
 ghost use Rattle.book_base.specs.Reaching.{Leaves, MayReply};
 ghost use Rattle.seq_objects.specs.declared.kind.Kind.TheVariants as kinds;
 ghost use Rattle.seq_objects.specs.Words.{is_known_word};
-ghost use Rattle.seq_objects.specs.Items.{length-one};
-ghost use Rattle.seq_objects.specs.RegisterSteps.{register_operation, register_after, length-register_after, register_after-unknown};
+ghost use Rattle.seq_objects.specs.RegisterSteps.{register_operation, register_after, register_after-unknown};
 
 use crate::entry::{READ, WRITE, argument_of};
 use crate::items::{first_or_zero, set_only};
 use crate::kind::Kind;
-use crate::reply::{DONE, is_value, value_reply};
+use crate::reply::{DONE, is_value, wrapping_value_reply};
 use book_base::{BAD, OpWord, SeqObject, State};
 
 /// A register, which is 0 at first.
@@ -42,14 +41,15 @@ impl SeqObject for Register {
 
     ghost spec = { λ _. record { init = 0 ∷ []; next = λ list op. register_after list (register_operation op) } };
 
-    ghost begins_small = { λ _. length-one };
-
-    ghost grows_by_one = { λ _ list op. length-register_after list (register_operation op) };
-
     ghost unknown_is_bad = { λ _ list op. register_after-unknown list op };
 
     fn known(&self, op: OpWord) -> bool {
         Kind::Register.known(op)
+    }
+
+    #[tactic(auto, unfolding(crate::specs::Objects::kind_next))]
+    fn capacity(&self, operations: u64) -> u64 {
+        Kind::Register.capacity(operations)
     }
 
     fn reset(&self, state: &mut State) {
@@ -63,7 +63,7 @@ impl SeqObject for Register {
                 set_only(state, u64::from(value));
                 DONE
             }
-            Some(RegisterOperation::Read) => value_reply(first_or_zero(state)),
+            Some(RegisterOperation::Read) => wrapping_value_reply(first_or_zero(state)),
             None => BAD,
         }
     }

@@ -83,7 +83,7 @@ fn reply_named(name: &[u8]) -> Option<NamedReply>
 }
 
 /// The reply word that gives an item modulo 2^32.
-pub fn value_reply(item: u64) -> u64
+pub fn wrapping_value_reply(item: u64) -> u64
     ensures { result ≡ reply_value item }
 {
     VALUE_TAG * VALUES + item % VALUES
@@ -151,7 +151,7 @@ pub fn reply_from_word(word: &[u8]) -> Option<u64>
         return Some(entry.word);
     }
     match suffix(b'=', word) {
-        Some(digits) => Some(value_reply(u64::from(argument(digits)?))),
+        Some(digits) => Some(wrapping_value_reply(u64::from(argument(digits)?))),
         None => unknown_reply(suffix(b'#', word)?),
     }
 }

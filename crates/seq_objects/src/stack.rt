@@ -2,8 +2,7 @@ ghost use Rattle.std.specs.Prelude.{[], ◌≡◌, ◌↔◌, IsTrue};
 ghost use Rattle.book_base.specs.Reaching.{Leaves, MayReply};
 ghost use Rattle.seq_objects.specs.declared.kind.Kind.TheVariants as kinds;
 ghost use Rattle.seq_objects.specs.Words.{is_known_word};
-ghost use Rattle.seq_objects.specs.Items.{length-none};
-ghost use Rattle.seq_objects.specs.StackSteps.{stack_operation, stack_after, length-stack_after, stack_after-unknown};
+ghost use Rattle.seq_objects.specs.StackSteps.{stack_operation, stack_after, stack_after-unknown};
 
 use crate::entry::{POP, PUSH, argument_of};
 use crate::items::take_last;
@@ -42,14 +41,15 @@ impl SeqObject for Stack {
 
     ghost spec = { λ _. record { init = []; next = λ list op. stack_after list (stack_operation op) } };
 
-    ghost begins_small = { λ _. length-none };
-
-    ghost grows_by_one = { λ _ list op. length-stack_after list (stack_operation op) };
-
     ghost unknown_is_bad = { λ _ list op. stack_after-unknown list op };
 
     fn known(&self, op: OpWord) -> bool {
         Kind::Stack.known(op)
+    }
+
+    #[tactic(auto, unfolding(crate::specs::Objects::kind_next))]
+    fn capacity(&self, operations: u64) -> u64 {
+        Kind::Stack.capacity(operations)
     }
 
     fn reset(&self, state: &mut State) {

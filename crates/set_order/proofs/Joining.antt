@@ -1,16 +1,16 @@
 -- A reply of joins has the numbers that were joined before, and the one that its operation joins.
-use Rattle.std.proofs.Common.{◌≡◌, ℕ, zero, suc, ◌+◌, ◌-◌, ◌/◌, ◌%◌, ◌^◌, ◌<◌, ◌≤◌, ◌∙◌, Bool, true, false, List, [], ◌∷◌, map, Some, sym, ap, subst, inl, inr, slice_get, arith}
+use Rattle.std.proofs.Common.{◌≡◌, ℕ, zero, suc, ◌+◌, ◌-◌, ◌/◌, ◌%◌, ◌^◌, ◌<◌, ◌≤◌, ◌∙◌, Bool, true, false, List, [], ◌∷◌, map, length, Some, refl, sym, ap, subst, inl, inr, slice_get, arith}
 use Rattle.std.specs.Prelude.{bit_and, bit_or}
 use Rattle.std.proofs.lemmas.Bool.{cond-true, cond-false, cases_Bool}
 use Rattle.std.proofs.lemmas.Nat.Bits.{bit_at_or, same_from_bits}
 use Rattle.std.proofs.Math.Pow.{pow-lt}
-use Rattle.std.proofs.lemmas.Bool.Decides.{nat_tests}
 use Rattle.std.proofs.lemmas.Nat.{or_comm, or_lt, and_or_self}
 use Rattle.std.proofs.lemmas.Option.{same_Some, none-some}
 use Rattle.std.specs.Int.Bits.{or_self}
 use Rattle.seq_objects.specs.Replies.{reply_value, reply_bad}
 use Rattle.set_order.specs.Serving.{ServesTo, NeverRepliesFrom}
 use Rattle.set_order.specs.Joins.{is_join, mask_of, with_join, with_joins, joins_some, list_joined, join_reply, served_joins, HasMask}
+use Rattle.set_order.specs.JoinLaws.{join_small}
 use Rattle.set_order.proofs.Trying.{got_map}
 
 or_assoc : (a b c : ℕ) → bit_or (bit_or a b) c ≡ bit_or a (bit_or b c)
@@ -70,12 +70,6 @@ has-one mask part (first ∷ ops) zero op at h =
     has-all (with_join mask first) (with_join part op) ops now
 has-one mask part (first ∷ ops) (suc p) op at h =
     has-one (with_join mask first) part ops p op at (has-more mask part first h)
-
-pub join_small : (op : ℕ) → is_join op ≡ true → op < 2 ^ 32 + 32
-join_small op h = grind (arith, nat_tests)
-
-pub join_least : (op : ℕ) → is_join op ≡ true → 2 ^ 32 ≤ op
-join_least op h = grind (arith, nat_tests)
 
 with_join-small : (mask op : ℕ) → mask < 2 ^ 32 → with_join mask op < 2 ^ 32
 with_join-small mask op small = elim (cases_Bool (is_join op)) [
@@ -160,3 +154,13 @@ never_less list op reply joins less sets later serves ops after replies p gives 
     let kept : bit_and mask joined ≡ joined =
     ap (λ (n : ℕ). bit_and n joined) has.1 ∙ and_or_self joined has.0 in
     less (tag, ap (λ (n : ℕ). bit_and n joined) value ∙ kept)
+
+-- Where an operation joins a number, one word fits a capacity that the list after the operations
+-- fits.
+pub joined_room : (list ops : List ℕ) (room : ℕ) → joins_some ops ≡ true
+    → ((after replies : List ℕ) → served_joins list ops ≡ Some (after, replies)
+    → length after ≤ room) → 1 ≤ room
+joined_room list ops room some fits =
+    let mask : ℕ = with_joins (mask_of list) ops in
+    subst (λ (b : Bool). length (list_joined b mask list) ≤ room) some
+    (fits (list_joined (joins_some ops) mask list) (map (join_reply mask) ops) refl)

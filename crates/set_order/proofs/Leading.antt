@@ -1,6 +1,6 @@
 -- The frames of a walk: one more, one fewer, the order that they make, and the cut and list that
 -- they lead to.
-use Rattle.std.proofs.Common.{◌≡◌, ℕ, ◌+◌, ◌*◌, ◌<◌, ◌≤◌, ◌∙◌, List, [], ◌∷◌, ◌++◌, length, get_or, sum, replicate, Option, Some, refl, sym, ap, subst, arith}
+use Rattle.std.proofs.Common.{◌≡◌, ℕ, ◌+◌, ◌-◌, ◌*◌, ◌<◌, ◌≤◌, ◌∙◌, List, [], ◌∷◌, ◌++◌, length, get_or, sum, replicate, Option, Some, refl, sym, ap, subst, arith}
 use Rattle.std.specs.List.{All}
 use Rattle.std.proofs.lemmas.List.{length-map, length-replicate}
 use Rattle.std.proofs.lemmas.List.Sums.{sum_by-le}
@@ -13,8 +13,10 @@ use Rattle.book_base.specs.Order.{call_at, step_at}
 use Rattle.book_base.specs.Next.{HoldsAnswered}
 use Rattle.frontier_check.proofs.Leading.{sum_small}
 use Rattle.set_order.specs.declared.walk.SetFrame.{SetFrame}
+use Rattle.set_order.specs.declared.walk.TheConstants.{MOST_CALLS}
+use Rattle.set_order.specs.Serving.{SufficesAfter}
 use Rattle.set_order.specs.SetOrder.{operations_of, IsLegalSetOrder, HasLegalSetOrder}
-use Rattle.set_order.specs.Search.{no_calls, raised_by, MayStandIn, MayStandTogether, SetsContinue, IsDeadEnd, IsFrame, FramesLead, order_of}
+use Rattle.set_order.specs.Search.{IsBookCapacity, no_calls, raised_by, MayStandIn, MayStandTogether, SetsContinue, IsDeadEnd, IsFrame, FramesLead, order_of}
 use Rattle.set_order.proofs.Raising.{all_so, raised-length, raised-sum, raised-within}
 use Rattle.set_order.proofs.SetOrders.{next-from_each, legal_order_from_continue, continue_from_legal_order}
 
@@ -115,89 +117,103 @@ none-from_dead init served book dead legal =
     dead legal.0 (continue_from_legal_order init served book (no_calls book) legal.0 (omega arith)
     (zeros book) legal.1)
 
--- operations make the list longer by at most as many words as there are operations
-abbrev pub Grows : (List ℕ → List ℕ → Option (List ℕ × List ℕ)) → Type 0
-Grows served = (list ops after replies : List ℕ) → served list ops ≡ Some (after, replies)
-    → length after ≤ length list + length ops
+-- A capacity that suffices for operations after a list fits the list.
+pub suffices-list : (served : List ℕ → List ℕ → Option (List ℕ × List ℕ)) (list : List ℕ)
+    (operations capacity : ℕ) → SufficesAfter served list operations capacity
+    → length list ≤ capacity
+suffices-list served list operations capacity fits = fits [] list refl (omega arith)
 
--- how far frames lead: to a cut with at least one more call for each frame, and to a list that is
--- longer by at most as many words
-pub record Reach (book : List Page) (cut list : List ℕ) (frames : List SetFrame)
-    (to_cut to_list : List ℕ) : Type 0 where
+-- After a set a capacity suffices for all operations but those of the set.
+pub suffices-served : (served : List ℕ → List ℕ → Option (List ℕ × List ℕ))
+    (list ops after replies : List ℕ) (operations left capacity : ℕ)
+    → served list ops ≡ Some (after, replies) → length ops + left ≤ operations
+    → SufficesAfter served list operations capacity → SufficesAfter served after left capacity
+suffices-served served list ops after replies operations left capacity is few fits sets later to low
+    = fits (ops ∷ sets) later (after, replies, is, to) (omega (arith, few, low))
+
+-- how far frames lead: to a cut with at least one more call for each frame, and to a list after
+-- which a capacity suffices for all operations but those of the calls on the way
+pub record Reach (served : List ℕ → List ℕ → Option (List ℕ × List ℕ)) (book : List Page)
+    (cut list : List ℕ) (frames : List SetFrame) (to_cut to_list : List ℕ) : Type 0 where
   pub wide : length to_cut ≡ length cut
   pub deep : sum cut + length frames ≤ sum to_cut
-  pub words : length to_list + sum cut ≤ length list + sum to_cut
+  pub fits : (most capacity : ℕ) → sum to_cut ≤ most
+      → SufficesAfter served list (most - sum cut) capacity
+      → SufficesAfter served to_list (most - sum to_cut) capacity
   pub within : (i : ℕ) → get_or to_cut i 0 ≤ calls_of book i
 
--- how far one set leads: to a cut with the set's calls, and to a list that is longer by at most as
--- many words
-pub record Step (book : List Page) (cut list : List ℕ) (places : List Place)
-    (after : List ℕ) : Type 0 where
+-- how far one set leads: to a cut with the set's calls
+pub record Step (book : List Page) (cut : List ℕ) (places : List Place) : Type 0 where
   pub wide : length (raised_by cut places) ≡ length cut
   pub calls : sum (raised_by cut places) ≡ sum cut + length places
-  pub words : length after ≤ length list + length places
   pub within : (i : ℕ) → get_or (raised_by cut places) i 0 ≤ calls_of book i
 
 pub one_step : (served : List ℕ → List ℕ → Option (List ℕ × List ℕ)) (book : List Page)
-    (cut list : List ℕ) (places : List Place) (after : List ℕ) → Grows served
+    (cut list : List ℕ) (places : List Place) (after : List ℕ)
     → length book ≤ length cut → ((i : ℕ) → get_or cut i 0 ≤ calls_of book i)
-    → MayStandTogether served book cut list places after → Step book cut list places after
-one_step served book cut list places after grows wide within may =
+    → MayStandTogether served book cut list places after → Step book cut places
+one_step served book cut list places after wide within may =
     let next = next-from_each book cut places wide may.by_caller may.each in
     record {
       wide = raised-length cut places;
       calls = raised-sum cut places next;
-      words = omega (
-        arith,
-        grows list (operations_of book places) after _ may.served_so,
-        length-map places (λ (place : Place). (step_at book place).0),
-      );
       within = raised-within book cut places next
           (all_so (MayStandIn book cut) (λ (place : Place). IsCall book (call_at place)) places
           (λ place one. one.may_come.is_call) may.each) within;
     }
 
 leads-reach : (served : List ℕ → List ℕ → Option (List ℕ × List ℕ)) (book : List Page)
-    (cut list : List ℕ) (frames : List SetFrame) (to_cut to_list : List ℕ) → Grows served
+    (cut list : List ℕ) (frames : List SetFrame) (to_cut to_list : List ℕ)
     → length book ≤ length cut → ((i : ℕ) → get_or cut i 0 ≤ calls_of book i)
     → FramesLead served book cut list frames to_cut to_list
-    → Reach book cut list frames to_cut to_list
-leads-reach served book cut list [] to_cut to_list grows wide within (same_cut, same_list) =
+    → Reach served book cut list frames to_cut to_list
+leads-reach served book cut list [] to_cut to_list wide within (same_cut, same_list) =
     record {
       wide = ap (λ (c : List ℕ). length c) (sym same_cut);
       deep = omega (arith, ap (λ (c : List ℕ). sum c) same_cut);
-      words =
-          omega
-          (arith, ap (λ (l : List ℕ). length l) same_list, ap (λ (c : List ℕ). sum c) same_cut);
+      fits = λ most capacity few fits.
+          subst (λ (l : List ℕ). SufficesAfter served l (most - sum to_cut) capacity) same_list
+          (subst (λ (c : List ℕ). SufficesAfter served list (most - sum c) capacity) same_cut fits);
       within = λ (i : ℕ). omega (arith, within i, ap (λ (c : List ℕ). get_or c i 0) same_cut);
     }
-leads-reach served book cut list (first ∷ frames) to_cut to_list grows wide within
+leads-reach served book cut list (first ∷ frames) to_cut to_list wide within
     (between, at, later) =
-    let step = one_step served book cut list first.set between grows wide within at.stands in
-    let rest = leads-reach served book (raised_by cut first.set) between frames to_cut to_list grows
+    let step = one_step served book cut list first.set between wide within at.stands in
+    let rest = leads-reach served book (raised_by cut first.set) between frames to_cut to_list
     (omega (arith, step.wide)) step.within later in
     let some = at.stands.some in
     record {
       wide = rest.wide ∙ step.wide;
       deep = omega (arith, rest.deep, step.calls, some);
-      words = omega (arith, rest.words, step.words, step.calls);
+      fits = λ most capacity few fits. rest.fits most capacity few
+          (suffices-served served list (operations_of book first.set) between _ (most - sum cut)
+          (most - sum (raised_by cut first.set)) capacity at.stands.served_so
+          (omega (
+            arith,
+            few,
+            rest.deep,
+            step.calls,
+            length-map first.set (λ (place : Place). (step_at book place).0),
+          )) fits);
       within = rest.within;
     }
 
 -- What is known of the cut and list to which a walk from the start leads.
-pub record WalkFacts (book : List Page) (frames : List SetFrame) (cut list : List ℕ) : Type 0 where
+pub record WalkFacts (init : List ℕ) (served : List ℕ → List ℕ → Option (List ℕ × List ℕ))
+    (book : List Page) (frames : List SetFrame) (cut list : List ℕ) : Type 0 where
   pub wide : length cut ≡ length book
   pub depth : length frames ≤ MAX_CALLERS * MAX_CALLS
-  pub words : length list ≤ MAX_CALLERS * MAX_CALLS + 1
+  pub fits : (capacity : ℕ) → IsBookCapacity init served capacity
+      → SufficesAfter served list (MOST_CALLS - sum cut) capacity
   pub within : (i : ℕ) → get_or cut i 0 ≤ calls_of book i
 
 pub standing : (init : List ℕ) (served : List ℕ → List ℕ → Option (List ℕ × List ℕ))
     (book : List Page) (frames : List SetFrame) (cut list : List ℕ)
-    → IsSmall book → length init ≤ 1 → Grows served
-    → FramesLead served book (no_calls book) init frames cut list → WalkFacts book frames cut list
-standing init served book frames cut list small begins grows leads =
+    → IsSmall book → FramesLead served book (no_calls book) init frames cut list
+    → WalkFacts init served book frames cut list
+standing init served book frames cut list small leads =
     let long : length (no_calls book) ≡ length book = length-replicate (length book) 0 in
-    let reach = leads-reach served book (no_calls book) init frames cut list grows (omega arith)
+    let reach = leads-reach served book (no_calls book) init frames cut list (omega arith)
     (λ (i : ℕ). omega (arith, zeros book i)) leads in
     let wide : length cut ≡ length book = reach.wide ∙ long in
     let few : sum cut ≤ MAX_CALLERS * MAX_CALLS = sum_small book cut small wide reach.within in
@@ -205,6 +221,7 @@ standing init served book frames cut list small begins grows leads =
     record {
       wide = wide;
       depth = omega (arith, reach.deep);
-      words = omega (arith, reach.words);
+      fits = λ capacity big. reach.fits MOST_CALLS capacity (omega (arith, few))
+          (λ sets later to low. big sets later to (omega (arith, low)));
       within = reach.within;
     }

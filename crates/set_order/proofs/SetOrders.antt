@@ -13,7 +13,7 @@ use Rattle.book_base.specs.Order.{call_at, StandsAt}
 use Rattle.book_base.proofs.ViewLemmas.{answer_stands}
 use Rattle.book_base.proofs.PageLemmas.{caller_from_call}
 use Rattle.book_base.specs.Next.{MayComeNext}
-use Rattle.book_laws.proofs.LegalOrder.{same_place}
+use Rattle.legal_orders.proofs.LegalOrder.{same_place}
 use Rattle.set_order.specs.SetOrder.{callers_of, RiseFrom, StandsIn, IsServedFrom, IsLegalSetOrder}
 use Rattle.set_order.specs.Search.{raised_by, MayStandIn, MayStandTogether, SetsContinue}
 use Rattle.set_order.proofs.Raising.{all_at, all_so, IsNext, AreNext, next-from_rise, raised-more, raised-new, raised-holds, raised-length, stands-outside, stands-once}

@@ -7,7 +7,7 @@ use Rattle.book_base.specs.SeqSpec.{SeqSpec}
 use Rattle.book_base.specs.Book.{Page}
 use Rattle.book_base.specs.Order.{step_at, HasLegalOrder}
 use Rattle.book_base.specs.Next.{raised, list_after, MayStandNext, Continues}
-use Rattle.book_laws.proofs.LegalOrder.{legal_order_from_continues, continues_from_legal_order}
+use Rattle.legal_orders.proofs.LegalOrder.{legal_order_from_continues, continues_from_legal_order}
 use Rattle.set_order.specs.Serving.{served_alone}
 use Rattle.set_order.specs.SetOrder.{replies_of, HasLegalSetOrder}
 use Rattle.set_order.specs.Search.{no_calls, raised_by, MayStandTogether, SetsContinue}
@@ -113,3 +113,13 @@ alone_law spec book =
                 book spec (no_calls book) legal.0 wide (zeros book) legal.1)),
           ),
     )
+
+-- The list after the operation of a set of one fits a capacity that the list after each set fits
+-- that a sequential object serves.
+pub alone_room : (next : List ℕ → ℕ → List ℕ × ℕ) (list ops : List ℕ) (room : ℕ)
+    → length ops ≡ 1
+    → ((after replies : List ℕ) → served_alone next list ops ≡ Some (after, replies)
+    → length after ≤ room) → length (next list (get_or ops 0 0)).0 ≤ room
+alone_room next list [] room one fits = absurd (omega (arith, one))
+alone_room next list (op ∷ []) room one fits = fits (next list op).0 ((next list op).1 ∷ []) refl
+alone_room next list (op ∷ other ∷ ops) room one fits = absurd (omega (arith, one))

@@ -15,7 +15,7 @@ use Rattle.book_base.specs.declared.call.Place.{Place}
 use Rattle.book_base.specs.Book.{Page, IsCall, calls_of, operation_of, record_of}
 use Rattle.book_base.specs.Order.{call_at, step_at}
 use Rattle.book_base.specs.Next.{next_call, HoldsAnswered, MayComeNext}
-use Rattle.book_laws.proofs.LegalOrder.{same_place}
+use Rattle.legal_orders.proofs.LegalOrder.{same_place}
 use Rattle.set_order.specs.Serving.{ServesTo, NeverRepliesFrom}
 use Rattle.set_order.specs.SetOrder.{callers_of, operations_of, replies_of, RiseFrom}
 use Rattle.set_order.specs.Search.{raised_by, picked, MayStandIn, MayStandTogether, IsDeadEnd, CannotStand, IsOneCaller, LeadsNowhere, AreCandidates, IsOpen, next_operations, ArePlaced, HasWrongReply}

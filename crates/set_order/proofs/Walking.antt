@@ -1,26 +1,26 @@
 -- A walk through the pairs of a cut and a list: one set deeper, one number fewer, one frame back.
-use Rattle.std.proofs.Common.{◌≡◌, ℕ, ◌+◌, ◌^◌, ◌<◌, ◌≤◌, ◌⊎◌, ◌∙◌, List, [], ◌∷◌, ◌++◌, length, get_or, Option, refl, sym, ap, subst, inl, inr, slice_get, arith}
+use Rattle.std.proofs.Common.{◌≡◌, ℕ, ◌+◌, ◌-◌, ◌^◌, ◌<◌, ◌≤◌, ◌⊎◌, ◌∙◌, List, [], ◌∷◌, ◌++◌, length, map, sum, get_or, Option, Some, refl, sym, ap, subst, inl, inr, slice_get, arith}
 use Rattle.std.specs.List.{AllByRecursion}
 use Rattle.book_base.specs.declared.call.Place.{Place}
 use Rattle.book_base.specs.declared.TheConstants.{MAX_CALLERS, MAX_CALLS}
-use Rattle.book_base.specs.Book.{Page, IsSmall, IsCall}
+use Rattle.book_base.specs.Book.{Page, calls_of, IsSmall, IsCall}
 use Rattle.std.proofs.lemmas.List.{length-map}
-use Rattle.book_base.specs.Order.{step_at}
+use Rattle.book_base.specs.Order.{call_at, step_at}
 use Rattle.book_base.proofs.PageLemmas.{caller_from_call}
 use Rattle.book_base.specs.Next.{next_call, HoldsAnswered, MayComeNext}
 use Rattle.std.proofs.lemmas.Option.{none-some}
 use Rattle.frontier_check.specs.declared.memo.MemoEntry.{MemoEntry}
 use Rattle.frontier_check.specs.declared.memo.Memo.{Memo}
 use Rattle.frontier_check.specs.Memo.{IsMemo, Remembers}
+use Rattle.frontier_check.proofs.Leading.{sum_small}
 use Rattle.set_order.specs.declared.walk.SetFrame.{SetFrame}
 use Rattle.set_order.specs.declared.walk.SetWalk.{SetWalk}
-use Rattle.set_order.specs.declared.walk.TheConstants.{CAPACITY}
-use Rattle.set_order.specs.SetOrder.{callers_of, operations_of, IsLegalSetOrder, HasLegalSetOrder}
-use Rattle.set_order.specs.Search.{no_calls, raised_by, picked, MayStandIn, MayStandTogether, IsDeadEnd, LeadsNowhere, IsOpen, IsFrame, FramesLead, IsWalk, order_of, weigh, weight}
-use Rattle.set_order.proofs.Raising.{all_so}
+use Rattle.set_order.specs.declared.walk.TheConstants.{MOST_CALLS, DEPTH}
+use Rattle.set_order.specs.SetOrder.{callers_of, operations_of, RiseFrom, IsLegalSetOrder, HasLegalSetOrder}
+use Rattle.set_order.specs.Search.{IsBookCapacity, no_calls, raised_by, picked, MayStandIn, MayStandTogether, IsDeadEnd, LeadsNowhere, IsOpen, IsFrame, FramesLead, IsWalk, order_of, weigh, weight}
+use Rattle.set_order.proofs.Raising.{IsNext, all_so, next-from_rise, raised-length, raised-sum, raised-within}
 use Rattle.set_order.proofs.Trying.{nowhere-from_dead, open-less, dead_end, IsPart, part-from_open, candidates-few}
-use Rattle.set_order.proofs.Picking.{picked-few}
-use Rattle.set_order.proofs.Leading.{leads-push, leads-pop, Grows, standing, legal-from_leads, none-from_dead}
+use Rattle.set_order.proofs.Leading.{leads-push, leads-pop, suffices-list, suffices-served, one_step, standing, legal-from_leads, none-from_dead}
 use Rattle.set_order.proofs.Weighing.{weigh-push, weigh-skip, weigh-pop}
 
 -- the frames of a walk lead also to the cut and list of another walk with the same ones
@@ -60,10 +60,10 @@ pub walk-skip : (init : List ℕ) (served : List ℕ → List ℕ → Option (Li
     → IsSameWalk old new → new.memo ≡ old.memo → new.left + 1 ≡ old.left
     → IsWalk init served book new × (weight new < weight old)
 walk-skip init served book old new h nowhere same memo left =
-    let weights : weight new ≡ weigh CAPACITY old.frames.items new.left =
-    ap (λ v. weigh CAPACITY v.items new.left) same.frames in
-    let before : weight old ≡ weigh CAPACITY old.frames.items (new.left + 1) =
-    ap (λ (n : ℕ). weigh CAPACITY old.frames.items n) (sym left) in (
+    let weights : weight new ≡ weigh DEPTH old.frames.items new.left =
+    ap (λ v. weigh DEPTH v.items new.left) same.frames in
+    let before : weight old ≡ weigh DEPTH old.frames.items (new.left + 1) =
+    ap (λ (n : ℕ). weigh DEPTH old.frames.items n) (sym left) in (
       record {
         leads = same_leads served book (no_calls book) init old.frames.items new.frames.items
             old.counts.items new.counts.items old.here.words new.here.words
@@ -78,9 +78,9 @@ walk-skip init served book old new h nowhere same memo left =
         dead = λ cut list at. h.dead cut list (subst (λ m. Remembers m cut list) memo at);
         memo = subst (λ m. IsMemo m) (sym memo) h.memo;
         callers = ap (λ m. m.callers) memo ∙ h.callers;
-        room = ap (λ s. s.room) same.here ∙ h.room;
+        room = subst (λ s. IsBookCapacity init served s.room) (sym same.here) h.room;
       },
-      omega (arith, weights, before, weigh-skip CAPACITY old.frames.items new.left),
+      omega (arith, weights, before, weigh-skip DEPTH old.frames.items new.left),
     )
 
 -- the walk with one more remembered dead end
@@ -113,10 +113,10 @@ walk-remember init served book old new h none same left memo callers only = (
     ];
     memo = memo;
     callers = callers ∙ h.callers;
-    room = ap (λ s. s.room) same.here ∙ h.room;
+    room = subst (λ s. IsBookCapacity init served s.room) (sym same.here) h.room;
   },
-  ap (λ v. weigh CAPACITY v.items new.left) same.frames
-      ∙ ap (λ (n : ℕ). weigh CAPACITY old.frames.items n) left,
+  ap (λ v. weigh DEPTH v.items new.left) same.frames
+      ∙ ap (λ (n : ℕ). weigh DEPTH old.frames.items n) left,
 )
 
 -- a set that leads to a remembered dead end leads nowhere
@@ -182,29 +182,28 @@ deeper-leads init served book old new frame h d =
     old.counts.items old.here.words frame new.here.words h.leads here)
 
 pub walk-deeper : (init : List ℕ) (served : List ℕ → List ℕ → Option (List ℕ × List ℕ))
-    (book : List Page) (old new : SetWalk) (frame : SetFrame) → IsSmall book → length init ≤ 1
-    → Grows served
+    (book : List Page) (old new : SetWalk) (frame : SetFrame) → IsSmall book
     → IsWalk init served book old → IsDeeper served book old new frame
     → IsOpen served book new.counts.items new.here.words new.callers.items new.left
     → new.left < 2 ^ MAX_CALLERS
     → IsWalk init served book new × (weight new < weight old)
-walk-deeper init served book old new frame small begins grows h d here few =
-    let s = standing init served book old.frames.items old.counts.items old.here.words small begins
-    grows h.leads in
-    let same : weight new ≡ weigh CAPACITY (old.frames.items ++ frame ∷ []) new.left =
-    ap (λ (ls : List SetFrame). weigh CAPACITY ls new.left) d.frames in
-    let more : weigh CAPACITY old.frames.items (frame.left + 1) ≡ weight old =
-    ap (λ (n : ℕ). weigh CAPACITY old.frames.items n) d.level_left in
-    let deep : length old.frames.items < CAPACITY = omega (arith, s.depth) in (
+walk-deeper init served book old new frame small h d here few =
+    let s = standing init served book old.frames.items old.counts.items old.here.words small
+    h.leads in
+    let same : weight new ≡ weigh DEPTH (old.frames.items ++ frame ∷ []) new.left =
+    ap (λ (ls : List SetFrame). weigh DEPTH ls new.left) d.frames in
+    let more : weigh DEPTH old.frames.items (frame.left + 1) ≡ weight old =
+    ap (λ (n : ℕ). weigh DEPTH old.frames.items n) d.level_left in
+    let deep : length old.frames.items < DEPTH = omega (arith, s.depth) in (
       record {
         leads = deeper-leads init served book old new frame h d;
         here = here;
         dead = λ cut list at. h.dead cut list (subst (λ m. Remembers m cut list) d.memo at);
         memo = subst (λ m. IsMemo m) (sym d.memo) h.memo;
         callers = ap (λ m. m.callers) d.memo ∙ h.callers;
-        room = d.room ∙ h.room;
+        room = subst (λ (n : ℕ). IsBookCapacity init served n) (sym d.room) h.room;
       },
-      omega (arith, same, more, weigh-push CAPACITY old.frames.items frame new.left deep few),
+      omega (arith, same, more, weigh-push DEPTH old.frames.items frame new.left deep few),
     )
 
 pub walk-found : (init : List ℕ) (served : List ℕ → List ℕ → Option (List ℕ × List ℕ))
@@ -239,11 +238,11 @@ walk-back init served book old new frame h none frames counts here room callers 
     (picked (frame.left + 1) frame.callers.items) =
     nowhere-from_dead served book frame.counts.items frame.words.items frame.set old.here.words
     (picked (frame.left + 1) frame.callers.items) back.here.chosen back.here.stands dead in
-    let same : weight new ≡ weigh CAPACITY new.frames.items frame.left =
-    ap (λ (n : ℕ). weigh CAPACITY new.frames.items n) left in
-    let old_is : weight old ≡ weigh CAPACITY (new.frames.items ++ frame ∷ []) 0 =
-    ap (λ (ls : List SetFrame). weigh CAPACITY ls old.left) frames
-    ∙ ap (λ (n : ℕ). weigh CAPACITY (new.frames.items ++ frame ∷ []) n) none in (
+    let same : weight new ≡ weigh DEPTH new.frames.items frame.left =
+    ap (λ (n : ℕ). weigh DEPTH new.frames.items n) left in
+    let old_is : weight old ≡ weigh DEPTH (new.frames.items ++ frame ∷ []) 0 =
+    ap (λ (ls : List SetFrame). weigh DEPTH ls old.left) frames
+    ∙ ap (λ (n : ℕ). weigh DEPTH (new.frames.items ++ frame ∷ []) n) none in (
       record {
         leads = same_leads served book (no_calls book) init new.frames.items new.frames.items
             frame.counts.items new.counts.items frame.words.items new.here.words
@@ -256,27 +255,26 @@ walk-back init served book old new frame h none frames counts here room callers 
         dead = λ c l at. h.dead c l (subst (λ m. Remembers m c l) memo at);
         memo = subst (λ m. IsMemo m) (sym memo) h.memo;
         callers = ap (λ m. m.callers) memo ∙ h.callers;
-        room = room ∙ h.room;
+        room = subst (λ (n : ℕ). IsBookCapacity init served n) (sym room) h.room;
       },
-      omega (arith, same, old_is, weigh-pop CAPACITY new.frames.items frame),
+      omega (arith, same, old_is, weigh-pop DEPTH new.frames.items frame),
     )
 
--- the words of the last frame fit the capacity
+-- the words of the last frame fit a capacity that suffices in each book
 pub last_level : (init : List ℕ) (served : List ℕ → List ℕ → Option (List ℕ × List ℕ))
     (book : List Page) (old : SetWalk) (frames : List SetFrame) (frame : SetFrame) → IsSmall book
-    → length init ≤ 1
-    → Grows served → IsWalk init served book old
-    → old.frames.items ≡ frames ++ frame ∷ [] → length frame.words.items ≤ CAPACITY
-last_level init served book old frames frame small begins grows h is =
+    → IsWalk init served book old → old.frames.items ≡ frames ++ frame ∷ [] → (capacity : ℕ)
+    → IsBookCapacity init served capacity → length frame.words.items ≤ capacity
+last_level init served book old frames frame small h is capacity big =
     let back =
     leads-pop served book (no_calls book) init frames frame old.counts.items old.here.words
     (subst
     (λ (ls : List SetFrame).
     FramesLead served book (no_calls book) init ls old.counts.items old.here.words)
     is h.leads) in
-    let s = standing init served book frames frame.counts.items frame.words.items small begins grows
+    let s = standing init served book frames frame.counts.items frame.words.items small
     back.leads in
-    omega (arith, s.words)
+    suffices-list served frame.words.items _ capacity (s.fits capacity big)
 
 -- a dead end at the start shows that the book has no legal set order
 pub walk-none : (init : List ℕ) (served : List ℕ → List ℕ → Option (List ℕ × List ℕ))
@@ -297,7 +295,8 @@ walk-none init served book walk h none frames =
 -- the walk at the start
 pub walk-start : (init : List ℕ) (served : List ℕ → List ℕ → Option (List ℕ × List ℕ))
     (book : List Page) (walk : SetWalk) → walk.frames.items ≡ [] → walk.counts.items ≡ no_calls book
-    → walk.here.words ≡ init → walk.here.room ≡ CAPACITY → IsMemo walk.memo
+    → walk.here.words ≡ init → IsBookCapacity init served walk.here.room
+    → IsMemo walk.memo
     → walk.memo.callers ≡ length book → ((cut list : List ℕ) → Remembers walk.memo cut list → ⊥)
     → IsOpen served book walk.counts.items walk.here.words walk.callers.items walk.left
     → IsWalk init served book walk
@@ -319,15 +318,14 @@ pub record SetFits (counts : List ℕ) (places : List Place) : Type 0 where
 
 pub set_fits : (init : List ℕ) (served : List ℕ → List ℕ → Option (List ℕ × List ℕ))
     (book : List Page) (walk : SetWalk) (places : List Place) (after : List ℕ) → IsSmall book
-    → length init ≤ 1
-    → Grows served → IsWalk init served book walk
+    → IsWalk init served book walk
     → MayStandTogether served book walk.counts.items walk.here.words places after
     → (counts : List ℕ) (set : List Place) → counts ≡ walk.counts.items → set ≡ places
     → SetFits counts set
-set_fits init served book walk places after small begins grows h may counts set e f =
+set_fits init served book walk places after small h may counts set e f =
     let cut : List ℕ = walk.counts.items in
     let s =
-    standing init served book walk.frames.items cut walk.here.words small begins grows h.leads in
+    standing init served book walk.frames.items cut walk.here.words small h.leads in
     let fits : SetFits cut places = record {
       callers = all_so (MayStandIn book cut) (λ (place : Place). place.caller < length cut) places
           (λ (place : Place) (one : MayStandIn book cut place). let there = caller_from_call book
@@ -359,57 +357,96 @@ part_fits book cut part wide h counts callers e f =
     subst (λ (c : List ℕ). PartFits book c callers) (sym e)
     (subst (λ (x : List ℕ). PartFits book cut x) (sym f) fits)
 
--- the list after a set fits the capacity
+-- the list after a set fits a capacity that suffices in each book
 pub after_fits : (init : List ℕ) (served : List ℕ → List ℕ → Option (List ℕ × List ℕ))
     (book : List Page) (walk : SetWalk) (places : List Place) (after : List ℕ) → IsSmall book
-    → length init ≤ 1
-    → Grows served → IsWalk init served book walk
-    → callers_of places ≡ picked walk.left walk.callers.items
-    → MayStandTogether served book walk.counts.items walk.here.words places after
-    → length after ≤ CAPACITY
-after_fits init served book walk places after small begins grows h is may =
-    let s = standing init served book walk.frames.items walk.counts.items walk.here.words small
-    begins grows h.leads in
-    let few = candidates-few book walk.counts.items walk.callers.items h.here.candidates in
-    let part = picked-few walk.left walk.callers.items in
-    let callers = small.callers in
-    let long : length places ≤ MAX_CALLERS = omega (
+    → IsWalk init served book walk
+    → MayStandTogether served book walk.counts.items walk.here.words places after → (capacity : ℕ)
+    → IsBookCapacity init served capacity → length after ≤ capacity
+after_fits init served book walk places after small h may capacity big =
+    let cut : List ℕ = walk.counts.items in
+    let s = standing init served book walk.frames.items cut walk.here.words small h.leads in
+    let step = one_step served book cut walk.here.words places after (omega (arith, s.wide))
+    s.within may in
+    let few = sum_small book (raised_by cut places) small (step.wide ∙ s.wide) step.within in
+    suffices-list served after 0 capacity
+    (suffices-served served walk.here.words (operations_of book places) after _
+    (MOST_CALLS - sum cut) 0 capacity may.served_so
+    (omega (
       arith,
-      ap (λ (x : List ℕ). length x) is,
-      length-map places (λ (p : Place). p.caller),
-      part,
       few,
-      callers,
-    ) in
-    omega (
-      arith,
-      grows walk.here.words (operations_of book places) after _ may.served_so,
+      step.calls,
       length-map places (λ (p : Place). (step_at book p).0),
-      s.words,
-    )
+    )) (s.fits capacity big))
 
--- a walk with a part of the candidates that is to be tried
-pub record Trial (book : List Page) (walk : SetWalk) : Type 0 where
+-- the place of a caller's next call after a cut, with some reply
+abbrev place_at : List ℕ → ℕ → Place
+place_at cut i = record { caller = i; number = get_or cut i 0; reply = 0 }
+
+rise_at : (cut : List ℕ) (low : ℕ) (part : List ℕ) → RiseFrom low part
+    → RiseFrom low (callers_of (map (place_at cut) part))
+rise_at cut low [] rise = tt
+rise_at cut low (i ∷ part) rise = (rise.0, rise_at cut (i + 1) part rise.1)
+
+next_at : (book : List Page) (cut part : List ℕ) → length cut ≡ length book
+    → AllByRecursion (λ i. MayComeNext book cut (next_call cut i)) part
+    → AllByRecursion (IsNext cut) (map (place_at cut) part)
+next_at book cut [] wide may = tt
+next_at book cut (i ∷ part) wide may =
+    let there = caller_from_call book i (get_or cut i 0) may.0.is_call in
+    ((omega (arith, there, wide), refl), next_at book cut part wide may.1)
+
+calls_at : (book : List Page) (cut part : List ℕ)
+    → AllByRecursion (λ i. MayComeNext book cut (next_call cut i)) part
+    → AllByRecursion (λ place. IsCall book (call_at place)) (map (place_at cut) part)
+calls_at book cut [] may = tt
+calls_at book cut (i ∷ part) may = (may.0.is_call, calls_at book cut part may.1)
+
+-- a cut and a part of the candidates after it have together no more calls than a book may have
+part_few : (book : List Page) (cut part : List ℕ) → IsSmall book → length cut ≡ length book
+    → ((i : ℕ) → get_or cut i 0 ≤ calls_of book i) → IsPart book cut part
+    → sum cut + length part ≤ MOST_CALLS
+part_few book cut part small wide within h =
+    let places : List Place = map (place_at cut) part in
+    let next = next-from_rise cut 0 places (rise_at cut 0 part h.rise)
+    (next_at book cut part wide h.may_come) in
+    let few = sum_small book (raised_by cut places) small (raised-length cut places ∙ wide)
+    (raised-within book cut places next (calls_at book cut part h.may_come) within) in
+    omega (arith, few, raised-sum cut places next, length-map part (place_at cut))
+
+-- A walk with a part of the candidates that is to be tried: the walk's list fits a capacity that
+-- suffices in each book, and so does each list after operations that are as many as the part.
+pub record Trial (init : List ℕ) (served : List ℕ → List ℕ → Option (List ℕ × List ℕ))
+    (book : List Page) (walk : SetWalk) : Type 0 where
   pub wide : length walk.counts.items ≡ length book
   pub part : IsPart book walk.counts.items (picked walk.left walk.callers.items)
   pub few : length (picked walk.left walk.callers.items) ≤ MAX_CALLERS
-  pub words : length walk.here.words + MAX_CALLERS ≤ CAPACITY
+  pub here : (capacity : ℕ) → IsBookCapacity init served capacity
+      → length walk.here.words ≤ capacity
+  pub fits : (capacity : ℕ) → IsBookCapacity init served capacity → (ops after replies : List ℕ)
+      → length ops ≡ length (picked walk.left walk.callers.items)
+      → served walk.here.words ops ≡ Some (after, replies) → length after ≤ capacity
 
 pub walk-part : (init : List ℕ) (served : List ℕ → List ℕ → Option (List ℕ × List ℕ))
-    (book : List Page) (walk : SetWalk) → IsSmall book → length init ≤ 1 → Grows served
-    → IsWalk init served book walk → 1 ≤ walk.left → Trial book walk
-walk-part init served book walk small begins grows h left =
-    let s = standing init served book walk.frames.items walk.counts.items walk.here.words small
-    begins grows h.leads in
-    let few = candidates-few book walk.counts.items walk.callers.items h.here.candidates in
-    let part = part-from_open served book walk.counts.items walk.here.words walk.callers.items
-    walk.left h.here left few in
+    (book : List Page) (walk : SetWalk) → IsSmall book → IsWalk init served book walk
+    → 1 ≤ walk.left → Trial init served book walk
+walk-part init served book walk small h left =
+    let cut : List ℕ = walk.counts.items in
+    let s = standing init served book walk.frames.items cut walk.here.words small h.leads in
+    let few = candidates-few book cut walk.callers.items h.here.candidates in
+    let part = part-from_open served book cut walk.here.words walk.callers.items walk.left h.here
+    left few in
+    let fewer = part_few book cut (picked walk.left walk.callers.items) small s.wide s.within part
+    in
     let callers = small.callers in
     record {
       wide = s.wide;
       part = part;
       few = omega (arith, part.few, callers);
-      words = omega (arith, s.words);
+      here = λ capacity big. suffices-list served walk.here.words _ capacity (s.fits capacity big);
+      fits = λ capacity big ops after replies long is. suffices-list served after 0 capacity
+          (suffices-served served walk.here.words ops after replies (MOST_CALLS - sum cut) 0
+          capacity is (omega (arith, fewer, long)) (s.fits capacity big));
     }
 
 -- a memo without entries remembers nothing

@@ -4,3 +4,7 @@ pub mod ServingLaws
 pub mod Joins
 pub mod Verdict
 pub mod Search
+pub mod JoinWords
+pub mod JoinLaws
+pub mod SetBookRules
+pub mod Grammar

@@ -13,8 +13,13 @@ use Rattle.set_order.specs.declared.walk.SetFrame.{SetFrame}
 use Rattle.set_order.specs.declared.walk.SetWalk.{SetWalk}
 use Rattle.set_order.specs.declared.walk.StepOutcome.{StepOutcome}
 use Rattle.set_order.specs.declared.walk.StepOutcome.TheVariants.{Found, NoneLeft, GoesOn}
-use Rattle.set_order.specs.declared.walk.TheConstants.{CAPACITY}
+use Rattle.set_order.specs.declared.walk.TheConstants.{MOST_CALLS, DEPTH}
+use Rattle.set_order.specs.Serving.{SufficesAfter}
 use Rattle.set_order.specs.SetOrder.{callers_of, operations_of, replies_of, RiseFrom, IsLegalSetOrder, HasLegalSetOrder}
+
+-- A capacity suffices in each book: for as many operations of the object as a book may have calls.
+abbrev pub IsBookCapacity : List ℕ → (List ℕ → List ℕ → Option (List ℕ × List ℕ)) → ℕ → Type 0
+IsBookCapacity init served capacity = SufficesAfter served init MOST_CALLS capacity
 
 -- the cut that holds no call of a book
 abbrev pub no_calls : List Page → List ℕ
@@ -126,7 +131,7 @@ AllDead served book walk = (cut list : List ℕ) → Remembers walk.memo cut lis
 -- A walk is sound: its frames lead from the cut without calls and the object's first list to the
 -- walk's cut and list; at these, `IsOpen` holds with the walk's callers and its number `left`; its
 -- memo is sound as `IsMemo` says, remembers only dead ends, and is for as many callers as the book
--- has; and its state has the capacity `CAPACITY`.
+-- has; and the capacity of its state suffices in each book.
 pub record IsWalk (init : List ℕ) (served : List ℕ → List ℕ → Option (List ℕ × List ℕ))
     (book : List Page) (walk : SetWalk) : Type 0 where
   pub leads : FramesLead served book
@@ -135,7 +140,7 @@ pub record IsWalk (init : List ℕ) (served : List ℕ → List ℕ → Option (
   pub dead : AllDead served book walk
   pub memo : IsMemo walk.memo
   pub callers : walk.memo.callers ≡ length book
-  pub room : walk.here.room ≡ CAPACITY
+  pub room : IsBookCapacity init served walk.here.room
 
 -- the sets of some frames, in order
 abbrev pub order_of : List SetFrame → List (List Place)
@@ -154,7 +159,7 @@ weigh depth (frame ∷ frames) left = (frame.left + 1) * ways depth + weigh (dep
 
 -- the number for how much may be left to try in a walk
 abbrev pub weight : SetWalk → ℕ
-weight walk = weigh CAPACITY walk.frames.items walk.left
+weight walk = weigh DEPTH walk.frames.items walk.left
 
 -- The outcome of a step of the search is right: with `Found` the sets of the frames are a legal set
 -- order; with `NoneLeft` the book has none; and with `GoesOn` the walk is sound and weighs less

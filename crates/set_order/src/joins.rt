@@ -1,10 +1,10 @@
 ghost use Rattle.std.specs.Prelude.{◌≡◌, ◌↔◌, ◌+◌, ◌^◌, ◌<◌, [], ◌∷◌, IsTrue};
 ghost use Rattle.set_order.specs.Joins.{is_join, mask_of, with_join, with_joins, joins_some, join_reply, served_joins, HasMask};
-ghost use Rattle.set_order.specs.ServingLaws.{length-one, served_joins-grows, served_joins-replies};
+ghost use Rattle.set_order.specs.ServingLaws.{served_joins-replies};
 
 use crate::set_object::SetObject;
 use book_base::{BAD, OpWord, State};
-use seq_objects::value_reply;
+use seq_objects::wrapping_value_reply;
 
 // The operation word that joins the number 0. The words that join the numbers 1 to 31 follow it.
 const FIRST_JOIN: OpWord = 1 << 32;
@@ -47,6 +47,11 @@ impl SetObject for Joins {
 
     ghost served = { λ _. served_joins };
 
+    /// One word, for each number of operations: a list has no more at first, nor after a join.
+    fn capacity(&self, _operations: u64) -> u64 {
+        1
+    }
+
     fn reset(&self, state: &mut State) {
         state.clear();
         state.push(0);
@@ -75,10 +80,6 @@ impl SetObject for Joins {
             reply == BAD
         }
     }
-
-    ghost begins_small = { λ _. length-one };
-
-    ghost grows_by_each = { λ _. served_joins-grows };
 
     ghost replies_to_each = { λ _. served_joins-replies };
 }
@@ -133,7 +134,7 @@ fn join_reply(mask: u64, op: OpWord) -> u64
     ensures { result ≡ join_reply mask op }
 {
     if Joins::knows(op) {
-        value_reply(mask)
+        wrapping_value_reply(mask)
     } else {
         BAD
     }

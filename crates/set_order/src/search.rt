@@ -5,11 +5,11 @@ ghost use Rattle.book_base.specs.Book.{IsValid, IsSmall, IsCall, record_of};
 ghost use Rattle.book_base.specs.declared.call.Record.{Record};
 ghost use Rattle.book_base.specs.Next.{next_call, HoldsAnswered, MayComeNext};
 ghost use Rattle.set_order.specs.SetOrder.{callers_of, IsLegalSetOrder, HasLegalSetOrder};
-ghost use Rattle.set_order.specs.Search.{raised_by, picked, MayStandTogether, AreCandidates, CannotStand, IsDeadEnd, IsWalk, IsRightOutcome, next_operations, ArePlaced, HasWrongReply, weigh, weight};
+ghost use Rattle.set_order.specs.Search.{IsBookCapacity, raised_by, picked, MayStandTogether, AreCandidates, CannotStand, IsDeadEnd, IsWalk, IsRightOutcome, next_operations, ArePlaced, HasWrongReply, weigh, weight};
 
 use crate::place_set::PlaceSet;
 use crate::set_object::SetObject;
-use crate::walk::{CAPACITY, SetFrame, SetWalk, StepOutcome, greatest, part_of, raised, sets};
+use crate::walk::{MOST_CALLS, SetFrame, SetWalk, StepOutcome, greatest, part_of, raised, sets};
 use book_base::{Book, Call, MAX_CALLERS, NoMemory, OpWord, Place, State};
 use frontier_check::{Memo, load};
 use std::alloc::Global;
@@ -46,8 +46,8 @@ impl<O: SetObject> SetSearch<'_, O> {
         if self.holds_answered(&counts) {
             return Ok(Some(Vec::new(self.alloc)));
         }
-        let mut here = State::with_room(self.alloc, CAPACITY)?;
-        let mut spare = State::with_room(self.alloc, CAPACITY)?;
+        let mut here = self.empty_state()?;
+        let mut spare = self.empty_state()?;
         let mut replies = State::with_room(self.alloc, MAX_CALLERS as u64)?;
         self.object.reset(&mut here);
         let candidates = self.candidates(&counts)?;
@@ -63,6 +63,14 @@ impl<O: SetObject> SetSearch<'_, O> {
         self.go_on(&mut walk, &mut spare, &mut replies)
     }
 
+    // An empty state with capacity for each list that the object reaches in a book.
+    fn empty_state(&self) -> Result<State, NoMemory>
+        ensures { IfOk result (λ state. IsBookCapacity (O.init self.now.object.now)
+            (O.served self.now.object.now) state.room) }
+    {
+        State::with_room(self.alloc, self.object.capacity(MOST_CALLS))
+    }
+
     // Continues a walk until it has found a legal set order, or all is tried.
     fn go_on(
         &self,
@@ -74,7 +82,8 @@ impl<O: SetObject> SetSearch<'_, O> {
         requires small { IsSmall self.now.book.now }
         requires walk { IsWalk (O.init self.now.object.now)
             (O.served self.now.object.now) self.now.book.now walk.old }
-        requires spare { spare.old.room ≡ CAPACITY }
+        requires spare { IsBookCapacity (O.init self.now.object.now)
+            (O.served self.now.object.now) spare.old.room }
         requires replies { replies.old.room ≡ MAX_CALLERS }
         ensures found { IfOk result
             (λ found. IfSome found (λ order. IsLegalSetOrder (O.init self.now.object.now)
@@ -103,9 +112,10 @@ impl<O: SetObject> SetSearch<'_, O> {
         requires small { IsSmall self.now.book.now }
         requires walk { IsWalk (O.init self.now.object.now)
             (O.served self.now.object.now) self.now.book.now walk.old }
-        requires spare { spare.old.room ≡ CAPACITY }
+        requires spare { IsBookCapacity (O.init self.now.object.now)
+            (O.served self.now.object.now) spare.old.room }
         requires replies { replies.old.room ≡ MAX_CALLERS }
-        ensures spare { spare.new.room ≡ CAPACITY }
+        ensures spare { spare.new.room ≡ spare.old.room }
         ensures replies { replies.new.room ≡ MAX_CALLERS }
         ensures outcome { IfOk result (IsRightOutcome (O.init self.now.object.now)
             (O.served self.now.object.now) self.now.book.now (weight walk.old) walk.new) }
@@ -136,9 +146,10 @@ impl<O: SetObject> SetSearch<'_, O> {
         requires walk { IsWalk (O.init self.now.object.now)
             (O.served self.now.object.now) self.now.book.now walk.now }
         requires left { 1 ≤ walk.now.left }
-        requires spare { spare.old.room ≡ CAPACITY }
+        requires spare { IsBookCapacity (O.init self.now.object.now)
+            (O.served self.now.object.now) spare.old.room }
         requires replies { replies.old.room ≡ MAX_CALLERS }
-        ensures spare { spare.new.room ≡ CAPACITY }
+        ensures spare { spare.new.room ≡ spare.old.room }
         ensures replies { replies.new.room ≡ MAX_CALLERS }
         ensures callers { IfOk result (λ found.
             IfSome found (λ set. callers_of set ≡ picked walk.now.left walk.now.callers.items)) }
@@ -231,7 +242,6 @@ impl<O: SetObject> SetSearch<'_, O> {
         requires walk { IsWalk (O.init self.now.object.now)
             (O.served self.now.object.now) self.now.book.now walk.old }
         requires left { 1 ≤ walk.old.left }
-        requires spare { spare.now.room ≡ CAPACITY }
         requires callers { callers_of set ≡ picked walk.old.left walk.old.callers.items }
         requires stands { MayStandTogether (O.served self.now.object.now) self.now.book.now
             walk.old.counts.items walk.old.here.words set spare.now.words }
@@ -263,7 +273,6 @@ impl<O: SetObject> SetSearch<'_, O> {
         requires walk { IsWalk (O.init self.now.object.now)
             (O.served self.now.object.now) self.now.book.now walk.old }
         requires left { 1 ≤ walk.old.left }
-        requires spare { spare.now.room ≡ CAPACITY }
         requires callers { callers_of set ≡ picked walk.old.left walk.old.callers.items }
         requires stands { MayStandTogether (O.served self.now.object.now) self.now.book.now
             walk.old.counts.items walk.old.here.words set spare.now.words }

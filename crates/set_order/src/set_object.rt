@@ -1,5 +1,6 @@
-ghost use Rattle.std.specs.Prelude.{◌≡◌, ℕ, ◌+◌, ◌≤◌, ◌↔◌, List, length, Option, Some, IsTrue, IsFalse};
-ghost use Rattle.set_order.specs.Serving.{NeverRepliesFrom};
+ghost use Rattle.std.specs.Prelude.{◌≡◌, ℕ, ◌*◌, ◌≤◌, ◌↔◌, List, length, Option, Some, IsTrue, IsFalse};
+ghost use Rattle.book_base.specs.declared.TheConstants.{MAX_CALLERS, MAX_CALLS, MAX_ROOM};
+ghost use Rattle.set_order.specs.Serving.{NeverRepliesFrom, SufficesAfter};
 
 use book_base::{OpWord, State};
 
@@ -15,10 +16,20 @@ pub trait SetObject {
     /// asks that the order of the operations makes no difference.
     ghost served: { Self → List ℕ → List ℕ → Option (List ℕ × List ℕ) };
 
+    /// A capacity, in words, for the lists to which sets of together at most so many operations
+    /// take the object.
+    fn capacity(&self, operations: u64) -> u64
+        // The operations are no more than a book may have calls.
+        requires { operations ≤ MAX_CALLERS * MAX_CALLS }
+        // The capacity suffices for so many operations after the list that the object begins with.
+        ensures fits { SufficesAfter (served self.now) (init self.now) operations result }
+        // The capacity is at most `MAX_ROOM`.
+        ensures few { result ≤ MAX_ROOM };
+
     /// Makes the list the one that the object begins with. The capacity doesn't change.
     fn reset(&self, state: &mut State)
-        // The state has capacity for one word.
-        requires { 1 ≤ state.old.room }
+        // The list that the object begins with fits the capacity.
+        requires { length (init self.now) ≤ state.old.room }
         ensures { state.new ≡ record state.old { words = init self.now } };
 
     /// Serves some operations at once: the state's list becomes the one after them, and `replies`
@@ -28,8 +39,9 @@ pub trait SetObject {
     fn serve(&self, state: &mut State, ops: &[OpWord], replies: &mut State) -> bool
         // There is at least one operation.
         requires some { 1 ≤ length ops.now }
-        // The state has capacity for one word more for each operation.
-        requires room { length state.old.words + length ops.now ≤ state.old.room }
+        // Where the object serves the operations at once, the list after them fits the capacity.
+        requires room { (after replies : List ℕ) → served self.now state.old.words ops.now
+            ≡ Some (after, replies) → length after ≤ state.old.room }
         // The replies have capacity for one word for each operation.
         requires replies { length ops.now ≤ replies.old.room }
         // An answer `true` comes only where the object serves the operations at once, and then the
@@ -55,15 +67,6 @@ pub trait SetObject {
     {
         true
     }
-
-    /// The list that the object begins with has at most one word.
-    ghost begins_small: { (object : Self) → length (init object) ≤ 1 };
-
-    /// Operations that are served at once make the list longer by at most as many words as there
-    /// are operations.
-    ghost grows_by_each: { (object : Self) (list ops after replies : List ℕ)
-        → served object list ops ≡ Some (after, replies)
-        → length after ≤ length list + length ops };
 
     /// Operations that are served at once get one reply each.
     ghost replies_to_each: { (object : Self) (list ops after replies : List ℕ)

@@ -1,6 +1,6 @@
 ghost use Rattle.std.specs.Prelude.{◌≡◌, length};
 ghost use Rattle.set_order.specs.Serving.{served_alone};
-ghost use Rattle.set_order.specs.ServingLaws.{served_alone-grows, served_alone-replies};
+ghost use Rattle.set_order.specs.ServingLaws.{served_alone-replies};
 
 use crate::set_object::SetObject;
 use book_base::{OpWord, SeqObject, State};
@@ -17,6 +17,10 @@ impl<S: SeqObject> SetObject for Single<S> {
 
     ghost served = { λ single. served_alone (S.spec single.object).next };
 
+    fn capacity(&self, operations: u64) -> u64 {
+        self.object.capacity(operations)
+    }
+
     fn reset(&self, state: &mut State) {
         self.object.reset(state);
     }
@@ -30,10 +34,6 @@ impl<S: SeqObject> SetObject for Single<S> {
         replies.push(reply);
         true
     }
-
-    ghost begins_small = { λ single. S.begins_small single.object };
-
-    ghost grows_by_each = { λ single. served_alone-grows (S.spec single.object).next (S.grows_by_one single.object) };
 
     ghost replies_to_each = { λ single. served_alone-replies (S.spec single.object).next };
 }

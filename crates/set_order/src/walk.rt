@@ -8,9 +8,11 @@ use book_base::{MAX_CALLERS, MAX_CALLS, NoMemory, Place, State};
 use frontier_check::Memo;
 use std::alloc::Global;
 
-/// The capacity of a search's states, in words: the most calls that a book may have, one more, and
-/// one for each caller.
-pub const CAPACITY: u64 = MAX_CALLERS as u64 * MAX_CALLS + 1 + MAX_CALLERS as u64;
+/// The greatest number of calls that a book may have.
+pub const MOST_CALLS: u64 = MAX_CALLERS as u64 * MAX_CALLS;
+
+/// A number above that of the frames of a walk, each of which has a set of at least one call.
+pub const DEPTH: u64 = MOST_CALLS + 1;
 
 /// A frame of a walk: a cut and a list on the way to the walk's own, with the set that was put next
 /// at them, the callers whose next calls were the candidates for this set, and `left`: the parts of

@@ -7,9 +7,9 @@ use mathlib.Core.Option.{some}
 use mathlib.Core.List.{IsPrefix}
 use lib.ListN.{get_elem?}
 use Rattle.atomic_table.specs.Table.{Me, Final, Seen}
-use Rattle.shared_log.specs.Holders.{has, only}
-use Rattle.shared_log.proofs.Logs.{All-suffix}
-use Rattle.shared_log.proofs.Coming.{IsComing, starts_coming, split_next, next_gone, next_inside, more_coming, all_came}
+use Rattle.shared_words.specs.Holders.{has, only}
+use Rattle.shared_words.proofs.Logs.{All-suffix}
+use Rattle.shared_words.proofs.Coming.{IsComing, starts_coming, split_next, next_gone, next_inside, more_coming, all_came}
 use Rattle.shared_words.specs.declared.shared_words.SharedWords.{SharedWords}
 use Rattle.shared_words.specs.declared.words_pass.WordsPass.{WordsPass}
 use Rattle.shared_words.specs.Deeds.{Deed, AreCalls}

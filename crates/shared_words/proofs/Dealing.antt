@@ -4,7 +4,7 @@ use Rattle.std.specs.List.{All, range_with_len}
 use Rattle.std.proofs.lemmas.Bool.{cond-true}
 use Rattle.std.proofs.lemmas.List.{map-append}
 use Rattle.std.proofs.lemmas.List.Elements.{All-push, All-weaker}
-use Rattle.shared_log.proofs.Dealing.{range_more}
+use Rattle.shared_words.proofs.LogDealing.{range_more}
 use Rattle.shared_words.specs.declared.shared_words.SharedWords.{SharedWords}
 use Rattle.shared_words.specs.declared.words_pass.WordsPass.{WordsPass}
 use Rattle.shared_words.specs.Deeds.{Deed, AreCalls}

@@ -5,7 +5,7 @@ use Rattle.std.proofs.lemmas.Bool.{cond-true, cond-false}
 use Rattle.std.proofs.lemmas.List.{append-nil, map-append}
 use Rattle.std.proofs.lemmas.List.Elements.{All-nil, All-cons, filter-append}
 use mathlib.Core.List.{IsPrefix}
-use Rattle.shared_log.proofs.Logs.{ends_at}
+use Rattle.shared_words.proofs.Logs.{ends_at}
 use Rattle.shared_words.specs.Deeds.{Deed, place_of, HasFound}
 use Rattle.shared_words.specs.Histories.{Access, deeds_by, word_at, IsRightAccess, IsLawfulHistory, IsAfterAccess}
 

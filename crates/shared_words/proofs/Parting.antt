@@ -4,8 +4,8 @@ use mathlib.Core.Option.{some}
 use lib.ListN.{get_elem?}
 use Rattle.atomic_table.specs.Table.{Me, Splits, Joins}
 use Rattle.atomic_table.proofs.Lists.{set_else}
-use Rattle.shared_log.specs.Holders.{has, only, union_of, AreHeld}
-use Rattle.shared_log.proofs.Holding.{held_parted, held_returned, joined_only, without_else}
+use Rattle.shared_words.specs.Holders.{has, only, union_of, AreHeld}
+use Rattle.shared_words.proofs.Holding.{held_parted, held_returned, joined_only, without_else}
 use Rattle.shared_words.specs.Deeds.{Deed}
 use Rattle.shared_words.specs.Histories.{Access, View, known}
 use Rattle.shared_words.specs.Rule.{Knows, Ruled}

@@ -5,8 +5,8 @@ use Rattle.std.proofs.lemmas.Option.{same_Some}
 use Rattle.std.proofs.lemmas.List.{append-nil, get_or-set_other, get_or-set_same, get_or-replicate, length-replicate}
 use Rattle.std.proofs.lemmas.List.Elements.{All-nil, All-push}
 use Rattle.atomic_table.specs.Table.{Me, keeps, Allows, opening}
-use Rattle.shared_log.specs.Holders.{has, only, whole}
-use Rattle.shared_log.proofs.Holding.{held_changed, held_at_start, only_here, only_else, only_set}
+use Rattle.shared_words.specs.Holders.{has, only, whole}
+use Rattle.shared_words.proofs.Holding.{held_changed, held_at_start, only_here, only_else, only_set}
 use Rattle.shared_words.specs.Deeds.{Deed, place_of, leaves, HasFound}
 use Rattle.shared_words.specs.Histories.{Access, View, access, known, word_at, IsLawfulHistory, IsAfterAccess}
 use Rattle.shared_words.specs.Rule.{Knows, Ruled, Accesses}

@@ -1,3 +1,9 @@
+pub mod Entries
+pub mod Words
+pub mod Holders
+pub mod Hands
+pub mod LogRule
+pub mod Seats
 pub mod Deeds
 pub mod Histories
 pub mod Transcripts

@@ -1,7 +1,7 @@
 //! The rule of the table of shared words, and what a seat learns by its steps. These types are for
 //! the proofs alone.
 ghost use Rattle.std.specs.Prelude.{ℕ, [], None, slice_set};
-ghost use Rattle.shared_log.specs.Holders.{has, only, whole, union_of};
+ghost use Rattle.shared_words.specs.Holders.{has, only, whole, union_of};
 ghost use Rattle.shared_words.specs.Deeds as deeds;
 ghost use Rattle.shared_words.specs.Histories.{known};
 ghost use Rattle.shared_words.specs.Rule.{Ruled, Accesses};

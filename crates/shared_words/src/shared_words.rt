@@ -3,7 +3,7 @@
 ghost use Rattle.std.specs.Prelude.{◌≡◌, ℕ, ◌<◌, ◌≤◌, [], ◌∷◌, ◌++◌, List, None, Some, IfOk, All, map, length, vec_len, vec_capacity, slice_set};
 ghost use Rattle.std.specs.List.{range_with_len};
 ghost use Rattle.book_base.specs.declared.TheConstants.{MAX_CALLERS, MAX_CALLS};
-ghost use Rattle.shared_log.specs.Holders.{has, whole};
+ghost use Rattle.shared_words.specs.Holders.{has, whole};
 ghost use Rattle.shared_words.specs.Deeds as deeds;
 ghost use Rattle.shared_words.specs.Histories.{Access, IsAfterAccess};
 

@@ -1,5 +1,5 @@
 ghost use Rattle.std.specs.Prelude.{◌≡◌, []};
-ghost use Rattle.shared_log.specs.Holders.{has, only};
+ghost use Rattle.shared_words.specs.Holders.{has, only};
 ghost use Rattle.shared_words.specs.Histories.{known};
 
 use crate::plays::Knowing;

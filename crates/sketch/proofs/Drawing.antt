@@ -14,7 +14,7 @@ use Rattle.book_base.specs.Book.{Page, calls_of, answers_of, announced, answered
 use Rattle.book_base.proofs.PageLemmas.{caller_from_call, caller_from_answer}
 use Rattle.book_base.proofs.GrowthLemmas.{below_calls, announced_at}
 use Rattle.book_base.specs.Next.{raised}
-use Rattle.book_laws.proofs.LegalOrder.{same_call, raised_same, raised_other, raised_more, raised_cases}
+use Rattle.legal_orders.proofs.LegalOrder.{same_call, raised_same, raised_other, raised_more, raised_cases}
 use Rattle.sketch.specs.declared.event.Event.{Event}
 use Rattle.sketch.specs.declared.event.Event.TheVariants.{Invoke, Return}
 use Rattle.sketch.specs.declared.drawn.Drawn.{Drawn}

@@ -7,7 +7,7 @@ use Rattle.book_base.specs.Cut.{Holds, IsWithin}
 use Rattle.book_base.specs.Book.{Page, answers_of, announced, IsAnswered, IsValid}
 use Rattle.book_base.specs.Next.{next_call}
 use Rattle.book_base.proofs.GrowthLemmas.{announced_at}
-use Rattle.book_laws.proofs.LegalOrder.{answer_stands}
+use Rattle.legal_orders.proofs.LegalOrder.{answer_stands}
 use Rattle.sketch.specs.declared.event.Event.{Event}
 use Rattle.sketch.specs.declared.event.Event.TheVariants.{Invoke, Return}
 use Rattle.sketch.specs.declared.drawn.Drawn.{Drawn}

@@ -8,7 +8,7 @@ use Rattle.list_laws.proofs.Ordered.{IsAsymmetricIn, IsOrderedBy-same}
 use Rattle.book_base.specs.declared.call.Call.{Call}
 use Rattle.book_base.specs.declared.call.Record.{Record}
 use Rattle.book_base.specs.Book.{Page, IsCall, IsAnswered, record_of}
-use Rattle.book_laws.proofs.LegalOrder.{answer_stands}
+use Rattle.legal_orders.proofs.LegalOrder.{answer_stands}
 use Rattle.sketch.specs.declared.event.Event.{Event}
 use Rattle.sketch.specs.declared.event.Event.TheVariants.{Invoke, Return}
 use Rattle.sketch.specs.Sketch.{IsEventOf, IsListedBefore, ComesBefore, IsSketch}

@@ -8,8 +8,8 @@ use Rattle.book_base.specs.Cut.{Holds, IsWithin}
 use Rattle.book_base.specs.Book.{Page, IsAnswered, IsValid, record_of}
 use Rattle.book_base.proofs.PageLemmas.{caller_from_answer}
 use Rattle.book_base.specs.Next.{next_call}
-use Rattle.book_laws.proofs.LegalOrder.{same_call, answer_stands}
-use Rattle.book_laws.proofs.Precedence.{views_grow}
+use Rattle.legal_orders.proofs.LegalOrder.{same_call, answer_stands}
+use Rattle.legal_orders.proofs.Precedence.{views_grow}
 use Rattle.sketch.specs.declared.event.Event.TheVariants.{Return}
 use Rattle.sketch.specs.Sketch.{ComesBefore}
 use Rattle.sketch.specs.Drawing.{IsNextOf}

@@ -1,3 +1,4 @@
 pub mod Sketch
 pub mod Drawing
 pub mod Laws
+pub mod Intervals

@@ -14,7 +14,7 @@ use Rattle.book_base.specs.Cut.{IsWithin}
 use Rattle.book_base.specs.Book.{Page, page_of, calls_of, answers_of, IsCall, operation_of, record_of, IsValid, with_answer, with_operation, first_unanswered, unanswered_page, unanswered_book}
 use Rattle.book_base.specs.Refusal.{MayAnswer}
 use Rattle.book_base.proofs.GrowthLemmas.{page_of-unanswered_book, page_of-set_same, page_of-set_other, within_announced, calls_of-with_answer, calls_of-with_operation, records-with_operation, record_of-with_answer_cases}
-use Rattle.book_laws.proofs.LegalOrder.{same_call}
+use Rattle.legal_orders.proofs.LegalOrder.{same_call}
 use Rattle.smaller_book.specs.Part.{numbers_of, AreRising, count_below, original, IsRenumbered, IsPart}
 use Rattle.smaller_book.specs.Numbers.{numbers_in}
 use Rattle.smaller_book.proofs.Counts.{count_below-within, count_below-past, count_below-monotone}

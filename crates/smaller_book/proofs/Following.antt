@@ -15,7 +15,7 @@ use Rattle.book_base.specs.Book.{Page, answers_of, IsCall, IsAnswered, operation
 use Rattle.book_base.specs.Order.{call_at, step_at, HasLegalOrder}
 use Rattle.book_base.specs.Next.{raised, MayStandNext, HoldsAnswered, Continues, list_after}
 use Rattle.book_base.specs.Pruning.{HasOneOpen}
-use Rattle.book_laws.proofs.LegalOrder.{raised_same, raised_other, same_call, answer_stands, within_cut, legal_order_from_continues, continues_from_legal_order}
+use Rattle.legal_orders.proofs.LegalOrder.{raised_same, raised_other, same_call, answer_stands, within_cut, legal_order_from_continues, continues_from_legal_order}
 use Rattle.smaller_book.specs.Part.{numbers_of, AreRising, count_below, original, IsNamed, IsRenumbered, IsPart}
 use Rattle.smaller_book.proofs.Counts.{counted_from_below, count_below-at, count_below-past, count_below-without, count_below-monotone, find_number}
 

@@ -6,7 +6,7 @@ use Rattle.std.proofs.lemmas.Bool.{cases_Bool, cases_eq, cases_lt, cond-true, co
 use Rattle.std.proofs.lemmas.List.{length_push, get_or_push, take_all, take_more, take-append-le}
 use Rattle.std.proofs.lemmas.List.Elements.{filter-append}
 use Rattle.list_laws.proofs.Options.{cases_Option, pair_is}
-use Rattle.history_rules.specs.Container.{one_if, times}
+use Rattle.legal_orders.specs.Container.{one_if, times}
 use Rattle.seq_objects.specs.declared.kind.Kind.{Kind}
 use Rattle.seq_objects.specs.declared.kind.Kind.TheVariants as kinds
 use Rattle.seq_objects.specs.Words as words
@@ -20,11 +20,11 @@ use Rattle.seq_objects.specs.MapSteps.{map_operation, map_after, item_of, key_of
 use Rattle.seq_objects.specs.MapLaws.{HasKeysOnce, got}
 use Rattle.seq_objects.specs.Objects.{kind_next, kind_next-unknown}
 use Rattle.seq_objects.proofs.MapReading.{put_is_got, put_leaves_others, delete_leaves_others, deleted_is_none, keys_stay_once}
-use Rattle.object_laws.proofs.Stepping.{apart, shown_item}
-use Rattle.object_laws.proofs.Ordering.{after_enq, after_deq}
-use Rattle.object_laws.proofs.Covering.{after_push, after_pop}
-use Rattle.object_laws.proofs.Rising.{placed, inserted_is, after_insert, after_min, after_other}
-use Rattle.object_laws.proofs.Standing.{times-insert, times-remove, times-placed, is_there, added_other, removed_other, taken_out_tells, added_tells, after_add, after_remove, after_has}
+use Rattle.broken_rules.proofs.Stepping.{apart, shown_item}
+use Rattle.broken_rules.proofs.Ordering.{after_enq, after_deq}
+use Rattle.broken_rules.proofs.Covering.{after_push, after_pop}
+use Rattle.broken_rules.proofs.Rising.{placed, inserted_is, after_insert, after_min, after_other}
+use Rattle.broken_rules.proofs.ObjectStanding.{times-insert, times-remove, times-placed, is_there, added_other, removed_other, taken_out_tells, added_tells, after_add, after_remove, after_has}
 use Rattle.smaller_book.specs.Keys.{value_shown, key_by_kind, key_of_step, key_of_item, is_among, items_without, Rises, IsWellFormed}
 use Rattle.smaller_book.proofs.Filtering.{filter-kept, filter-gone, filter-all, above-filter, keys_once-filter, times-filter}
 

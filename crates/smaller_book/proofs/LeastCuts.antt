@@ -16,9 +16,9 @@ use Rattle.book_base.specs.Order.{HasLegalOrder}
 use Rattle.book_base.specs.Pruning.{HasOneOpen}
 use Rattle.book_base.proofs.PageLemmas.{page_past}
 use Rattle.book_base.proofs.GrowthLemmas.{below_calls}
-use Rattle.book_laws.proofs.BookAt.{record_from_part, record_of-part, answered_at, book_at_is_valid}
-use Rattle.book_laws.proofs.BookAtLaws.{is_the_only_one, is_the_book_at_the_smaller, record_counts_are_the_cut, has_one_where_the_book_has, smaller_has_one}
-use Rattle.book_laws.proofs.LegalOrder.{same_call}
+use Rattle.legal_orders.proofs.BookAt.{record_from_part, record_of-part, answered_at, book_at_is_valid}
+use Rattle.legal_orders.proofs.BookAtLaws.{is_the_only_one, is_the_book_at_the_smaller, record_counts_are_the_cut, has_one_where_the_book_has, smaller_has_one}
+use Rattle.legal_orders.proofs.LegalOrder.{same_call}
 use Rattle.smaller_book.specs.Part.{size_of, numbers_of, AreRising, count_below, original, IsRenumbered, IsPart, CarriesOver}
 use Rattle.smaller_book.specs.declared.TheConstants.{FEW_CALLS}
 use Rattle.smaller_book.specs.Earliest.{all_numbers, IsTried, IsEarliest, IsIllegalCut, one_less, IsLeastAt, IsLegalBelow, IsLeastOpenCut, IsLeastCut}

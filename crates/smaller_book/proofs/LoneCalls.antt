@@ -12,9 +12,9 @@ use Rattle.book_base.specs.BookAt.{book_at}
 use Rattle.book_base.specs.Sequential.{IsRunFrom}
 use Rattle.book_base.specs.Order.{call_at, StandsAt, step_at, HasLegalOrder}
 use Rattle.book_base.proofs.ViewLemmas.{same_call, answer_stands}
-use Rattle.book_laws.specs.BooksAtCuts.{IsHeldByAView}
-use Rattle.book_laws.proofs.LegalOrder.{same_place}
-use Rattle.book_laws.proofs.BookAtLaws.{smaller_has_one}
+use Rattle.legal_orders.specs.BooksAtCuts.{IsHeldByAView}
+use Rattle.legal_orders.proofs.LegalOrder.{same_place}
+use Rattle.legal_orders.proofs.BookAtLaws.{smaller_has_one}
 use Rattle.seq_objects.specs.declared.kind.Kind.{Kind}
 use Rattle.seq_objects.specs.Objects.{kind_next, kind_spec}
 use Rattle.smaller_book.specs.Part.{numbers_of, IsPart}

@@ -9,8 +9,8 @@ use Rattle.book_base.specs.Book.{Page, page_of, answers_of, answered, IsValid}
 use Rattle.book_base.specs.BookAt.{book_at}
 use Rattle.book_base.specs.Pruning.{HasOneOpen}
 use Rattle.book_base.proofs.ViewLemmas.{answer_stands, record_from_part, answered_at}
-use Rattle.book_laws.proofs.BookAt.{records-book_at}
-use Rattle.book_laws.proofs.BookAtLaws.{is_the_book_at}
+use Rattle.legal_orders.proofs.BookAt.{records-book_at}
+use Rattle.legal_orders.proofs.BookAtLaws.{is_the_book_at}
 use Rattle.smaller_book.specs.Minimal.{IsMoment, ClosedCutsAreMoments, MinimalAtMoments, FewCallsAtCuts, SeveralOpenAtCuts}
 
 -- Where a cut lies within a book's records, the book at the cut has of each caller as many records

@@ -8,8 +8,8 @@ use Rattle.book_base.specs.Cut.{Holds, IsWithin}
 use Rattle.book_base.specs.Book.{Page, page_of, answers_of, record_of, IsValid}
 use Rattle.book_base.specs.BookAt.{book_at}
 use Rattle.book_base.specs.Pruning.{HasOneOpen}
-use Rattle.book_laws.proofs.BookAt.{record_of-part, records-book_at}
-use Rattle.book_laws.proofs.BookAtLaws.{is_the_book_at}
+use Rattle.legal_orders.proofs.BookAt.{record_of-part, records-book_at}
+use Rattle.legal_orders.proofs.BookAtLaws.{is_the_book_at}
 
 -- The book at a cut has no more records of a caller than the cut.
 answers-few : (book : List Page) (cut : List ℕ) (i : ℕ)

@@ -9,7 +9,7 @@ use Rattle.std.proofs.lemmas.Option.{slice_get_within}
 use Rattle.book_base.specs.declared.call.Call.{Call}
 use Rattle.book_base.specs.declared.call.Record.{Record}
 use Rattle.book_base.specs.Book.{Page, calls_of, IsCall, operation_of, record_of}
-use Rattle.book_laws.proofs.LegalOrder.{same_call}
+use Rattle.legal_orders.proofs.LegalOrder.{same_call}
 use Rattle.smaller_book.specs.Part.{numbers_of, AreRising, count_below, original, IsRenumbered, IsPart}
 use Rattle.smaller_book.specs.Numbers.{picked, composed}
 use Rattle.smaller_book.proofs.Counts.{counted_from_below, below_from_counted, count_below-within}

@@ -14,7 +14,7 @@ use Rattle.smaller_book.proofs.Following.{some_that}
 use Rattle.book_base.specs.Book.{Page, page_of, calls_of, IsCall, IsAnswered, operation_of, record_of, announced, IsValid}
 use Rattle.book_base.proofs.PageLemmas.{caller_from_call}
 use Rattle.book_base.proofs.GrowthLemmas.{announced_at}
-use Rattle.book_laws.proofs.LegalOrder.{same_call}
+use Rattle.legal_orders.proofs.LegalOrder.{same_call}
 use Rattle.smaller_book.specs.Part.{size_of, numbers_of, AreRising, original, IsPart}
 use Rattle.smaller_book.specs.Numbers.{AreNumbersOf}
 use Rattle.smaller_book.specs.ReadOnly.{IsReadOnly, LacksReadOnlyAlone}

@@ -7,8 +7,8 @@ use Rattle.book_base.specs.declared.call.Call.{Call}
 use Rattle.book_base.specs.declared.call.Record.{Record}
 use Rattle.book_base.specs.Book.{Page, calls_of, IsValid}
 use Rattle.book_base.specs.BookAt.{IsBookAt}
-use Rattle.book_laws.proofs.BookAt.{book_at_is_valid}
-use Rattle.book_laws.proofs.BookAtLaws.{is_the_book_at}
+use Rattle.legal_orders.proofs.BookAt.{book_at_is_valid}
+use Rattle.legal_orders.proofs.BookAtLaws.{is_the_book_at}
 use Rattle.seq_objects.specs.declared.kind.Kind.{Kind}
 use Rattle.smaller_book.specs.Part.{numbers_of, IsPart}
 use Rattle.smaller_book.specs.Numbers.{numbers_in, composed}

@@ -9,7 +9,7 @@ use Rattle.book_base.specs.Book.{Page, IsCall, calls_of, answers_of, answered}
 use Rattle.book_base.specs.BookAt.{book_at}
 use Rattle.book_base.specs.Order.{HasLegalOrder}
 use Rattle.book_base.specs.Pruning.{HasOneOpen}
-use Rattle.book_laws.specs.BooksAtCuts.{IsHeldByAView}
+use Rattle.legal_orders.specs.BooksAtCuts.{IsHeldByAView}
 use Rattle.smaller_book.specs.declared.TheConstants.{FEW_CALLS}
 use Rattle.smaller_book.specs.Part.{size_of}
 

@@ -23,7 +23,7 @@ use std::alloc::Global;
 /// Where a book has no legal order at a cut, it has none at any later cut (Castañeda and Rodríguez
 /// 2023), so that cuts are found by halving. The first cut holds the records whose views hold at
 /// most n calls, for the least n with which the book has no legal order. From this cut records are
-/// removed, first while the book breaks a rule, which is cheap to test, and then while it has no
+/// removed, first while the book breaks a rule, which needs no search, and then while it has no
 /// legal order. With each record that is gone a search for an order has more to try, until few
 /// calls are left. So where more than `FEW_CALLS` calls are left, and each view holds at most one
 /// unanswered call of each caller, only cuts are tried at which each view still holds at most one.

@@ -14,7 +14,7 @@ use book_base::{Book, Cut, NoMemory};
 use broken_rules::broken_rule;
 use frontier_check::{Verdict, check};
 use kind_search::SearchedKind;
-use next_calls::has_one_open;
+use search_hints::has_one_open;
 use seq_objects::Kind;
 use std::alloc::Global;
 

@@ -15,7 +15,7 @@ use crate::keys::{key_of, keys_of};
 use crate::numbered::part;
 use crate::removal::{Smaller, has_fewer, push_if};
 use book_base::{Book, Call, NoMemory};
-use next_calls::has_one_open;
+use search_hints::has_one_open;
 use seq_objects::Kind;
 use std::alloc::Global;
 

@@ -4,13 +4,13 @@
 
 ghost use Rattle.given_book.specs.Given.{IsFirstGivenFault};
 ghost use Rattle.smaller_witness.specs.Output.{SaysLegal};
-ghost use Rattle.witness_texts.specs.Texts.{IsSmallerWitness};
+ghost use Rattle.given_book.specs.Texts.{IsSmallerWitness};
 
 use book_base::ReadFault;
 use byte_streams::{ProgramAnswer, StdSink, StdSource, TextProgram, run_program};
+use given_book::smaller_text;
 use std::alloc::Global;
 use std::process::ExitCode;
-use witness_texts::smaller_text;
 
 /// Answers a smaller book of the book that it reads, or that the book is legal.
 #[derive(Clone, Copy)]

@@ -13,12 +13,12 @@ use Rattle.book_base.specs.Book.{Page, IsValid, operation_of}
 use Rattle.book_base.specs.Next.{next_call, raised}
 use Rattle.book_base.specs.Pruning.{HasOneOpen}
 use Rattle.search_hints.specs.Marks.{IsMarked, MarksSuffice}
-use Rattle.history_rules.specs.Container.{Effect, Reading}
+use Rattle.legal_orders.specs.Container.{Effect, Reading}
 use Rattle.container_pruning.specs.declared.reader.Role.{Role}
 use Rattle.container_pruning.specs.Deals.{deed_of}
-use Rattle.history_rules.specs.Calls.{IsNeverTaken}
-use Rattle.value_pruning.specs.HoldsLast.{IsRead}
-use Rattle.stack_pruning.specs.LastFirst.{GivesLastFirst, HasTop}
+use Rattle.legal_orders.specs.Calls.{IsNeverTaken}
+use Rattle.list_pruning.specs.HoldsLast.{IsRead}
+use Rattle.list_pruning.specs.LastFirst.{GivesLastFirst, HasTop}
 use Rattle.stack_levels.specs.declared.table.Level.{Level}
 use Rattle.stack_levels.specs.declared.table.Node.{Node}
 use Rattle.stack_levels.specs.declared.table.NodeKey.{NodeKey}

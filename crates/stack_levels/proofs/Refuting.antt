@@ -13,17 +13,17 @@ use Rattle.book_base.specs.Book.{Page, IsValid, operation_of}
 use Rattle.book_base.specs.Order.{call_at}
 use Rattle.book_base.specs.Next.{next_call, raised, MayComeNext, MayStandNext, Continues}
 use Rattle.book_base.specs.Pruning.{HasOneOpen}
-use Rattle.book_laws.proofs.LegalOrder.{raised_same, raised_more, same_call, within_cut, continues_from_legal_order}
-use Rattle.history_rules.specs.Container.{Effect, Puts, Takes, Reading}
-use Rattle.history_rules.specs.Calls.{IsNeverTaken}
-use Rattle.pruning_laws.specs.Twins.{IsTwin}
-use Rattle.pruning_laws.proofs.Exchanging.{twin_serves}
-use Rattle.pruning_laws.proofs.Omitting.{idle_may_be_left_out}
-use Rattle.value_pruning.specs.HoldsLast.{IsRead}
-use Rattle.value_pruning.proofs.Placing.{all-weaker, cases_deed}
-use Rattle.value_pruning.proofs.Taking.{word_at, word_is}
-use Rattle.stack_pruning.specs.LastFirst.{GivesLastFirst, EndsWith, IsKept, IsItem, HasTop}
-use Rattle.stack_pruning.proofs.Stepping.{all-append, all-prefix, all_next}
+use Rattle.legal_orders.proofs.LegalOrder.{raised_same, raised_more, same_call, within_cut, continues_from_legal_order}
+use Rattle.legal_orders.specs.Container.{Effect, Puts, Takes, Reading}
+use Rattle.legal_orders.specs.Calls.{IsNeverTaken}
+use Rattle.legal_orders.specs.Twins.{IsTwin}
+use Rattle.legal_orders.proofs.Exchanging.{twin_serves}
+use Rattle.legal_orders.proofs.Omitting.{idle_may_be_left_out}
+use Rattle.list_pruning.specs.HoldsLast.{IsRead}
+use Rattle.list_pruning.proofs.Placing.{all-weaker, cases_deed}
+use Rattle.list_pruning.proofs.Taking.{word_at, word_is}
+use Rattle.list_pruning.specs.LastFirst.{GivesLastFirst, EndsWith, IsKept, IsItem, HasTop}
+use Rattle.list_pruning.proofs.Stepping.{all-append, all-prefix, all_next}
 use Rattle.stack_levels.specs.Levels.{Layer, Nodes, IsAmong, IsOneLevel, TakeLeads, DeedLeads, CallLeads, ShowsAnother, LeavesTop, ServesAtLevel, IsFollowed, IsKeptLayer, no_calls, IsClosed}
 use Rattle.stack_levels.specs.LevelLaws.{StackHasNoOrder, ClosedTablesHaveNoOrder}
 

@@ -4,8 +4,8 @@ use Rattle.book_base.specs.SeqSpec.{spec_from}
 use Rattle.book_base.specs.Book.{Page, IsValid}
 use Rattle.book_base.specs.Order.{HasLegalOrder}
 use Rattle.book_base.specs.Pruning.{HasOneOpen}
-use Rattle.history_rules.specs.Container.{Reading}
-use Rattle.stack_pruning.specs.LastFirst.{GivesLastFirst}
+use Rattle.legal_orders.specs.Container.{Reading}
+use Rattle.list_pruning.specs.LastFirst.{GivesLastFirst}
 use Rattle.stack_levels.specs.Levels.{Layer, IsAmong, IsClosed}
 
 -- The book has no legal order of any object that is read as `reading` says, gives its last value

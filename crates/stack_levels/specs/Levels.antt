@@ -10,10 +10,10 @@ use Rattle.book_base.specs.Book.{Page, IsAnswered, operation_of, record_of}
 use Rattle.book_base.specs.Next.{next_call, raised, MayComeNext}
 use Rattle.book_base.specs.Pruning.{ViewsAreWithin}
 use Rattle.search_hints.specs.Marks.{IsMarked, MarksSuffice}
-use Rattle.history_rules.specs.Container.{Effect, Puts, Takes, Neither, Reading}
-use Rattle.history_rules.specs.Calls.{IsNeverTaken, TakesShowing}
-use Rattle.stack_pruning.specs.declared.top.Top.{Top}
-use Rattle.stack_pruning.specs.LastFirst.{GivesLastFirst, HasTop}
+use Rattle.legal_orders.specs.Container.{Effect, Puts, Takes, Neither, Reading}
+use Rattle.legal_orders.specs.Calls.{IsNeverTaken, TakesShowing}
+use Rattle.list_pruning.specs.declared.top.Top.{Top}
+use Rattle.list_pruning.specs.LastFirst.{GivesLastFirst, HasTop}
 
 -- A level: `top` has the last word of the lists for which the level stands, and the flag `kept`,
 -- which says that no answered call takes a word of these lists; `parents` has the numbers of the

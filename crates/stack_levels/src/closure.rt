@@ -5,21 +5,21 @@ ghost use Rattle.book_base.specs.Book.{IsCall, operation_of};
 ghost use Rattle.book_base.specs.Next.{next_call, MayComeNext};
 ghost use Rattle.book_base.specs.Pruning.{HasOneOpen};
 ghost use Rattle.search_hints.specs.Marks.{IsMarked, IsMarkedWithin, MarksAllNext};
-ghost use Rattle.history_rules.specs.Calls.{IsNeverTaken};
+ghost use Rattle.legal_orders.specs.Calls.{IsNeverTaken};
 ghost use Rattle.stack_levels.specs.declared.table.Node.{Node};
 ghost use Rattle.stack_levels.specs.declared.table.NodeKey.{NodeKey};
 ghost use Rattle.stack_levels.specs.Levels.{CallLeads, IsClosedAt, IsFollowed, IsKeptLayer, IsOneLevel, IsServed, TakeLeads};
 ghost use Rattle.stack_levels.specs.declared.table.Level.{Level};
 ghost use Rattle.stack_levels.specs.LevelLaws.{StackHasNoOrder};
 ghost use Rattle.stack_levels.specs.Tables.{BeginsAtBottom, IsSaidKept, LiesOn, cut_at, layer_of, layers_of, nodes_of};
-ghost use Rattle.value_pruning.specs.Sights.{ListsValues};
+ghost use Rattle.list_pruning.specs.Sights.{ListsValues};
 
 use crate::stack_book::{NextCallers, StackBook};
 use crate::table::{Beginning, Level, LevelTable, Node, NodeKey, raised};
 use book_base::{Call, MAX_CALLERS};
 use container_pruning::{Reader, Role};
-use next_calls::has_one_open;
-use stack_pruning::Top;
+use list_pruning::Top;
+use search_hints::has_one_open;
 
 /// A table of levels that is to be checked once more. Where each call that has to be tried at a
 /// node of the table leads only to nodes of the table, no places continue an order from any of its

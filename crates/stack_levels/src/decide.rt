@@ -1,7 +1,7 @@
 ghost use Rattle.std.specs.Prelude.{◌≡◌, ℕ, [], IfOk};
 ghost use Rattle.search_hints.specs.Decision.{IsRightDecision};
-ghost use Rattle.history_rules.specs.Container.{IsContainer};
-ghost use Rattle.stack_pruning.specs.LastFirst.{GivesLastFirst};
+ghost use Rattle.legal_orders.specs.Container.{IsContainer};
+ghost use Rattle.list_pruning.specs.LastFirst.{GivesLastFirst};
 
 use crate::closure::Closure;
 use crate::order::calls_to;
@@ -10,14 +10,12 @@ use crate::search::{LevelSearch, LevelsFound};
 use crate::stack_book::StackBook;
 use crate::table::LevelTable;
 use book_base::{Book, NoMemory, SeqObject};
-use container_counts::refute_by_counts;
 use container_pruning::Reader;
-use next_calls::has_one_open;
+use list_pruning::sight_of_values;
 use order_check::check_order;
-use queue_pairs::{Table, places_of};
-use search_hints::Decision;
+use queue_pairs::{Table, places_of, refute_by_counts};
+use search_hints::{Decision, has_one_open};
 use std::alloc::Global;
-use value_pruning::sight_of_values;
 
 /// Decides a stack's book by a search of pairs of a level and a cut, as pushdown systems are
 /// searched (Bouajjani, Esparza and Maler 1997). The search keeps no lists of the stack.

@@ -1,6 +1,6 @@
 ghost use Rattle.std.specs.Prelude.{◌≡◌, length};
 ghost use Rattle.book_base.specs.Pruning.{HasOneOpen};
-ghost use Rattle.value_pruning.specs.Sights.{ListsValues};
+ghost use Rattle.list_pruning.specs.Sights.{ListsValues};
 
 use crate::lasting::{lasts, moment_before_take};
 use crate::search::{LINKS, LevelSearch, LevelsFound, NODES, Turn, more};
@@ -9,9 +9,9 @@ use crate::table::{Beginning, FirstReached, Level, LevelEnd, LevelTable, NodeKey
 use book_base::{Call, Cut, MAX_CALLERS, NoMemory};
 use container_pruning::{Reader, Role};
 use indexmap::IndexSet;
-use next_calls::least_open;
+use list_pruning::Top;
 use queue_pairs::Table;
-use stack_pruning::Top;
+use search_hints::least_open;
 use std::cmp::Reverse;
 
 /// A search for a node whose cut holds all answered calls, as `LevelSearch` makes it, but with more

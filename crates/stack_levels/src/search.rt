@@ -2,14 +2,14 @@ ghost use Rattle.std.specs.Prelude.{◌≡◌, ◌<◌, length, IsTrue};
 ghost use Rattle.book_base.specs.Book.{IsCall};
 ghost use Rattle.book_base.specs.Pruning.{HasOneOpen};
 ghost use Rattle.search_hints.specs.Marks.{IsMarkedWithin, MarksAllNext};
-ghost use Rattle.value_pruning.specs.Sights.{ListsValues};
+ghost use Rattle.list_pruning.specs.Sights.{ListsValues};
 
 use crate::stack_book::{NextCallers, StackBook};
 use crate::table::{Beginning, FirstReached, Level, LevelEnd, LevelTable, NodeKey, Origin, raised};
 use book_base::{Call, MAX_CALLERS, MAX_CALLS, NoMemory};
 use container_pruning::{Reader, Role};
 use indexmap::IndexSet;
-use stack_pruning::Top;
+use list_pruning::Top;
 use std::alloc::Global;
 use std::cmp::Reverse;
 

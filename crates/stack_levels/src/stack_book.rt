@@ -2,17 +2,15 @@ ghost use Rattle.std.specs.Prelude.{◌≡◌, ◌≢◌, ℕ, ◌<◌, false, L
 ghost use Rattle.book_base.specs.Book.{IsAnswered, IsCall};
 ghost use Rattle.book_base.specs.Pruning.{HasOneOpen};
 ghost use Rattle.search_hints.specs.Marks.{IsMarkedWithin, MarksAllNext, MarksSuffice};
-ghost use Rattle.history_rules.specs.Calls.{IsNeverTaken, TakesOut};
+ghost use Rattle.legal_orders.specs.Calls.{IsNeverTaken, TakesOut};
 ghost use Rattle.stack_levels.specs.Levels.{AreAnsweredAlike, LeavesTop, ServesAtLevel, ShowsAnother};
-ghost use Rattle.stack_pruning.specs.LastFirst.{GivesLastFirst, HasTop};
-ghost use Rattle.value_pruning.specs.Sights.{ListsValues};
+ghost use Rattle.list_pruning.specs.LastFirst.{GivesLastFirst, HasTop};
+ghost use Rattle.list_pruning.specs.Sights.{ListsValues};
 
 use book_base::{Book, Call, Cut};
 use container_pruning::{Reader, Role};
-use next_calls::{all_next, cut_of, first_view, least_open};
-use search_hints::{MarkedCallers, Sight};
-use stack_pruning::{Top, narrow_by_top};
-use value_pruning::{is_read, value_taken};
+use list_pruning::{Top, is_read, narrow_by_top, value_taken};
+use search_hints::{MarkedCallers, Sight, all_next, cut_of, first_view, least_open};
 
 /// A stack's book, how it is read, and for each value the calls that put it in or take it out.
 pub struct StackBook<'a, R> {

@@ -3,7 +3,7 @@ ghost use Rattle.book_base.specs.declared.TheConstants.{MAX_CALLERS, MAX_CALLS};
 
 use book_base::{Call, MAX_CALLERS, NoMemory};
 use indexmap::IndexSet;
-use stack_pruning::Top;
+use list_pruning::Top;
 use std::alloc::Global;
 
 /// The number of a level, and the counts of a cut after which the object's list may be one that the

@@ -6,3 +6,4 @@ pub mod Ending
 pub mod Telling
 pub mod Agreeing
 pub mod Words
+pub mod Stepping

@@ -1,5 +1,5 @@
 -- The sequential object of a table: what was told, and the reply `BAD` where nothing was told.
-use Rattle.std.proofs.Common.{◌≡◌, ℕ, ◌+◌, ◌≤◌, List, [], ◌∷◌, length, Option, Some, None, true, false, true≢false, arith}
+use Rattle.std.proofs.Common.{◌≡◌, ℕ, List, [], ◌∷◌, Option, Some, None, true, false, true≢false}
 use Rattle.book_base.specs.declared.TheConstants.{BAD}
 use Rattle.book_base.specs.SeqSpec.{SeqSpec}
 use Rattle.told_models.specs.declared.table.Transition.{Transition}
@@ -24,16 +24,6 @@ completion table = record {
   init = table.init ∷ [];
   next = λ list op. made_or_bad list (step_at_list table list op);
 }
-
--- An operation of a completion makes its list longer by at most one word.
-pub length-made_or_bad : (list : List ℕ) (transition : Option Transition)
-    → length (made_or_bad list transition).0 ≤ length list + 1
-length-made_or_bad list (Some transition) = omega arith
-length-made_or_bad list None = omega arith
-
--- The first list of a completion has one word.
-pub completion-begins_small : (table : Table) → length (completion table).init ≤ 1
-completion-begins_small table = omega arith
 
 -- No operation word is unknown.
 pub completion-knows_all : (table : Table) (list : List ℕ) (op : ℕ) → true ≡ false

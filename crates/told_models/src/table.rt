@@ -4,7 +4,7 @@ ghost use Rattle.told_models.specs.Table.{told_step, Extends, TellsStep, IsTellF
 ghost use Rattle.told_models.specs.Closed.{IsNear, IsClosedTo};
 ghost use Rattle.told_models.specs.Dialogue.{IsAsk};
 ghost use Rattle.told_models.specs.Search.{Continues, LeadsInto, AreExpanded, AreNear};
-ghost use Rattle.told_models.specs.Completion.{completion, step_at_list, completion-begins_small, length-made_or_bad, completion-knows_all};
+ghost use Rattle.told_models.specs.Completion.{completion, completion-knows_all};
 
 use crate::fault::TellFault;
 use book_base::{BAD, NoMemory, OpWord, SeqObject, State};
@@ -191,14 +191,15 @@ impl SeqObject for ToldTable {
 
     ghost spec = { completion };
 
-    ghost begins_small = { completion-begins_small };
-
-    ghost grows_by_one = { λ table list op. length-made_or_bad list (step_at_list table list op) };
-
     ghost unknown_is_bad = { completion-knows_all };
 
     fn known(&self, _op: OpWord) -> bool {
         true
+    }
+
+    /// One word, the number of a state.
+    fn capacity(&self, _operations: u64) -> u64 {
+        1
     }
 
     fn reset(&self, state: &mut State) {

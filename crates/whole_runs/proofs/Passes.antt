@@ -3,11 +3,11 @@ use Rattle.std.proofs.Common.{◌≡◌, ℕ, List, [], ◌∷◌, ◌++◌, len
 use Rattle.std.specs.List.{All, range_with_len}
 use Rattle.std.proofs.lemmas.List.{length-append, length-map}
 use Rattle.std.proofs.lemmas.List.Elements.{All-nil, All-cons}
-use Rattle.shared_log.specs.declared.entry.Entry.{Entry}
-use Rattle.lawful_objects.specs.declared.scratch.Scratch.{Scratch}
-use Rattle.lawful_objects.specs.declared.log_pass.LogPass.{LogPass}
-use Rattle.lawful_objects.specs.declared.log_box.LogBox.{LogBox}
-use Rattle.lawful_objects.specs.Passes.{caller_of_pass, callers_in, IsPassOf, ArePassesOf, IsFresh}
+use Rattle.shared_words.specs.declared.entry.Entry.{Entry}
+use Rattle.test_objects.specs.declared.scratch.Scratch.{Scratch}
+use Rattle.test_objects.specs.declared.log_pass.LogPass.{LogPass}
+use Rattle.test_objects.specs.declared.log_box.LogBox.{LogBox}
+use Rattle.test_objects.specs.Passes.{caller_of_pass, callers_in, IsPassOf, ArePassesOf, IsFresh}
 use Rattle.whole_runs.specs.Seated.{IsFor, IsUnused}
 
 -- a list of two, taken from the end

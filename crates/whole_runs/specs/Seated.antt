@@ -6,11 +6,11 @@ use Rattle.row_table.specs.declared.caller.Caller.{Caller}
 use Rattle.row_table.specs.declared.rows.Rows.{Rows}
 use Rattle.row_table.specs.Callers.{who_of, local_with, stance_of, IsCallerOf}
 use Rattle.drv_wrapper.specs.Stands.{ready}
-use Rattle.shared_log.specs.declared.entry.Entry.{Entry}
-use Rattle.lawful_objects.specs.declared.scratch.Scratch.{Scratch}
-use Rattle.lawful_objects.specs.declared.log_pass.LogPass.{LogPass}
-use Rattle.lawful_objects.specs.declared.log_box.LogBox.{LogBox}
-use Rattle.lawful_objects.specs.Passes.{caller_of_pass, made_with, cap_of_pass, IsPassOf}
+use Rattle.shared_words.specs.declared.entry.Entry.{Entry}
+use Rattle.test_objects.specs.declared.scratch.Scratch.{Scratch}
+use Rattle.test_objects.specs.declared.log_pass.LogPass.{LogPass}
+use Rattle.test_objects.specs.declared.log_box.LogBox.{LogBox}
+use Rattle.test_objects.specs.Passes.{caller_of_pass, made_with, cap_of_pass, IsPassOf}
 
 module _ {P : Type 0} where
   -- A caller belongs to a table, and has the number `i` there.

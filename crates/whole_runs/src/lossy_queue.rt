@@ -7,7 +7,7 @@ use book_base::OpWord;
 use drv_wrapper::{Announced, BlackBox, ObjectPass, apply};
 use enforcer::{publish, seen};
 use row_table::{Caller, Rows, Steps};
-use seq_objects::{DONE, NONE, value_reply};
+use seq_objects::{DONE, NONE, wrapping_value_reply};
 use std::sync::ledger::Ledger;
 use world_core::{Outside, Program};
 
@@ -58,7 +58,7 @@ impl BlackBox for LossyQueue {
         pass.made += 1;
         match pass.made {
             1 | 2 => DONE,
-            3 => value_reply(1),
+            3 => wrapping_value_reply(1),
             _ => NONE,
         }
     }

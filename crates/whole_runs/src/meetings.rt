@@ -8,12 +8,12 @@ use book_base::{MAX_CALLS, NoMemory};
 use byte_streams::{MemorySink, Status};
 use client_scripts::{Script, read_script};
 use drv_wrapper::{BlackBox, ObjectPass};
-use faulty_objects::Meeting;
 use named_runs::{Form, replay_fresh, run_and_write, run_fresh};
 use row_table::Rows;
 use std::alloc::Global;
 use std::test::Fail;
 use std::thread::Threads;
+use test_objects::Meeting;
 use world_core::Outside;
 
 // Each of two callers enqueues 1. By turns, the first caller's call ends before the second's

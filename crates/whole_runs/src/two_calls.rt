@@ -1,6 +1,6 @@
 ghost use Rattle.std.specs.Prelude.{◌≡◌, ◌<◌, ◌≤◌, [], All, Some, None, IsSome, IfOk, vec_capacity};
 ghost use Rattle.row_table.specs.Callers.{who_of, on_bench, IsCallerOf, IsBenchOf};
-ghost use Rattle.lawful_objects.specs.Passes.{callers_in, caller_of_pass, IsPassOf, ArePassesOf, IsFresh};
+ghost use Rattle.test_objects.specs.Passes.{callers_in, caller_of_pass, IsPassOf, ArePassesOf, IsFresh};
 ghost use Rattle.whole_runs.specs.Seated.{IsAt, IsNew, IsThere, IsNewAt, IsFor, IsUnused};
 
 use book_base::{Cut, NoMemory, OpWord, Place};
@@ -8,12 +8,12 @@ use drv_wrapper::ObjectPass;
 use enforcer::{Gathered, Judged, Outcome, Unjudged, enforce, enforce_after};
 use frontier_check::{Guide, KeptOrder};
 use kind_search::SearchedKind;
-use lawful_objects::{Entry, LogBox, LogPass, Machine, Plain};
 use row_table::{Bench, Caller, Rows, Steps};
 use seq_objects::{DONE, Kind};
 use std::alloc::Global;
 use std::sync::ledger::{Blank, Ledger};
 use std::thread::{Threads, join_mut};
+use test_objects::{Entry, LogBox, LogPass, Machine, Plain};
 use world_core::{Outside, Program};
 
 const ENQUEUE_5: OpWord = 4294967301;

@@ -1,11 +1,25 @@
 //! Tests of texts that are read and written, of reports, of pictures, of byte streams and of the
-//! texts of faults. They use several of the crates below this one.
+//! texts of faults; of books, their sketches, and what is judged of them.
 #![tactic(auto)]
 
 #[cfg(test)]
+mod books;
+#[cfg(test)]
 mod certificates;
 #[cfg(test)]
+mod decisions;
+#[cfg(test)]
 mod faults;
+#[cfg(test)]
+mod found_pruning_rules;
+#[cfg(test)]
+mod impossible_replies;
+#[cfg(test)]
+mod kept_orders;
+#[cfg(test)]
+mod lanes;
+#[cfg(test)]
+mod own_objects;
 #[cfg(test)]
 mod pictures;
 #[cfg(test)]
@@ -13,6 +27,14 @@ mod round_trips;
 #[cfg(test)]
 mod run_reports;
 #[cfg(test)]
+mod scans;
+#[cfg(test)]
 mod scripts;
 #[cfg(test)]
+mod searches;
+#[cfg(test)]
+mod sets;
+#[cfg(test)]
 mod streams;
+#[cfg(test)]
+mod words;

@@ -1,6 +1,5 @@
 //! Texts that are read, and written again as they were.
-use book_text::read_book;
-use book_writer::write_book;
+use book_text::{read_book, write_book};
 use certificate_text::{read_certificate, write_certificate};
 use client_scripts::{read_script, write_script};
 use report_text::{read_report, report_text};

@@ -1,6 +1,6 @@
 //! Reports: the text of one, its book and its witness, and texts that are no report's.
 use book_base::{ReadFault, TextFault, What};
-use book_writer::write_book;
+use book_text::write_book;
 use report_text::{read_report, report_text};
 use reports::cases::worked_report;
 use std::test::Fail;

@@ -3,13 +3,13 @@
 #![tactic(auto)]
 
 ghost use Rattle.given_book.specs.Given.{IsFirstGivenFault};
-ghost use Rattle.witness_texts.specs.Texts.{IsPictureOf};
+ghost use Rattle.given_book.specs.Texts.{IsPictureOf};
 
 use book_base::ReadFault;
 use byte_streams::{ProgramAnswer, StdSink, StdSource, TextProgram, run_program};
+use given_book::picture_text;
 use std::alloc::Global;
 use std::process::ExitCode;
-use witness_texts::picture_text;
 
 /// Answers the picture of the book that it reads, with the status `Fine` whatever the book's
 /// verdict.

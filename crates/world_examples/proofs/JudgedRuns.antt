@@ -12,9 +12,9 @@ use Rattle.world_core.specs.History.{call_of}
 use Rattle.world_examples.specs.Schedules.{pair, two_calls, tenfold, silent}
 use Rattle.world_core.specs.Calls.{IsPublished, AreTogether, book_in, calls_in, local_at}
 use Rattle.world_examples.proofs.Linear.{linearizable}
-use Rattle.world_books.specs.Verdicts.{HasSeenCut, AreDelivered}
+use Rattle.world_laws.specs.Verdicts.{HasSeenCut, AreDelivered}
 use Rattle.world_examples.specs.JudgedRuns.{locals_after, answer, one_answered}
-use Rattle.world_books.proofs.NoFalseErrors.{no_false_error}
+use Rattle.world_laws.proofs.NoFalseErrors.{no_false_error}
 
 -- a cut of two callers' published calls
 pub published_two : (locals : List Local) (a b : ℕ) → length locals ≡ 2

@@ -13,7 +13,7 @@ use Rattle.world_core.specs.History.{Happening, Invoked, Returned, Done, Returns
 use Rattle.world_core.specs.Calls.{IsPublished}
 use Rattle.world_examples.specs.JudgedRuns.{locals_after, answer, late_history_of, missed, missed_part, ReturnsMayBeLate}
 use Rattle.world_examples.proofs.JudgedRuns.{published_two}
-use Rattle.world_books.proofs.Judging.{no_run_has_this_error}
+use Rattle.world_laws.proofs.Judging.{no_run_has_this_error}
 
 abbrev late : List Happening
 late = Invoked (call_of 1 0) 6 ∷ Invoked (call_of 0 0) 5 ∷ Returned (call_of 1 0) 1 ∷ []

@@ -9,8 +9,8 @@ ghost use Rattle.world_examples.specs.Histories.{numbering};
 ghost use Rattle.world_core.specs.World.{IsRun, end_of};
 ghost use Rattle.world_core.specs.History.{Invoked, Returned, IsLinearizable, call_of, history_of};
 ghost use Rattle.world_core.specs.Calls.{IsPublished, IsGathered, AreTogether, book_in, calls_in};
-ghost use Rattle.world_books.specs.Rows.{book_in_rows};
-ghost use Rattle.world_books.specs.Verdicts.{HasSeenCut, AreDelivered};
+ghost use Rattle.world_laws.specs.Rows.{book_in_rows};
+ghost use Rattle.world_laws.specs.Verdicts.{HasSeenCut, AreDelivered};
 ghost use Rattle.world_examples.specs.JudgedRuns.{locals_after, page, both_answered, one_answered, gathering, late_history_of, missed, missed_part, ReturnsMayBeLate};
 
 /// A run of two calls whose history is linearizable for one object and not for another. Each of the

@@ -26,3 +26,11 @@ pub mod Ordering
 pub mod Bounding
 pub mod Giving
 pub mod Tracing
+pub mod Pages
+pub mod Validity
+pub mod Gathered
+pub mod LegalOrders
+pub mod Recording
+pub mod NoFalseErrors
+pub mod Judging
+pub mod RowBooks

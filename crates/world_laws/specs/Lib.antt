@@ -7,3 +7,8 @@ pub mod Locals
 pub mod Projection
 pub mod Own
 pub mod Views
+pub mod Books
+pub mod Gathering
+pub mod Linearizing
+pub mod Verdicts
+pub mod Rows

@@ -6,8 +6,8 @@ use Rattle.book_base.specs.SeqSpec.{spec_from}
 use Rattle.seq_objects.specs.Items.{first_or_zero}
 use Rattle.world_core.specs.World.{Step, IsRun}
 use Rattle.world_core.specs.History.{IsLinearizable, history_of}
-use Rattle.object_orders.specs.OneWord.{Serves, one_word_shape}
-use Rattle.object_orders.proofs.OneWords.{one_words_linearize}
+use Rattle.world_objects.specs.OneWord.{Serves, one_word_shape}
+use Rattle.world_objects.proofs.OneWords.{one_words_linearize}
 use Rattle.wrapped_objects.specs.Tickets.{take, ticket, after_call, dispenser, taken_by}
 
 -- A call that takes a ticket adds 1 to the number in the list, modulo 2 ^ 64, and gets the ticket.

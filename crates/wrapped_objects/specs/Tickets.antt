@@ -3,7 +3,7 @@ use Rattle.std.specs.Prelude.{◌≡◌, ℕ, ◌+◌, ◌%◌, ◌^◌, ◌==�
 use Rattle.book_base.specs.declared.TheConstants.{BAD}
 use Rattle.seq_objects.specs.Items.{first_or_zero}
 use Rattle.seq_objects.specs.Replies.{reply_value}
-use Rattle.object_orders.specs.OneWord.{OneWord}
+use Rattle.world_objects.specs.OneWord.{OneWord}
 
 -- The operation word of taking a ticket.
 abbrev pub take : ℕ

@@ -4,7 +4,7 @@ use book_base::{BAD, NoMemory, OpWord};
 use crossbeam_queue::ArrayQueue;
 use drv_wrapper::{Announced, BlackBox};
 use hunts::{CountingPass, QueueCall};
-use seq_objects::{DONE, NONE, value_reply};
+use seq_objects::{DONE, NONE, wrapping_value_reply};
 use std::alloc::Global;
 use std::sync::Wait;
 
@@ -24,7 +24,7 @@ pub(crate) fn reply_of<R: Wait>(rt: &R, items: &ArrayQueue<u32>, op: OpWord) -> 
             Err(_) => BAD,
         },
         Some(QueueCall::Dequeue) => match items.pop(rt) {
-            Some(value) => value_reply(u64::from(value)),
+            Some(value) => wrapping_value_reply(u64::from(value)),
             None => NONE,
         },
         None => BAD,

@@ -5,7 +5,7 @@ use book_base::{BAD, OpWord, SeqObject};
 use crossbeam_utils::atomic::AtomicCell;
 use drv_wrapper::{Announced, BlackBox};
 use hunts::CountingPass;
-use seq_objects::{Kind, value_reply};
+use seq_objects::{Kind, wrapping_value_reply};
 
 /// A counter over crossbeam's `AtomicCell`, with the count 0 at first: an increment is one
 /// addition.
@@ -24,7 +24,7 @@ impl CellCounter {
         if !Kind::Counter.known(op) {
             return BAD;
         }
-        value_reply(u64::from(self.count.fetch_add(1)))
+        wrapping_value_reply(u64::from(self.count.fetch_add(1)))
     }
 }
 

@@ -5,7 +5,7 @@ use book_base::{BAD, OpWord};
 use crossbeam_utils::atomic::AtomicCell;
 use drv_wrapper::{Announced, BlackBox};
 use hunts::{CountingPass, RegisterCall};
-use seq_objects::{DONE, value_reply};
+use seq_objects::{DONE, wrapping_value_reply};
 
 /// A register over crossbeam's `AtomicCell`, which holds 0 at first: a write is one store, and a
 /// read one load.
@@ -26,7 +26,7 @@ impl CellRegister {
                 self.value.store(value);
                 DONE
             }
-            Some(RegisterCall::Read) => value_reply(u64::from(self.value.load())),
+            Some(RegisterCall::Read) => wrapping_value_reply(u64::from(self.value.load())),
             None => BAD,
         }
     }

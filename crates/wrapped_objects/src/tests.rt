@@ -9,7 +9,7 @@ use client_scripts::{Script, make_script, read_script};
 use drv_wrapper::{BlackBox, ObjectPass};
 use hunts::CountingPass;
 use named_runs::{Form, replay_fresh, run_fresh};
-use seq_objects::{Kind, value_reply};
+use seq_objects::{Kind, wrapping_value_reply};
 use std::alloc::Global;
 use std::sync::Wait;
 use std::test::Fail;
@@ -134,7 +134,7 @@ fn counted<R: Threads, C: Increments + Sync>(rt: &R, counter: &C) -> u64 {
 // Whether some increments of a torn counter are lost in one of many trials.
 fn loses_some<R: Threads>(rt: &R) -> bool {
     for _ in 0..10_000 {
-        if counted(rt, &TornCounter::default()) != value_reply(40_000) {
+        if counted(rt, &TornCounter::default()) != wrapping_value_reply(40_000) {
             return true;
         }
     }
@@ -143,7 +143,10 @@ fn loses_some<R: Threads>(rt: &R) -> bool {
 
 #[test]
 fn a_torn_counter_loses_what_a_whole_one_counts(rt: HostRuntime) {
-    assert_eq!(rt; counted(&rt, &CellCounter::default()), value_reply(40_000));
+    assert_eq!(rt;
+        counted(&rt, &CellCounter::default()),
+        wrapping_value_reply(40_000)
+    );
     assert!(rt; loses_some(&rt));
 }
 

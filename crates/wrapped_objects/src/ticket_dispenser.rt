@@ -7,7 +7,7 @@ use core_objects::{CoreObject, OneWordPass};
 use drv_wrapper::Announced;
 use row_table::Rows;
 use search_hints::SearchHints;
-use seq_objects::value_reply;
+use seq_objects::wrapping_value_reply;
 use world_core::{InWorld, Program};
 
 /// The operation word of taking a ticket. A script of a counter spells it `inc`.
@@ -25,7 +25,7 @@ impl TicketDispenser {
     fn ticket(&self, taken: u64) -> u64
         ensures { result ≡ ticket self.now.first taken }
     {
-        value_reply(u64::from(self.first).wrapping_add(taken))
+        wrapping_value_reply(u64::from(self.first).wrapping_add(taken))
     }
 }
 
@@ -38,22 +38,21 @@ fn taken_in(state: &State) -> u64
 
 /// The sequential object of a dispenser: its list has how many tickets were taken, modulo 2^64.
 impl SeqObject for TicketDispenser {
-    ghost use Rattle.seq_objects.specs.Items.{length-one};
     ghost use Rattle.wrapped_objects.specs.Tickets.{take, after_call};
-    ghost use Rattle.wrapped_objects.specs.TicketLaws.{length-after_call, after_call-unknown};
+    ghost use Rattle.wrapped_objects.specs.TicketLaws.{after_call-unknown};
 
     ghost is_known = { λ _ op. op == take };
 
     ghost spec = { λ dispenser. record { init = 0 ∷ []; next = after_call dispenser.first } };
 
-    ghost begins_small = { λ _. length-one };
-
-    ghost grows_by_one = { λ dispenser list op. length-after_call dispenser.first list op };
-
     ghost unknown_is_bad = { λ dispenser list op. after_call-unknown dispenser.first list op };
 
     fn known(&self, op: OpWord) -> bool {
         op == TAKE
+    }
+
+    fn capacity(&self, operations: u64) -> u64 {
+        operations + 1
     }
 
     fn reset(&self, state: &mut State) {
@@ -77,7 +76,7 @@ impl SearchHints for TicketDispenser {}
 /// The program of a dispenser inside the world: a call that takes a ticket makes one object step,
 /// which adds 1 to the one object word. Each other call makes none.
 impl Program for TicketDispenser {
-    ghost use Rattle.object_orders.specs.OneWord.{one_word_program};
+    ghost use Rattle.world_objects.specs.OneWord.{one_word_program};
     ghost use Rattle.wrapped_objects.specs.Tickets.{dispenser};
 
     ghost meaning = { λ program n cap. one_word_program (dispenser program.first) };

@@ -5,7 +5,7 @@ use book_base::{BAD, OpWord, SeqObject};
 use crossbeam_utils::atomic::AtomicCell;
 use drv_wrapper::{Announced, BlackBox};
 use hunts::CountingPass;
-use seq_objects::{Kind, value_reply};
+use seq_objects::{Kind, wrapping_value_reply};
 
 /// A counter that uses an atomic cell wrongly, with the count 0 at first: an increment is a load,
 /// and then a store of one more. So some of several increments that overlap may be lost.
@@ -26,7 +26,7 @@ impl TornCounter {
         }
         let found = self.count.load();
         self.count.store(found.wrapping_add(1));
-        value_reply(u64::from(found))
+        wrapping_value_reply(u64::from(found))
     }
 }
 

@@ -1,4 +1,4 @@
-use Rattle.book_verdicts.specs.declared.order_verdict.OrderVerdict.TheVariants.{Legal, Faulty}
+use Rattle.certificate_text.specs.declared.order_verdict.OrderVerdict.TheVariants.{Legal, Faulty}
 use Rattle.selfcheck_c.proofs.selfcheck_order.Goals as goal
 
 pub returns-in-Ok-Legal-clause-illegal_told : goal.returns-in-Ok-Legal-clause-illegal_told

@@ -1,4 +1,4 @@
-use Rattle.book_verdicts.specs.declared.book_verdict.BookVerdict.TheVariants.{Legal, Illegal}
+use Rattle.certificate_text.specs.declared.book_verdict.BookVerdict.TheVariants.{Legal, Illegal}
 use Rattle.selfcheck_c.proofs.selfcheck_verify.Goals as goal
 
 pub returns-in-Ok-Legal-clause-illegal_told : goal.returns-in-Ok-Legal-clause-illegal_told

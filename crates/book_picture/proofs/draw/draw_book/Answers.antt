@@ -3,8 +3,8 @@ use Rattle.std.specs.declared.alloc.Global.{Global}
 use Rattle.book_base.specs.declared.call.Place.{Place}
 use Rattle.sketch.specs.declared.event.Event.{Event}
 use Rattle.sketch.specs.Sketch.{IsSketch}
-use Rattle.call_intervals.specs.declared.interval.Interval.{Interval}
-use Rattle.call_intervals.specs.Intervals.{rows_of}
+use Rattle.sketch.specs.declared.interval.Interval.{Interval}
+use Rattle.sketch.specs.Intervals.{rows_of}
 use Rattle.book_picture.specs.Sheets.{AreAllDrawable}
 use Rattle.book_picture.specs.Bars.{IsShownOf, order_in}
 use Rattle.book_picture.specs.Rows.{AreFolded}

@@ -1,5 +1,5 @@
 use Rattle.std.proofs.Common.{ℕ, List, ◌++◌, option_map, string_bytes, append_assoc, subst}
-use Rattle.call_intervals.specs.declared.interval.Interval.{Interval}
+use Rattle.sketch.specs.declared.interval.Interval.{Interval}
 use Rattle.book_picture.specs.Bars.{IsShownOf}
 use Rattle.book_picture.specs.Elements.{IsElementOf, AreElementsOf}
 use Rattle.book_picture.specs.Values.{class_of_call}

@@ -1,5 +1,5 @@
 use Rattle.std.proofs.Common.{◌≡◌, ℕ, List, ◌++◌, take, option_map, string_bytes}
-use Rattle.call_intervals.specs.Intervals.{rows_of}
+use Rattle.sketch.specs.Intervals.{rows_of}
 use Rattle.book_picture.specs.Bars.{IsShownOf}
 use Rattle.book_picture.specs.Elements.{IsElementOf, AreLanesElements}
 use Rattle.book_picture.specs.Values.{class_of_call}

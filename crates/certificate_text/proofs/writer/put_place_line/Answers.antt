@@ -1,6 +1,6 @@
 use Rattle.std.proofs.Common.{◌≡◌, ℕ, List, [], ◌∷◌, ◌++◌, decimal, ap, ◌∙◌}
 use Rattle.seq_objects.specs.Replies.{reply_word}
-use Rattle.book_writer.proofs.Lines.{first_word, more_word, line_ends, both_pieces}
+use Rattle.book_text.proofs.WrittenLines.{first_word, more_word, line_ends, both_pieces}
 use Rattle.certificate_text.proofs.writer.put_place_line.Goals as goal
 
 pub returns-clause-ok : goal.returns-clause-ok

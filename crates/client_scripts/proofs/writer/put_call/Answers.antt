@@ -1,8 +1,8 @@
 use Rattle.std.proofs.Common.{◌≡◌, ℕ, List, [], ◌∷◌, ◌++◌, decimal, ap, ◌∙◌}
 use Rattle.std.specs.Prelude.{slice_index}
 use Rattle.seq_objects.specs.Words.{operation_words}
-use Rattle.book_writer.specs.Fields.{spaced}
-use Rattle.book_writer.proofs.Lines.{first_word, more_word, more_words, line_ends}
+use Rattle.book_text.specs.Fields.{spaced}
+use Rattle.book_text.proofs.WrittenLines.{first_word, more_word, more_words, line_ends}
 use Rattle.client_scripts.specs.Plans.{operations_of}
 use Rattle.client_scripts.proofs.Written.{value_at}
 use Rattle.client_scripts.proofs.writer.put_call.Goals as goal

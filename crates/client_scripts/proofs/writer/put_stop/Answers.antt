@@ -1,7 +1,7 @@
 use Rattle.std.proofs.Common.{◌≡◌, ℕ, List, [], ◌∷◌, ◌++◌, decimal, Option, sym, ap, ◌∙◌}
 use Rattle.std.specs.Prelude.{codes}
 use Rattle.text_fields.specs.Lines.{text_of}
-use Rattle.book_writer.proofs.Lines.{first_word, more_word, line_ends}
+use Rattle.book_text.proofs.WrittenLines.{first_word, more_word, line_ends}
 use Rattle.client_scripts.specs.Grammar.{stop_words, stop_line}
 use Rattle.client_scripts.proofs.Written.{one_line}
 use Rattle.client_scripts.proofs.writer.put_stop.Goals as goal

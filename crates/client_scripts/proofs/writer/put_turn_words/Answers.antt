@@ -1,5 +1,5 @@
 use Rattle.std.proofs.Common.{arith}
-use Rattle.book_writer.proofs.Lines.{step_counts}
+use Rattle.book_text.proofs.WrittenLines.{step_counts}
 use Rattle.client_scripts.proofs.writer.put_turn_words.Goals as goal
 
 pub loop-turn-preserved : goal.loop-turn-preserved

@@ -1,5 +1,5 @@
 use Rattle.std.proofs.Common.{◌≡◌, ◌++◌, map, take, decimal}
-use Rattle.book_writer.specs.Fields.{spaced}
+use Rattle.book_text.specs.Fields.{spaced}
 use Rattle.client_scripts.proofs.writer.put_turn_words.Given as goal
 
 abbrev pub invariant-loop-turn : goal.invariant-loop-turn

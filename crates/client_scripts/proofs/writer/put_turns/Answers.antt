@@ -1,6 +1,6 @@
 use Rattle.std.proofs.Common.{ℕ, List, [], map, decimal}
 use Rattle.std.specs.Prelude.{codes}
-use Rattle.book_writer.proofs.Lines.{first_word, more_words, line_ends}
+use Rattle.book_text.proofs.WrittenLines.{first_word, more_words, line_ends}
 use Rattle.client_scripts.proofs.writer.put_turns.Goals as goal
 
 pub returns : goal.returns

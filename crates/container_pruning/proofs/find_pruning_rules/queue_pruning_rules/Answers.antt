@@ -2,7 +2,7 @@ use Rattle.std.proofs.Common.{ap}
 use Rattle.search_hints.specs.PruningRules.{Known}
 use Rattle.container_pruning.specs.declared.links.Discipline.TheVariants.{Queue}
 use Rattle.container_pruning.proofs.Linking.{links_name_calls}
-use Rattle.history_rules.proofs.QueueRuns.{queue_is_container}
+use Rattle.legal_orders.proofs.QueueRuns.{queue_is_container}
 use Rattle.container_pruning.proofs.FindingRules.{followed_without_ranks, kept_without_ranks}
 use Rattle.container_pruning.proofs.find_pruning_rules.queue_pruning_rules.Goals as goal
 

@@ -2,7 +2,7 @@ use Rattle.std.proofs.Common.{List, ap, subst, sym, ℕ, ◌∙◌, ◌≡◌}
 use Rattle.search_hints.specs.PruningRules.{Known}
 use Rattle.container_pruning.specs.declared.links.Discipline.TheVariants.{Stack}
 use Rattle.container_pruning.proofs.Linking.{links_name_calls}
-use Rattle.history_rules.proofs.QueueRuns.{stack_is_container}
+use Rattle.legal_orders.proofs.QueueRuns.{stack_is_container}
 use Rattle.container_pruning.proofs.FindingRules.{followed_by_stack, kept_by_stack, blank_is_found}
 use Rattle.container_pruning.proofs.Nesting.{nested_by_stack}
 use Rattle.container_pruning.specs.Ranks.{AreRanks}

@@ -1,4 +1,4 @@
-use Rattle.log_program.proofs.LogEffects.{logs_linearize}
+use Rattle.world_objects.proofs.LogEffects.{logs_linearize}
 use Rattle.core_objects.proofs.core_log.runs_of_log.Goals as goal
 
 pub returns : goal.returns

@@ -4,7 +4,7 @@ use Rattle.std.proofs.lemmas.List.{take-append-le}
 use Rattle.std.proofs.lemmas.Option.{slice_get-get_or}
 use Rattle.world_core.specs.CallSteps.{all_steps_of}
 use Rattle.drv_wrapper.specs.States.{announced_local}
-use Rattle.log_program.specs.LogWords.{ticket_place, ticket_of, known, known_operation}
+use Rattle.world_objects.specs.LogWords.{ticket_place, ticket_of, known, known_operation}
 use Rattle.core_objects.specs.LogCalls.{places_on, KnowsLog}
 use Rattle.core_objects.proofs.LogCalls.{made_none, made_both, place_kept, log_kept, log_grown}
 use Rattle.core_objects.proofs.log_steps.load_operations.Goals as goal

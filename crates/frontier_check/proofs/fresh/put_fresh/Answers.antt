@@ -1,3 +1,5 @@
+use Rattle.std.proofs.Common.{◌∙◌, ℕ, sym, subst}
+use Rattle.frontier_check.specs.Prefix.{IsBookCapacity}
 use Rattle.frontier_check.proofs.Resuming.{marks_put}
 use Rattle.frontier_check.proofs.fresh.put_fresh.Goals as goal
 
@@ -7,8 +9,9 @@ loop-preserved g c =
     let put = c.in_ok-put.ensures.put c.if-not-branch.false in
     record {
       put = put;
-      room = c.put.ensures.room;
-      spare = c.look.ensures.room;
+      room = c.put.ensures.room ∙ c.loop.invariant.room;
+      spare = subst (λ (n : ℕ). IsBookCapacity (g.S.SeqObject.spec object) n)
+          (sym (c.look.ensures.room ∙ c.place_after.ensures.room)) c.loop.invariant.spare;
       counts = c.look.ensures.counts;
       taken = c.look.ensures.taken;
       marks = marks_put

@@ -21,7 +21,8 @@ prefix_at-requires-clause-len g c =
     let low = subst (λ (ms : List OrderMark). c.in-Some.index < length ms) c.deref.ensures.value
     c.in-Some.ensures.within in
     (marks_fit (g.S.SeqObject.spec object) c.args.book.now c.args.order.items c.args.marks.now.items
-    c.requires.marks c.in-Some.index c.index.result.now low c.index.ensures).0
+    c.requires.marks c.in-Some.index c.index.result.now low c.index.ensures
+    c.in_ok-here-in-Some.here.room c.in_ok-here-in-Some.ensures).0
 
 pub prefix_at-requires-clause-words : goal.prefix_at-requires-clause-words
 prefix_at-requires-clause-words g c =
@@ -29,7 +30,8 @@ prefix_at-requires-clause-words g c =
     let low = subst (λ (ms : List OrderMark). c.in-Some.index < length ms) c.deref.ensures.value
     c.in-Some.ensures.within in
     (marks_fit (g.S.SeqObject.spec object) c.args.book.now c.args.order.items c.args.marks.now.items
-    c.requires.marks c.in-Some.index c.index.result.now low c.index.ensures).1
+    c.requires.marks c.in-Some.index c.index.result.now low c.index.ensures
+    c.in_ok-here-in-Some.here.room c.in_ok-here-in-Some.ensures).1
 
 pub returns-in_ok-found-in-Some-clause-put : goal.returns-in_ok-found-in-Some-clause-put
 returns-in_ok-found-in-Some-clause-put g c =

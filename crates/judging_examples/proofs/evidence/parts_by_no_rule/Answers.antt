@@ -6,7 +6,7 @@ use Rattle.book_base.specs.Cut.{Holds}
 use Rattle.book_base.specs.Book.{Page, page_of, calls_of, answers_of, IsCall, IsAnswered, record_of, IsValid}
 use Rattle.book_base.specs.BookAt.{IsBookAt}
 use Rattle.book_base.proofs.PageLemmas.{caller_from_call, caller_from_answer}
-use Rattle.book_laws.proofs.BookAt.{record_of-part}
+use Rattle.legal_orders.proofs.BookAt.{record_of-part}
 use Rattle.judging_examples.specs.Books.{answer}
 use Rattle.seq_objects.specs.declared.kind.Kind.{Kind}
 use Rattle.seq_objects.specs.declared.kind.Kind.TheVariants as kinds

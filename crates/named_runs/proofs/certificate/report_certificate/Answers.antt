@@ -2,7 +2,7 @@ use Rattle.std.proofs.Common.{List, subst}
 use Rattle.book_base.specs.SeqSpec.{SeqSpec}
 use Rattle.book_base.specs.Book.{Page}
 use Rattle.book_base.specs.Order.{HasLegalOrder}
-use Rattle.book_laws.proofs.BookAt.{books_at_are_one}
+use Rattle.legal_orders.proofs.BookAt.{books_at_are_one}
 use Rattle.report_lines.specs.Lines.{book_of_lines}
 use Rattle.frontier_check.specs.declared.verdict.Verdict.{Verdict}
 use Rattle.frontier_check.specs.Verdict.{IsRight}

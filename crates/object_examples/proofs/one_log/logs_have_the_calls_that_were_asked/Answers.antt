@@ -2,11 +2,11 @@ use Rattle.std.proofs.Common.{◌≡◌, ℕ, zero, suc, ◌<◌, ◌++◌, List
 use Rattle.std.specs.List.{All}
 use Rattle.std.proofs.lemmas.Bool.{cases_eq}
 use Rattle.std.proofs.lemmas.List.Elements.{All-nil, All-cons, All-head, All-tail}
-use Rattle.shared_log.specs.declared.entry.Entry.{Entry}
-use Rattle.shared_log.specs.Entries.{calls_by, entry}
-use Rattle.shared_log.proofs.Logs.{calls_by-append, calls_by-own, calls_by-other}
+use Rattle.shared_words.specs.declared.entry.Entry.{Entry}
+use Rattle.shared_words.specs.Entries.{calls_by, entry}
+use Rattle.shared_words.proofs.Logs.{calls_by-append, calls_by-own, calls_by-other}
 use Rattle.report_lines.specs.Phases.{asked, answered, operations_of, answers_in}
-use Rattle.lawful_objects.specs.Pairs.{pairs_of}
+use Rattle.test_objects.specs.Pairs.{pairs_of}
 use Rattle.object_examples.specs.OneLog.{count_before, one_answered, others_made}
 use Rattle.object_examples.proofs.one_log.logs_have_the_calls_that_were_asked.Goals as goal
 

@@ -1,18 +1,33 @@
-use Rattle.std.proofs.Common.{◌≡◌, ℕ, ◌+◌, ◌<◌, ◌≤◌, ◌∙◌, List, length, set, sum, Some, refl, sym, ap, subst, slice_get, get_or, inl, inr, arith}
+use Rattle.std.proofs.Common.{◌≡◌, ℕ, ◌+◌, ◌-◌, ◌<◌, ◌≤◌, ◌∙◌, List, length, set, sum, Some, refl, sym, ap, subst, slice_get, get_or, inl, inr, arith}
 use Rattle.std.proofs.lemmas.Bool.{cases_eq}
 use Rattle.std.proofs.lemmas.Option.{slice_get-get_or}
 use Rattle.book_base.specs.declared.call.Call.{Call}
 use Rattle.book_base.specs.declared.call.Place.{Place}
+use Rattle.book_base.specs.State.{Contents}
 use Rattle.book_base.specs.Book.{IsCall, calls_of, operation_of}
 use Rattle.book_base.specs.Order.{call_at}
 use Rattle.book_base.proofs.PageLemmas.{caller_from_call}
 use Rattle.book_base.specs.Next.{raised}
+use Rattle.book_base.specs.Reaching.{SufficesAfter}
+use Rattle.book_base.proofs.ReachingLemmas.{suffices-list, suffices-next, suffices-step}
 use Rattle.order_check.specs.declared.fault.OrderFault.TheVariants.{Run, Missing}
+use Rattle.order_check.specs.declared.order.TheConstants.{MOST_CALLS}
 use Rattle.order_check.specs.Fault.{IsFirstFault, reply_after_places}
 use Rattle.order_check.specs.Standing.{IsStanding, IsInPlace}
 use Rattle.order_check.proofs.Faults.{no_place, stands_here, legal_orders_fail_no_test}
 use Rattle.order_check.proofs.Placing.{IsGiven, first_fault, run_first, number_in_line, standing_more, made_more, sum-raised, few_stand, list_more, reply_more, given_here, missing_first, legal}
 use Rattle.order_check.proofs.order.check_order.Goals as goal
+
+pub reset-requires : goal.reset-requires
+reset-requires g c =
+    let spec = g.S.SeqObject.spec c.args.object.now in
+    let room = ap (λ (s : Contents). s.room) c.in_ok-state.ensures in
+    omega (
+      arith,
+      suffices-list spec.next spec.init MOST_CALLS c.capacity.result
+          c.capacity.ensures.fits,
+      room,
+    )
 
 pub returns-in-Some-clause-fault : goal.returns-in-Some-clause-fault
 returns-in-Some-clause-fault g c =
@@ -55,13 +70,10 @@ step-wanted-requires g c =
     c.in_default.ensures.none at in
     let few = few_stand book (raised standing here.caller) c.callers.ensures.small more.wide
     (made_more book standing here inside number is c.loop-p.invariant.made) in
-    omega (
-      arith,
-      few,
-      sum-raised standing here.caller inside,
-      c.loop-p.invariant.short,
-      c.loop-p.invariant.room,
-    )
+    suffices-next (g.S.SeqObject.spec c.args.object.now).next c.loop-p.state.words (MOST_CALLS - p)
+    c.loop-p.state.room c.op.result
+    (omega (arith, few, sum-raised standing here.caller inside, c.loop-p.invariant.counted))
+    c.loop-p.invariant.fits
 
 pub returns-then-wanted-place-clause-fault : goal.returns-then-wanted-place-clause-fault
 returns-then-wanted-place-clause-fault g c =
@@ -131,20 +143,24 @@ loop-p-preserved g c =
     subst (λ (x : Call). operation_of book x ≡ Some c.op.result) c.call_at.ensures c.op.ensures in
     let words : c.step-wanted.new.state.words ≡ (spec.next c.loop-p.state.words c.op.result).0 =
     ap (λ s. s.words) c.step-wanted.ensures.list in
-    let longer =
-    g.met.S.SeqObject.grows_by_one c.args.object.now c.loop-p.state.words c.op.result in
+    let more = standing_more book order p standing here before.standing in_place at in
+    let few = few_stand book (raised standing here.caller) c.callers.ensures.small more.wide
+    (made_more book standing here inside number is before.made) in
+    let left : p + 1 ≤ MOST_CALLS =
+    omega (arith, few, sum-raised standing here.caller inside, before.counted) in
     let wanted : reply_after_places spec book order p here ≡ here.reply =
     sym (reply_more spec book order p c.op.result c.loop-p.state.words here op before.words)
     ∙ (sym c.step-wanted.ensures.reply ∙ c.if-wanted-place.false) in
     record {
-      room = ap (λ s. s.room) c.step-wanted.ensures.list ∙ before.room;
+      fits = subst (λ (s : Contents). SufficesAfter spec.next s.words (MOST_CALLS - (p + 1)) s.room)
+          (sym c.step-wanted.ensures.list)
+          (suffices-step spec.next c.loop-p.state.words (MOST_CALLS - p) (MOST_CALLS - (p + 1))
+          c.loop-p.state.room c.op.result (omega (arith, left)) before.fits);
       words = words ∙ list_more spec book order p c.op.result c.loop-p.state.words
           c.loop-p-test.true op before.words;
-      short = omega (
+      counted = omega (
         arith,
-        ap (λ (w : List ℕ). length w) words,
-        longer,
-        before.short,
+        before.counted,
         sum-raised standing here.caller inside,
         ap (λ (w : List ℕ). sum w) set_is,
       );

@@ -1,4 +1,4 @@
-use Rattle.history_rules.proofs.QueueRuns.{queue_is_container}
+use Rattle.legal_orders.proofs.QueueRuns.{queue_is_container}
 use Rattle.queue_refutation.proofs.decide.decide_queue.Goals as goal
 
 pub returns-then-branch : goal.returns-then-branch

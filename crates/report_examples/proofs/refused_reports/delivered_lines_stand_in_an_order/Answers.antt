@@ -8,7 +8,7 @@ use Rattle.report_lines.specs.declared.line.LineEnd.TheVariants.{Delivered}
 use Rattle.report_lines.specs.Lines.{lines_at}
 use Rattle.report_examples.specs.Lines.{call}
 use Rattle.report_examples.specs.ReportedRuns.{fifty, sixty, both_delivered, both_failed}
-use Rattle.lawful_reports.specs.Orders.{StandsWith, delivered_book}
+use Rattle.reports.specs.Orders.{StandsWith, delivered_book}
 use Rattle.report_examples.specs.RefusedReports.{first_place}
 use Rattle.report_examples.proofs.refused_reports.delivered_lines_stand_in_an_order.Goals as goal
 

@@ -6,9 +6,9 @@ use Rattle.world_examples.proofs.JudgedRuns.{both_together}
 use Rattle.report_examples.specs.Lines.{call}
 use Rattle.report_lines.specs.Lawful.{IsLawful}
 use Rattle.report_examples.specs.ReportedRuns.{five_and_six, both_failed}
-use Rattle.report_laws.proofs.Worlds.{worlds_are_lawful, illegal_at}
+use Rattle.report_lines.proofs.Worlds.{worlds_are_lawful, illegal_at}
 use Rattle.report_examples.proofs.ReportedRuns.{first_is_legal, failed_lines}
-use Rattle.lawful_reports.proofs.Errors.{no_run_leaves_an_error}
+use Rattle.reports.proofs.LawfulErrors.{no_run_leaves_an_error}
 use Rattle.report_examples.proofs.refused_reports.false_errors_are_refused.Goals as goal
 
 lawful : IsLawful silent pair five_and_six (5 ∷ 5 ∷ []) both_failed

@@ -3,7 +3,7 @@ use Rattle.world_examples.specs.Schedules.{two_calls, tenfold, silent}
 use Rattle.world_examples.specs.JudgedRuns.{locals_after}
 use Rattle.report_examples.specs.Lines.{call}
 use Rattle.report_examples.specs.ReportedRuns.{both_delivered, first_failed}
-use Rattle.report_laws.proofs.Worlds.{legal_at, illegal_at}
+use Rattle.report_lines.proofs.Worlds.{legal_at, illegal_at}
 use Rattle.report_examples.proofs.ReportedRuns.{first_is_legal, first_is_illegal}
 use Rattle.report_examples.proofs.refused_reports.other_lines_are_refused.Goals as goal
 

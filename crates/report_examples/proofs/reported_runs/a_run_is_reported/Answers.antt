@@ -4,7 +4,7 @@ use Rattle.world_examples.specs.JudgedRuns.{locals_after}
 use Rattle.world_examples.proofs.JudgedRuns.{both_together}
 use Rattle.report_examples.specs.Lines.{call}
 use Rattle.report_examples.specs.ReportedRuns.{five_and_six, both_delivered, both_failed}
-use Rattle.report_laws.proofs.Worlds.{worlds_are_lawful}
+use Rattle.report_lines.proofs.Worlds.{worlds_are_lawful}
 use Rattle.report_examples.proofs.ReportedRuns.{first_is_legal, delivered_lines, second_is_illegal, failed_lines}
 use Rattle.report_examples.proofs.reported_runs.a_run_is_reported.Goals as goal
 

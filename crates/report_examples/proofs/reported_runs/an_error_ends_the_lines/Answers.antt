@@ -3,7 +3,7 @@ use Rattle.world_examples.specs.Schedules.{pair, two_calls, silent}
 use Rattle.world_examples.specs.JudgedRuns.{locals_after}
 use Rattle.world_examples.proofs.JudgedRuns.{both_together}
 use Rattle.report_examples.specs.ReportedRuns.{both_failed}
-use Rattle.report_laws.proofs.Worlds.{worlds_are_lawful}
+use Rattle.report_lines.proofs.Worlds.{worlds_are_lawful}
 use Rattle.report_examples.proofs.ReportedRuns.{failed_lines}
 use Rattle.report_examples.proofs.reported_runs.an_error_ends_the_lines.Goals as goal
 

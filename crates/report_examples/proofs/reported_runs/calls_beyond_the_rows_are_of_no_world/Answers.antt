@@ -5,7 +5,7 @@ use Rattle.world_core.specs.Local.{Local}
 use Rattle.world_examples.specs.Schedules.{pair}
 use Rattle.world_core.specs.Calls.{Made, call_in, calls_in, local_at}
 use Rattle.world_laws.proofs.Locals.{locals_have_phases}
-use Rattle.report_laws.proofs.Runs.{calls_at}
+use Rattle.report_lines.proofs.Runs.{calls_at}
 use Rattle.report_examples.proofs.reported_runs.calls_beyond_the_rows_are_of_no_world.Goals as goal
 
 pub returns-clause-unlawful : goal.returns-clause-unlawful

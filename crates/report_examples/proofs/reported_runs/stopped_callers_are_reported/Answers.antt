@@ -2,7 +2,7 @@ use Rattle.std.proofs.Common.{[], ◌∷◌, take, rules}
 use Rattle.world_examples.specs.Schedules.{pair, two_calls, silent}
 use Rattle.world_examples.specs.JudgedRuns.{locals_after}
 use Rattle.report_examples.specs.ReportedRuns.{five_and_six, stopped, nothing}
-use Rattle.report_laws.proofs.Worlds.{worlds_are_lawful}
+use Rattle.report_lines.proofs.Worlds.{worlds_are_lawful}
 use Rattle.report_examples.proofs.ReportedRuns.{stopped_together, stopped_lines, none_together, no_lines}
 use Rattle.report_examples.proofs.reported_runs.stopped_callers_are_reported.Goals as goal
 

@@ -3,7 +3,7 @@ use Rattle.world_examples.specs.Schedules.{pair, tenfold}
 use Rattle.world_examples.specs.JudgedRuns.{locals_after}
 use Rattle.report_examples.specs.Lines.{call}
 use Rattle.report_examples.specs.ReportedRuns.{five_and_six, one_unchecked, one_judging}
-use Rattle.report_laws.proofs.Workers.{workers_are_lawful}
+use Rattle.report_lines.proofs.Workers.{workers_are_lawful}
 use Rattle.report_examples.proofs.Workers.{judging_together, read, both_worked, unread}
 use Rattle.report_examples.proofs.reported_runs.workers_leave_a_report.Goals as goal
 

@@ -8,8 +8,8 @@ use Rattle.report_lines.specs.Lines.{lines_at, AreLinesOf}
 use Rattle.report_lines.specs.Allotments.{phases_of}
 use Rattle.client_calls.specs.Finishing.{KeepsAsked}
 use Rattle.report_examples.specs.ReportedRuns.{five_and_six, stopped}
-use Rattle.report_laws.specs.Reporting.{HaveMade}
-use Rattle.report_laws.proofs.Worlds.{worlds_are_lawful}
+use Rattle.report_lines.specs.Reporting.{HaveMade}
+use Rattle.report_lines.proofs.Worlds.{worlds_are_lawful}
 use Rattle.report_examples.proofs.ReportedRuns.{stopped_together, stopped_lines}
 use Rattle.report_examples.proofs.stops.stops_are_kept_to_the_phase.Goals as goal
 

@@ -2,7 +2,7 @@ use Rattle.std.proofs.Common.{◌∷◌, []}
 use Rattle.report_lines.specs.Lines.{book_of_lines}
 use Rattle.reports.specs.Cases.{worked_lines}
 use Rattle.report_examples.specs.Lines.{call}
-use Rattle.book_laws.proofs.BookAt.{book_at_is_the_book_at}
+use Rattle.legal_orders.proofs.BookAt.{book_at_is_the_book_at}
 use Rattle.report_examples.proofs.WorkedReport.{worked_is_valid, worked_is_report, worked_error_is_first}
 use Rattle.report_examples.proofs.witnesses.a_report_has_a_witness.Goals as goal
 

@@ -1,7 +1,7 @@
 use Rattle.std.specs.Prelude.{codes}
 use Rattle.seq_objects.specs.Replies.{reply_word}
 use Rattle.text_fields.specs.Counts.{pair_words}
-use Rattle.book_writer.proofs.Lines.{answer_written, OnOk_then}
+use Rattle.book_text.proofs.WrittenLines.{answer_written, OnOk_then}
 use Rattle.report_text.proofs.writer.put_answer.Goals as goal
 
 pub returns : goal.returns

@@ -3,8 +3,8 @@ use Rattle.std.specs.Prelude.{codes}
 use Rattle.text_fields.specs.declared.version.Version.TheVariants.{Second}
 use Rattle.text_fields.specs.Counts.{pair_words}
 use Rattle.book_text.specs.CallLines.{answer_words}
-use Rattle.book_writer.specs.Fields.{spaced}
-use Rattle.book_writer.proofs.Lines.{OnOk_then}
+use Rattle.book_text.specs.Fields.{spaced}
+use Rattle.book_text.proofs.WrittenLines.{OnOk_then}
 use Rattle.report_lines.specs.declared.line.LineEnd.{LineEnd}
 use Rattle.reports.specs.Grammar.{ending_words}
 use Rattle.report_text.proofs.Endings.{after_answer, verdict_written}

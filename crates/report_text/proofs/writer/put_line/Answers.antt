@@ -1,6 +1,6 @@
 use Rattle.std.proofs.Common.{◌≡◌, ℕ, List, [], ◌∷◌, ◌++◌, decimal, ap, ◌∙◌}
 use Rattle.seq_objects.specs.Words.{operation_words}
-use Rattle.book_writer.proofs.Lines.{first_word, more_word, more_words, line_ends}
+use Rattle.book_text.proofs.WrittenLines.{first_word, more_word, more_words, line_ends}
 use Rattle.reports.specs.Grammar.{ending_words}
 use Rattle.report_text.proofs.writer.put_line.Goals as goal
 

@@ -5,8 +5,8 @@ use Rattle.book_base.specs.declared.TheConstants.{MAX_CALLS}
 use Rattle.book_base.specs.Book.{Page, calls_of, announced, answered}
 use Rattle.world_core.specs.Local.{Local}
 use Rattle.world_core.specs.Calls.{IsGathered}
-use Rattle.world_books.specs.Gathering.{HasPeekedAll}
-use Rattle.world_books.proofs.Gathered.{gathered_stays}
+use Rattle.world_laws.specs.Gathering.{HasPeekedAll}
+use Rattle.world_laws.proofs.Gathered.{gathered_stays}
 use Rattle.row_table.specs.Callers.{shape_of, who_of, local_with}
 use Rattle.row_gather.specs.declared.gathered.Gathered.{Gathered}
 use Rattle.row_gather.specs.Words.{words_of_book, ArePeekedTo, HasPeekedCalls, greatest_in}

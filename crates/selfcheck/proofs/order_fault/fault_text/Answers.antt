@@ -1,5 +1,5 @@
 use Rattle.std.proofs.Common.{◌≡◌, ℕ, List, [], codes}
-use Rattle.book_writer.proofs.Lines.{first_word, more_words, line_ends}
+use Rattle.book_text.proofs.WrittenLines.{first_word, more_words, line_ends}
 use Rattle.selfcheck.specs.Orders.{fault_words, order_fault_text}
 use Rattle.selfcheck.proofs.order_fault.fault_text.Goals as goal
 

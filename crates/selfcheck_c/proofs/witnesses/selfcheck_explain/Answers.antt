@@ -1,5 +1,5 @@
 use Rattle.std.proofs.Common.{arith, ◌≡◌, ◌∙◌, ℕ, List, length, take, inl, inr, sym, subst, ap}
-use Rattle.witness_texts.specs.Explaining.{IsExplained, SaysNoneBroken}
+use Rattle.given_book.specs.Explaining.{IsExplained, SaysNoneBroken}
 use Rattle.selfcheck_c.proofs.witnesses.selfcheck_explain.Goals as goal
 
 pub returns-then-put-clause-explained : goal.returns-then-put-clause-explained

@@ -1,5 +1,5 @@
 use Rattle.std.proofs.Common.{◌≡◌, ◌∙◌, List, ℕ, length, take, string_bytes, refl, sym, subst}
-use Rattle.witness_texts.specs.Texts.{IsPictureOf}
+use Rattle.given_book.specs.Texts.{IsPictureOf}
 use Rattle.selfcheck_c.proofs.witnesses.selfcheck_picture.Goals as goal
 
 pub returns-then-put-clause-shown : goal.returns-then-put-clause-shown

@@ -1,5 +1,5 @@
 use Rattle.std.proofs.Common.{arith, ◌≡◌, ◌∙◌, ℕ, List, length, take, sym, subst, ap}
-use Rattle.witness_texts.specs.Texts.{IsSmallerWitness}
+use Rattle.given_book.specs.Texts.{IsSmallerWitness}
 use Rattle.selfcheck_c.proofs.witnesses.selfcheck_smaller.Goals as goal
 
 pub returns-then-put-clause-smaller : goal.returns-then-put-clause-smaller

@@ -22,4 +22,4 @@ returns-clause-reply c =
     let there = put_in-there list c.args.key c.args.value c.in-Some.place c.remove-old.result
     (ap (λ ws. place_of_key ws c.args.key) (sym c.words.ensures) ∙ sym c.in-Some.ensures)
     c.remove-old.ensures.word in
-    c.value_reply.ensures ∙ sym (ap (λ (next : List ℕ × ℕ). next.1) there)
+    c.wrapping_value_reply.ensures ∙ sym (ap (λ (next : List ℕ × ℕ). next.1) there)

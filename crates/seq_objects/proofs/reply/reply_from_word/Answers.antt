@@ -26,7 +26,7 @@ returns-in_err-suffix-in-None-clause-none c =
 pub returns-in_ok-argument-in-Some-suffix-clause-found :
     goal.returns-in_ok-argument-in-Some-suffix-clause-found
 returns-in_ok-argument-in-Some-suffix-clause-found c =
-    ap reply_word (c.value_reply.ensures ∙ ap reply_value c.from.ensures)
+    ap reply_word (c.wrapping_value_reply.ensures ∙ ap reply_value c.from.ensures)
     ∙ reply_word-digits c.args.word.now c.in-Some-suffix.digits.now
     c.in_ok-argument-in-Some-suffix.field-0
     (omega arith) c.in-Some-suffix.ensures.found c.in_ok-argument-in-Some-suffix.ensures.found

@@ -1,4 +1,4 @@
-use Rattle.book_laws.proofs.BookAtLaws.{is_the_only_one}
+use Rattle.legal_orders.proofs.BookAtLaws.{is_the_only_one}
 use Rattle.seq_objects.specs.Objects.{kind_spec}
 use Rattle.smaller_book.proofs.LeastCuts.{illegal_from_least, earliest_from_least}
 use Rattle.smaller_book.proofs.cuts.earliest.Goals as goal

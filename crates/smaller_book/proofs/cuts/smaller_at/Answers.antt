@@ -1,6 +1,6 @@
 use Rattle.std.proofs.Common.{ℕ, List, sym, subst}
 use Rattle.book_base.specs.Book.{Page}
-use Rattle.book_laws.proofs.BookAtLaws.{is_the_only_one}
+use Rattle.legal_orders.proofs.BookAtLaws.{is_the_only_one}
 use Rattle.seq_objects.specs.Objects.{kind_spec}
 use Rattle.smaller_book.specs.Earliest.{all_numbers, IsAtSomeCut}
 use Rattle.smaller_book.specs.Minimal.{IsSmaller}

@@ -1,7 +1,7 @@
 use Rattle.std.proofs.Common.{◌≡◌, false, IfOk, IsTrue, List, subst}
 use Rattle.book_base.specs.Book.{Page}
 use Rattle.book_base.specs.Order.{HasLegalOrder}
-use Rattle.book_laws.proofs.BookAtLaws.{is_the_only_one}
+use Rattle.legal_orders.proofs.BookAtLaws.{is_the_only_one}
 use Rattle.seq_objects.specs.Objects.{kind_spec}
 use Rattle.smaller_book.proofs.judging.is_illegal_at.Goals as goal
 

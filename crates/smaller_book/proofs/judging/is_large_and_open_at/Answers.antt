@@ -1,7 +1,7 @@
 use Rattle.std.proofs.Common.{◌<◌, List, subst, arith}
 use Rattle.book_base.specs.Book.{Page}
 use Rattle.book_base.specs.Pruning.{HasOneOpen}
-use Rattle.book_laws.proofs.BookAtLaws.{is_the_only_one}
+use Rattle.legal_orders.proofs.BookAtLaws.{is_the_only_one}
 use Rattle.smaller_book.specs.declared.TheConstants.{FEW_CALLS}
 use Rattle.smaller_book.specs.Part.{size_of}
 use Rattle.smaller_book.proofs.judging.is_large_and_open_at.Goals as goal

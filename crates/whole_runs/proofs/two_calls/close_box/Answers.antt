@@ -1,7 +1,7 @@
 use Rattle.std.proofs.Common.{◌≡◌, List, [], ◌∷◌, ◌++◌, if◌then◌else◌, sym, ap, ◌∙◌, subst}
 use Rattle.std.specs.Result.{is_ok}
-use Rattle.lawful_objects.specs.declared.log_pass.LogPass.{LogPass}
-use Rattle.lawful_objects.specs.Passes.{ArePassesOf}
+use Rattle.test_objects.specs.declared.log_pass.LogPass.{LogPass}
+use Rattle.test_objects.specs.Passes.{ArePassesOf}
 use Rattle.whole_runs.proofs.Passes.{both_back}
 use Rattle.whole_runs.proofs.two_calls.close_box.Goals as goal
 

@@ -5,7 +5,7 @@ use Rattle.seq_objects.specs.Words as words
 use Rattle.seq_objects.specs.Replies.{reply_done, reply_value}
 use Rattle.world_core.specs.Local.{Local, Object_step}
 use Rattle.row_table.specs.Callers.{local_with}
-use Rattle.object_orders.specs.TallyAndCell.{cell}
+use Rattle.world_objects.specs.TallyAndCell.{cell}
 use Rattle.core_objects.specs.declared.cell.CellProgram.{CellProgram}
 use Rattle.core_objects.proofs.OneWordCalls.{allows_step}
 use Rattle.core_objects.proofs.OneWordReplies.{replies_bad, replies_by_step}
@@ -21,9 +21,9 @@ returns-then-op-eq-READ c =
       made = (
         replies_by_step (λ (p : CellProgram). cell) c.args.rows.now a c.requires.caller
             c.requires.first c.object_load-found.new.self _
-            c.value_reply.result c.object_load-found.ensures
+            c.wrapping_value_reply.result c.object_load-found.ensures
             (ap (λ b. b || is_operation_of a.op words.read) read.0 ∙ read.1)
-            (c.value_reply.ensures ∙ sym
+            (c.wrapping_value_reply.ensures ∙ sym
             (cond-false (is_operation_of a.op words.write) reply_done (reply_value found) read.0)),
         c.requires.fits,
       );

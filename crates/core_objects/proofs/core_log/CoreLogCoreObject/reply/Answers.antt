@@ -2,7 +2,9 @@ use Rattle.std.proofs.Common.{◌≡◌, ℕ, ◌+◌, ◌*◌, Bool, if◌then�
 use Rattle.std.specs.Prelude.{is_ok}
 use Rattle.world_core.specs.CallSteps.{all_steps_of}
 use Rattle.drv_wrapper.specs.States.{who_announced, op_announced, announced_local}
-use Rattle.log_program.specs.LogProgram.{list_of}
+use Rattle.book_base.specs.Reaching.{IsCapacityFor}
+use Rattle.book_base.proofs.ReachingLemmas.{suffices-fewer}
+use Rattle.world_objects.specs.LogProgram.{list_of}
 use Rattle.core_objects.specs.LogCalls.{KnowsTickets, KnowsOperations, places_on, number_on, HasMade, HasStored, HasPlaced, KnowsPlaces, KnowsLog}
 use Rattle.core_objects.proofs.LogCalls.{meaning, number_few, made_both, made_all, log_kept, stored_kept, placed_kept, own_log_known, has_replied}
 use Rattle.core_objects.proofs.core_log.CoreLogCoreObject.reply.Goals as goal
@@ -49,6 +51,12 @@ reply_after-reply-requires-clause-state g c =
     (sym c.load_operations.ensures.before
     ∙ ap (λ (k : ℕ). take k log) count
     ∙ ap (take c.len-made.result) (sym c.deref-2.ensures.value))
+
+pub reply_after-reply-requires-clause-room : goal.reply_after-reply-requires-clause-room
+reply_after-reply-requires-clause-room g c =
+    let spec = g.S.SeqObject.spec c.args.self.now.object in
+    suffices-fewer spec.next spec.init (length c.deref-2.result.now + 1) _
+    c.args.pass.now.state.room (omega arith) c.requires.fits.state_fits
 
 pub returns : goal.returns
 returns g c =
@@ -110,7 +118,8 @@ returns g c =
           tickets_fit = omega (arith, fits.tickets_fit, c.place_ticket.ensures.capacity);
           log_fits = omega
               (arith, fits.log_fits, c.load_operations.ensures.capacity, c.push.ensures.capacity);
-          state_fits = c.reply_after-reply.ensures.room ∙ fits.state_fits;
+          state_fits = subst (λ (k : ℕ). IsCapacityFor (g.S.SeqObject.spec object)
+              (r.callers * r.cap) k) (sym c.reply_after-reply.ensures.room) fits.state_fits;
           state_is =
               c.reply_after-reply.ensures.state
               ∙ ap (list_of (g.S.SeqObject.spec object).next (g.S.SeqObject.spec object).init)

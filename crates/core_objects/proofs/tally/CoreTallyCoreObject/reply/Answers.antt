@@ -1,7 +1,7 @@
 use Rattle.std.proofs.Common.{◌≡◌, ◌∙◌, ℕ, false, true, sym, ap}
 use Rattle.seq_objects.specs.Words.{is_operation_of}
 use Rattle.seq_objects.specs.Words as words
-use Rattle.object_orders.specs.TallyAndCell.{tally}
+use Rattle.world_objects.specs.TallyAndCell.{tally}
 use Rattle.core_objects.specs.declared.tally.TallyProgram.{TallyProgram}
 use Rattle.core_objects.proofs.OneWordReplies.{replies_bad, replies_by_step}
 use Rattle.core_objects.proofs.tally.CoreTallyCoreObject.reply.Goals as goal
@@ -30,7 +30,8 @@ returns c =
       made = (
         replies_by_step (λ (p : TallyProgram). tally) c.args.rows.now a c.requires.caller
             c.requires.first c.object_add-found.new.self _
-            c.value_reply.result c.object_add-found.ensures some c.value_reply.ensures,
+            c.wrapping_value_reply.result c.object_add-found.ensures some
+            c.wrapping_value_reply.ensures,
         c.requires.fits,
       );
     }

@@ -2,9 +2,10 @@ use Rattle.std.proofs.Common.{◌≡◌, ◌+◌, ◌∙◌, ℕ, set, ap, sym, 
 use Rattle.std.specs.Option.{unwrap_or}
 use Rattle.book_base.specs.State.{Contents}
 use Rattle.book_base.specs.Order.{step_at}
+use Rattle.book_base.proofs.ReachingLemmas.{suffices-next}
 use Rattle.book_base.specs.Next.{raised, list_after}
 use Rattle.frontier_check.specs.declared.prefix.Prefix.{Prefix}
-use Rattle.frontier_check.proofs.Following.{putting, put-more}
+use Rattle.frontier_check.proofs.Following.{putting, put-more, suffices-prefix}
 use Rattle.frontier_check.proofs.prefix.Prefix.put.Goals as goal
 
 pub step-reply-requires : goal.step-reply-requires
@@ -12,7 +13,10 @@ step-reply-requires g c =
     let object = c.args.object.now in
     let p = putting (g.S.SeqObject.spec object) c.args.book.now
     c.args.self.now c.args.place c.requires.put.stands c.requires.next in
-    omega (arith, p.words, c.requires.room)
+    suffices-next (g.S.SeqObject.spec object).next c.args.self.now.here.words 1
+    c.args.self.now.here.room c.op-op.result (omega arith)
+    (suffices-prefix (g.S.SeqObject.spec object) c.args.book.now c.args.self.now 1
+    c.args.self.now.here.room c.requires.put.stands (omega (arith, p.calls)) c.requires.room)
 
 pub returns-clause-put : goal.returns-clause-put
 returns-clause-put g c given =
@@ -32,6 +36,5 @@ returns-clause-put g c given =
     ∙ sym (ap (λ (o : ℕ). (spec.next old.here.words o).0) op) in
     let cut : new.cut ≡ raised old.cut place.caller =
     c.set.ensures ∙ ap (λ (n : ℕ). set old.cut place.caller (n + 1)) c.requires.next.next in
-    put-more spec book old new place
-    (g.met.S.SeqObject.grows_by_one object) c.requires.put c.requires.next reply
+    put-more spec book old new place c.requires.put c.requires.next reply
     c.in_ok-push.ensures.items cut list

@@ -1,3 +1,4 @@
+use Rattle.std.proofs.Common.{◌∙◌}
 use Rattle.frontier_check.proofs.Resuming.{marks_put}
 use Rattle.frontier_check.proofs.prefix.Prefix.put_marked.Goals as goal
 
@@ -7,7 +8,7 @@ loop-place-preserved g c =
     let put = c.in_ok-put.ensures.put c.if-not-branch.false in
     record {
       put = put;
-      room = c.put.ensures.room;
+      room = c.put.ensures.room ∙ c.loop-place.invariant.room;
       marks = marks_put
           (g.S.SeqObject.spec object) c.args.book.now c.put.new.self c.loop-place.self.places.items
           _ c.answers_in-answered.result c.loop-place.marks.items

@@ -24,7 +24,7 @@ remember-requires-clause-wide g c =
     ap length c.deref.ensures.value
     ∙ (leads-wide c.args.self.now.book.now c.args.self.now.prefix.now
     (g.S.SeqObject.spec object) c.args.walk.now.frames.items c.args.walk.now.counts.items
-    c.args.walk.now.here.words w.begins (g.met.S.SeqObject.grows_by_one object) w.leads
+    c.args.walk.now.here.words w.begins w.leads
     ∙ sym w.callers)
 
 pub retreat-requires : goal.retreat-requires

@@ -8,9 +8,8 @@ use Rattle.frontier_check.proofs.search.Search.begin.Goals as goal
 pub copy_from-requires : goal.copy_from-requires
 copy_from-requires g c =
     let object = c.args.self.now.object.now in
-    let fit = stands-fit (g.S.SeqObject.spec object)
-    c.args.self.now.book.now c.args.self.now.prefix.now c.requires.prefix.stands in
-    omega (arith, fit, ap (λ (s : Contents). s.room) c.in_ok-here.ensures)
+    stands-fit (g.S.SeqObject.spec object) c.args.self.now.book.now c.args.self.now.prefix.now
+    c.requires.prefix.stands c.in_ok-here.here.room c.in_ok-here.ensures
 
 pub choices-requires-clause-fits : goal.choices-requires-clause-fits
 choices-requires-clause-fits g c =
@@ -21,6 +20,7 @@ choices-requires-clause-fits g c =
     (c.deref.ensures.value ∙ sym c.deref-2.ensures.value) c.in-Some.ensures.least in
     prefix-fits book c.args.self.now.prefix.now
     (g.S.SeqObject.spec object) c.deref-2.result.now c.copy_from.new.self.words c.in-Some.first
-    (g.met.S.SeqObject.grows_by_one object) c.requires.prefix
+    c.requires.prefix
     (c.deref-2.ensures.value ∙ c.in_ok-counts.ensures)
-    (ap (λ (s : Contents). s.words) c.copy_from.ensures) least
+    (ap (λ (s : Contents). s.words) c.copy_from.ensures) least c.args.spare.now.room
+    c.requires.room

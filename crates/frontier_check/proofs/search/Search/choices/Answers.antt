@@ -4,7 +4,7 @@ use Rattle.book_base.specs.Reaching.{IsInfeasible}
 use Rattle.book_base.specs.Next.{next_call, MayComeNext}
 use Rattle.search_hints.specs.Marks.{IsMarked, MarksSuffice}
 use Rattle.frontier_check.specs.declared.choice.Choice.{Choice}
-use Rattle.frontier_check.specs.Search.{AreChosen, IsOpen, places_of}
+use Rattle.frontier_check.specs.Search.{AreChosen, IsOpen, MayGrow, places_of}
 use Rattle.frontier_check.proofs.Choosing.{chosen-next, unmarked-skip, infeasible-skip, open-from_chosen, open-from_once}
 use Rattle.frontier_check.proofs.search.Search.choices.Goals as goal
 use Rattle.frontier_check.proofs.search.Search.choices.Goals.{then-has+then-not-is_infeasible+in_ok-consider, else-has, else-has-via-then-has+else-not-is_infeasible, else-has-via-else-has}
@@ -30,6 +30,11 @@ consider-requires-clause-may g c =
     subst (λ (cut : List ℕ). MayComeNext book cut (next_call cut caller)) c.cut_of-cut.ensures
     (c.to_try-marks.ensures.may caller marked)
 
+pub consider-requires-clause-fits : goal.consider-requires-clause-fits
+consider-requires-clause-fits g c =
+    subst (λ (n : ℕ). MayGrow (g.S.SeqObject.spec c.args.self.now.object.now).next
+    c.args.here.now.words n) (sym c.loop-caller.invariant.room) c.requires.fits
+
 pub loop-caller-preserved : goal.loop-caller-preserved
 loop-caller-preserved g c =
     let book = c.args.self.now.book.now in
@@ -43,7 +48,7 @@ loop-caller-preserved g c =
     let i = c.loop-caller.invariant in
     elim c.if-has.branch [
       | then-has+then-not-is_infeasible+in_ok-consider w ↦ record {
-        room = rw w.spare-is w.consider.ensures.room;
+        room = rw w.spare-is (w.consider.ensures.room ∙ i.room);
         chosen = rw w.choices-is (chosen-next book spec.next cut list marks caller before
             (places_of w.consider.new.choices.items) i.chosen w.in_ok-consider.ensures.more);
         few = rw w.choices-is (omega (arith, i.few, w.consider.ensures.few));

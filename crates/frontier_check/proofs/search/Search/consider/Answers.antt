@@ -13,6 +13,9 @@ use Rattle.frontier_check.proofs.Choosing.{considered-place, considered-skip}
 use Rattle.frontier_check.proofs.Serving.{all_calls, considered-choice, considered-idle}
 use Rattle.frontier_check.proofs.search.Search.consider.Goals as goal
 
+pub step-reply-requires : goal.step-reply-requires
+step-reply-requires g c = rw (c.copy_from.ensures) (c.requires.fits.after c.op.result)
+
 pub choose-requires-clause-calls : goal.choose-requires-clause-calls
 choose-requires-clause-calls g c =
     all_calls c.args.self.now.book.now (g.S.SeqObject.spec c.args.self.now.object.now).next

@@ -7,6 +7,7 @@ use Rattle.frontier_check.specs.declared.walk.Walk.{Walk}
 use Rattle.book_base.specs.Pruning.{IsLeast}
 use Rattle.frontier_check.specs.Search.{places_of, IsOpen}
 use Rattle.frontier_check.specs.Memo.{Remembers}
+use Rattle.frontier_check.specs.Prefix.{IsBookCapacity}
 use Rattle.frontier_check.proofs.Pairs.{remembers-moved}
 use Rattle.frontier_check.proofs.Leading.{standing, lowered}
 use Rattle.frontier_check.proofs.Walking.{walk-skip, IsDeeper, walk-deeper, walk-found, LeadsTo, deeper-fits, deeper-reached, same_open}
@@ -19,7 +20,7 @@ set_count-requires-clause-caller g c =
     let w = c.requires.walk in
     let s = standing c.args.self.now.book.now c.args.self.now.prefix.now
     (g.S.SeqObject.spec object) old.frames.items old.counts.items old.here.words c.args.place
-    w.begins (g.met.S.SeqObject.grows_by_one object) w.leads w.here.sound.0.may_come in
+    w.begins w.leads w.here.sound.0.may_come in
     omega (
       arith,
       s.caller,
@@ -35,11 +36,11 @@ copy_from-requires g c =
     let w = c.requires.walk in
     let s = standing c.args.self.now.book.now c.args.self.now.prefix.now
     (g.S.SeqObject.spec object) old.frames.items old.counts.items old.here.words c.args.place
-    w.begins (g.met.S.SeqObject.grows_by_one object) w.leads w.here.sound.0.may_come in
+    w.begins w.leads w.here.sound.0.may_come in
+    let fits = (s.fits old.here.room w.room).here in
     omega (
       arith,
-      s.fits,
-      w.room,
+      fits,
       ap (λ (x : Contents). length x.words) c.step.ensures.spare,
       ap (λ (x : Contents). x.room) c.step.ensures.here,
     )
@@ -80,7 +81,7 @@ least_open-requires g c =
     let w = c.requires.walk in
     let s = standing c.args.self.now.book.now c.args.self.now.prefix.now
     (g.S.SeqObject.spec object) old.frames.items old.counts.items old.here.words c.args.place
-    w.begins (g.met.S.SeqObject.grows_by_one object) w.leads w.here.sound.0.may_come in
+    w.begins w.leads w.here.sound.0.may_come in
     ap length (c.deref-2.ensures.value ∙ c.step.ensures.counts) ∙ (length-set old.counts.items
     c.args.place.caller (get_or old.counts.items c.args.place.caller 0 + 1) ∙ s.wide)
 
@@ -91,7 +92,7 @@ choices-requires-clause-wide g c =
     let w = c.requires.walk in
     let s = standing c.args.self.now.book.now c.args.self.now.prefix.now
     (g.S.SeqObject.spec object) old.frames.items old.counts.items old.here.words c.args.place
-    w.begins (g.met.S.SeqObject.grows_by_one object) w.leads w.here.sound.0.may_come in
+    w.begins w.leads w.here.sound.0.may_come in
     ap length (c.deref-in-Some.ensures.value ∙ c.step.ensures.counts) ∙ (length-set old.counts.items
     c.args.place.caller (get_or old.counts.items c.args.place.caller 0 + 1) ∙ s.wide)
 
@@ -138,8 +139,9 @@ choices-requires-clause-fits g c =
       list_is = ap (λ (s : Contents). s.words) e.here;
     } in
     deeper-fits book c.args.self.now.prefix.now spec old frame
-    c.deref-in-Some.result.now c.step.new.walk.here.words c.in-Some.first
-    (g.met.S.SeqObject.grows_by_one object) c.requires.walk to least
+    c.deref-in-Some.result.now c.step.new.walk.here.words c.in-Some.first c.requires.walk to least
+    c.step.new.spare.room
+    (subst (λ (s : Contents). IsBookCapacity spec s.room) (sym e.spare) c.requires.room)
 
 pub returns-in_ok-push-in-None-clause-outcome : goal.returns-in_ok-push-in-None-clause-outcome
 returns-in_ok-push-in-None-clause-outcome g c =
@@ -206,5 +208,5 @@ returns-in_ok-push-in-Some-clause-outcome g c =
     (sym c.deref-in-Some.ensures.value) refl
     (ap (λ v. places_of v.items) fresh) c.in_ok-fresh-in-Some.ensures.open in
     walk-deeper book c.args.self.now.prefix.now spec old new frame
-    (g.met.S.SeqObject.grows_by_one object) c.requires.walk deeper here
+    c.requires.walk deeper here
     (omega (arith, ap (λ v. length v.items) fresh, c.in_ok-fresh-in-Some.ensures.few))

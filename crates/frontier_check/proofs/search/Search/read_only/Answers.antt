@@ -4,6 +4,9 @@ use Rattle.book_base.specs.State.{Contents}
 use Rattle.frontier_check.proofs.Choosing.{at_once}
 use Rattle.frontier_check.proofs.search.Search.read_only.Goals as goal
 
+pub step-requires : goal.step-requires
+step-requires g c = rw (c.copy_from.ensures) (c.requires.fits.after c.op-op.result)
+
 pub returns-clause-some : goal.returns-clause-some
 returns-clause-some g c =
     let next = (g.S.SeqObject.spec c.args.self.now.object.now).next in

@@ -19,7 +19,7 @@ set_count-requires g c =
     let last =
     last_level c.args.self.now.book.now c.args.self.now.prefix.now
     (g.S.SeqObject.spec object) c.args.walk.now c.pop.new.self.items c.in-Some.frame
-    (g.met.S.SeqObject.grows_by_one object) c.requires.walk c.in-Some.ensures.items in
+    c.requires.walk c.in-Some.ensures.items in
     record { caller = last.caller; number = last.number }
 
 pub load-requires : goal.load-requires
@@ -28,8 +28,9 @@ load-requires g c =
     let last =
     last_level c.args.self.now.book.now c.args.self.now.prefix.now
     (g.S.SeqObject.spec object) c.args.walk.now c.pop.new.self.items c.in-Some.frame
-    (g.met.S.SeqObject.grows_by_one object) c.requires.walk c.in-Some.ensures.items in
-    omega (arith, last.words, c.requires.walk.room, ap length c.deref.ensures.value)
+    c.requires.walk c.in-Some.ensures.items in
+    let fits = last.words c.args.walk.now.here.room c.requires.walk.room in
+    omega (arith, fits, ap length c.deref.ensures.value)
 
 pub returns : goal.returns
 returns g c =

@@ -9,8 +9,8 @@ copy_from-requires g c =
     let s = standing c.args.self.now.book.now c.args.self.now.prefix.now
     (g.S.SeqObject.spec object) c.args.walk.now.frames.items c.args.walk.now.counts.items
     c.args.walk.now.here.words c.args.place
-    w.begins (g.met.S.SeqObject.grows_by_one object) w.leads w.here.sound.0.may_come in
-    omega (arith, s.fits, c.requires.room)
+    w.begins w.leads w.here.sound.0.may_come in
+    (s.fits c.args.spare.now.room c.requires.room).here
 
 pub step-reply-requires : goal.step-reply-requires
 step-reply-requires g c =
@@ -19,8 +19,8 @@ step-reply-requires g c =
     let s = standing c.args.self.now.book.now c.args.self.now.prefix.now
     (g.S.SeqObject.spec object) c.args.walk.now.frames.items c.args.walk.now.counts.items
     c.args.walk.now.here.words c.args.place
-    w.begins (g.met.S.SeqObject.grows_by_one object) w.leads w.here.sound.0.may_come in
-    omega (arith, s.fits, w.room)
+    w.begins w.leads w.here.sound.0.may_come in
+    (s.fits c.args.walk.now.here.room w.room).after c.op-op.result
 
 pub set_count-requires : goal.set_count-requires
 set_count-requires g c =
@@ -29,5 +29,5 @@ set_count-requires g c =
     let s = standing c.args.self.now.book.now c.args.self.now.prefix.now
     (g.S.SeqObject.spec object) c.args.walk.now.frames.items c.args.walk.now.counts.items
     c.args.walk.now.here.words c.args.place
-    w.begins (g.met.S.SeqObject.grows_by_one object) w.leads w.here.sound.0.may_come in
+    w.begins w.leads w.here.sound.0.may_come in
     record { caller = s.caller; number = omega (arith, s.number) }

@@ -1,7 +1,7 @@
 use Rattle.std.proofs.Common.{◌≡◌, ◌^◌, [], refl, sym, subst}
-use Rattle.history_rules.specs.Container.{IsQueue, IsContainer}
-use Rattle.history_rules.proofs.QueueRuns.{stack_is_container}
-use Rattle.stack_pruning.specs.LastFirst.{GivesLastFirst}
+use Rattle.legal_orders.specs.Container.{IsQueue, IsContainer}
+use Rattle.legal_orders.proofs.QueueRuns.{stack_is_container}
+use Rattle.list_pruning.specs.LastFirst.{GivesLastFirst}
 use Rattle.seq_objects.specs.Objects.{kind_init, kind_next}
 use Rattle.kind_search.specs.Readings.{queue_reading, stack_reading}
 use Rattle.kind_search.proofs.Reading.{queue_is_read, stack_is_read}

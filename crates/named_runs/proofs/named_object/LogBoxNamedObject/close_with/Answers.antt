@@ -1,7 +1,7 @@
 use Rattle.std.proofs.Common.{◌∙◌, sym, ap, subst, ◌<◌}
 use Rattle.std.specs.List.{All, range_with_len}
-use Rattle.shared_log.specs.declared.entry.Entry.{Entry}
-use Rattle.lawful_objects.specs.Passes.{pairs_in}
+use Rattle.shared_words.specs.declared.entry.Entry.{Entry}
+use Rattle.test_objects.specs.Passes.{pairs_in}
 use Rattle.named_runs.proofs.ToldCalls.{logged_from_told}
 use Rattle.named_runs.proofs.named_object.LogBoxNamedObject.close_with.Goals as goal
 

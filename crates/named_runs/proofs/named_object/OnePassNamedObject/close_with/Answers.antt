@@ -1,5 +1,5 @@
-use Rattle.faulty_objects.specs.Forms.{IsQueueReply}
-use Rattle.faulty_objects.proofs.Forming.{one_passes_are_formed}
+use Rattle.test_objects.specs.FaultyForms.{IsQueueReply}
+use Rattle.test_objects.proofs.FaultyForming.{one_passes_are_formed}
 use Rattle.named_runs.proofs.ToldCalls.{words_are_formed}
 use Rattle.named_runs.proofs.named_object.OnePassNamedObject.close_with.Goals as goal
 

@@ -1,5 +1,5 @@
-use Rattle.lawful_objects.specs.Forms.{IsTallyReply}
-use Rattle.faulty_objects.proofs.Forming.{splits_are_formed}
+use Rattle.test_objects.specs.Forms.{IsTallyReply}
+use Rattle.test_objects.proofs.FaultyForming.{splits_are_formed}
 use Rattle.named_runs.proofs.ToldCalls.{words_are_formed}
 use Rattle.named_runs.proofs.named_object.SplitTallyNamedObject.close_with.Goals as goal
 

@@ -1,5 +1,5 @@
-use Rattle.lawful_objects.specs.Forms.{IsCellReply}
-use Rattle.lawful_objects.proofs.Forming.{cells_are_formed}
+use Rattle.test_objects.specs.Forms.{IsCellReply}
+use Rattle.test_objects.proofs.Forming.{cells_are_formed}
 use Rattle.named_runs.proofs.ToldCalls.{words_are_formed}
 use Rattle.named_runs.proofs.named_object.WordCellNamedObject.close_with.Goals as goal
 

@@ -7,27 +7,28 @@ use Rattle.seq_objects.specs.MapSteps.{map_operation, map_after}
 use Rattle.seq_objects.proofs.ReadOnly.{LeavesBy, Changes, value_is_small, tells_read_only, deleted_leaves, put_with_its_value_leaves, put_without_reply_leaves, put_first_changes, put_another_changes}
 use Rattle.seq_objects.proofs.map.MapSeqObject.leaves.Goals as goal
 
-pub returns-then-reply-value_reply : goal.returns-then-reply-value_reply
-returns-then-reply-value_reply c =
+pub returns-then-reply-wrapping_value_reply : goal.returns-then-reply-wrapping_value_reply
+returns-then-reply-wrapping_value_reply c =
     let asked : map_operation c.args.op ≡ Some (Put c.in-Some-Put.field-0-0 c.in-Some-Put.value) =
     sym c.from_word.ensures ∙ (c.in-Some-Put.is ∙ ap Some c.in-Some-Put.field-0-is) in
     let step : Option MapOperation → List ℕ → List ℕ × ℕ = λ o list. map_after list o in
-    subst (λ o. IsTrue (c.args.reply == c.value_reply.result) ↔ LeavesBy (step o) c.args.reply)
-    (sym asked)
-    (tells_read_only (c.args.reply == c.value_reply.result)
+    subst (λ o. IsTrue (c.args.reply == c.wrapping_value_reply.result)
+    ↔ LeavesBy (step o) c.args.reply) (sym asked)
+    (tells_read_only (c.args.reply == c.wrapping_value_reply.result)
     (step (Some (Put c.in-Some-Put.field-0-0 c.in-Some-Put.value))) c.args.reply
     (λ same. put_with_its_value_leaves c.in-Some-Put.field-0-0 c.in-Some-Put.value c.args.reply
     (value_is_small c.args.op c.in-Some-Put.field-0-0 c.in-Some-Put.value asked) (cc))
     (λ other.
-    absurd (eqb-false c.args.reply c.value_reply.result other c.if-reply-value_reply.true)))
+    absurd (eqb-false c.args.reply c.wrapping_value_reply.result other
+    c.if-reply-wrapping_value_reply.true)))
 
 pub returns-then-reply-ne-NONE : goal.returns-then-reply-ne-NONE
 returns-then-reply-ne-NONE c =
     let asked : map_operation c.args.op ≡ Some (Put c.in-Some-Put.field-0-0 c.in-Some-Put.value) =
     sym c.from_word.ensures ∙ (c.in-Some-Put.is ∙ ap Some c.in-Some-Put.field-0-is) in
     let step : Option MapOperation → List ℕ → List ℕ × ℕ = λ o list. map_after list o in
-    let value : c.value_reply.result ≡ reply_value c.in-Some-Put.value =
-    c.value_reply.ensures ∙ ap reply_value c.from.ensures in
+    let value : c.wrapping_value_reply.result ≡ reply_value c.in-Some-Put.value =
+    c.wrapping_value_reply.ensures ∙ ap reply_value c.from.ensures in
     subst (λ o. IsTrue (not c.is_value.result) ↔ LeavesBy (step o) c.args.reply) (sym asked)
     (tells_read_only (not c.is_value.result)
     (step (Some (Put c.in-Some-Put.field-0-0 c.in-Some-Put.value))) c.args.reply
@@ -37,7 +38,7 @@ returns-then-reply-ne-NONE c =
     (λ given. put_another_changes c.in-Some-Put.field-0-0 c.in-Some-Put.value c.args.reply
     (value_is_small c.args.op c.in-Some-Put.field-0-0 c.in-Some-Put.value asked) (eqb-true
     (c.args.reply / 2 ^ 32) 2 (sym c.is_value.ensures ∙ not-false c.is_value.result given))
-    (λ same. c.if-reply-value_reply.false (same ∙ sym value))))
+    (λ same. c.if-reply-wrapping_value_reply.false (same ∙ sym value))))
 
 pub returns-else-reply-ne-NONE : goal.returns-else-reply-ne-NONE
 returns-else-reply-ne-NONE c =

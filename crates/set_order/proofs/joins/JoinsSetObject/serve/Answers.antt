@@ -1,9 +1,20 @@
-use Rattle.std.proofs.Common.{◌≡◌, ◌∙◌, ℕ, List, [], ◌∷◌, ◌++◌, map, Bool, Some, sym, ap}
+use Rattle.std.proofs.Common.{◌≡◌, ◌∙◌, ℕ, List, [], ◌∷◌, ◌++◌, length, map, Bool, Some, sym, ap, arith}
 use Rattle.std.proofs.lemmas.List.{take_all}
 use Rattle.book_base.specs.State.{Contents}
 use Rattle.set_order.specs.Joins.{mask_of, with_joins, joins_some, list_joined, join_reply}
+use Rattle.set_order.proofs.Joining.{joined_room}
 use Rattle.set_order.proofs.joins.JoinsSetObject.serve.Goals as goal
 use Rattle.set_order.proofs.joins.JoinsSetObject.serve.Goals.{then-joins_some, else-joins_some}
+
+pub push-requires : goal.push-requires
+push-requires c =
+    omega (
+      arith,
+      joined_room c.args.state.now.words c.args.ops.now c.args.state.now.room
+          (sym c.joins_some.ensures ∙ c.if-joins_some.true) c.requires.room,
+      ap (λ (s : Contents). s.room) c.clear.ensures,
+      ap (λ (s : Contents). length s.words) c.clear.ensures,
+    )
 
 pub returns-clause-served : goal.returns-clause-served
 returns-clause-served c _ =

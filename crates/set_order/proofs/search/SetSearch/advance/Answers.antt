@@ -14,8 +14,7 @@ remember-requires-clause-wide g c =
     let old = c.args.walk.now in
     let s = standing (g.O.SetObject.init object) (g.O.SetObject.served object)
     c.args.self.now.book.now old.frames.items old.counts.items old.here.words c.requires.small
-    (g.met.O.SetObject.begins_small object)
-    (g.met.O.SetObject.grows_by_each object) c.requires.walk.leads in
+    c.requires.walk.leads in
     ap length c.deref.ensures.value ∙ (s.wide ∙ sym c.requires.walk.callers)
 
 pub retreat-requires-clause-walk : goal.retreat-requires-clause-walk

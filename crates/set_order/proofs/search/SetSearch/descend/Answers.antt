@@ -17,8 +17,7 @@ holds_answered-ended-requires g c =
     let old = c.args.walk.now in
     let s = standing (g.O.SetObject.init object) (g.O.SetObject.served object)
     c.args.self.now.book.now old.frames.items old.counts.items old.here.words c.requires.small
-    (g.met.O.SetObject.begins_small object)
-    (g.met.O.SetObject.grows_by_each object) c.requires.walk.leads in
+    c.requires.walk.leads in
     ap length (c.deref.ensures.value ∙ c.requires.counts)
     ∙ (raised-length old.counts.items c.args.set ∙ s.wide)
 
@@ -28,8 +27,7 @@ candidates-requires g c =
     let old = c.args.walk.now in
     let s = standing (g.O.SetObject.init object) (g.O.SetObject.served object)
     c.args.self.now.book.now old.frames.items old.counts.items old.here.words c.requires.small
-    (g.met.O.SetObject.begins_small object)
-    (g.met.O.SetObject.grows_by_each object) c.requires.walk.leads in
+    c.requires.walk.leads in
     ap length (c.deref-2.ensures.value ∙ c.requires.counts)
     ∙ (raised-length old.counts.items c.args.set ∙ s.wide)
 
@@ -38,9 +36,8 @@ copy_from-requires g c =
     let object = c.args.self.now.object.now in
     let fits = after_fits (g.O.SetObject.init object) (g.O.SetObject.served object)
     c.args.self.now.book.now c.args.walk.now c.args.set c.args.spare.now.words c.requires.small
-    (g.met.O.SetObject.begins_small object)
-    (g.met.O.SetObject.grows_by_each object) c.requires.walk c.requires.callers c.requires.stands in
-    omega (arith, fits, c.requires.walk.room)
+    c.requires.walk c.requires.stands in
+    fits c.args.walk.now.here.room c.requires.walk.room
 
 pub returns-then-ended : goal.returns-then-ended
 returns-then-ended g c =
@@ -143,7 +140,6 @@ returns-else-ended g c =
     candidates in
     record {
       outcome = walk-deeper (g.O.SetObject.init object) served book old new frame c.requires.small
-          (g.met.O.SetObject.begins_small object)
-          (g.met.O.SetObject.grows_by_each object) c.requires.walk deeper here
+          c.requires.walk deeper here
           (omega (arith, c.replace-left.ensures.after, c.greatest.ensures.few));
     }

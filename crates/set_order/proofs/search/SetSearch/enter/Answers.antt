@@ -11,7 +11,7 @@ raised-requires-clause-callers g c =
     let object = c.args.self.now.object.now in
     (set_fits (g.O.SetObject.init object) (g.O.SetObject.served object) c.args.self.now.book.now
     c.args.walk.now c.args.set c.args.spare.now.words c.requires.small
-    (g.met.O.SetObject.begins_small object) (g.met.O.SetObject.grows_by_each object) c.requires.walk
+    c.requires.walk
     c.requires.stands c.deref.result.now c.places.result.now
     c.deref.ensures.value c.places.ensures).callers
 
@@ -20,7 +20,7 @@ raised-requires-clause-numbers g c =
     let object = c.args.self.now.object.now in
     (set_fits (g.O.SetObject.init object) (g.O.SetObject.served object) c.args.self.now.book.now
     c.args.walk.now c.args.set c.args.spare.now.words c.requires.small
-    (g.met.O.SetObject.begins_small object) (g.met.O.SetObject.grows_by_each object) c.requires.walk
+    c.requires.walk
     c.requires.stands c.deref.result.now c.places.result.now
     c.deref.ensures.value c.places.ensures).numbers
 
@@ -51,8 +51,7 @@ is_lost-requires g c =
     let old = c.args.walk.now in
     let s = standing (g.O.SetObject.init object) (g.O.SetObject.served object)
     c.args.self.now.book.now old.frames.items old.counts.items old.here.words c.requires.small
-    (g.met.O.SetObject.begins_small object)
-    (g.met.O.SetObject.grows_by_each object) c.requires.walk.leads in
+    c.requires.walk.leads in
     let cut : c.deref-3.result.now ≡ raised_by old.counts.items c.args.set =
     c.deref-3.ensures.value
     ∙ (c.in_ok-counts.ensures ∙ (ap (λ (x : List ℕ). raised_by x c.places.result.now)

@@ -1,12 +1,11 @@
 use Rattle.std.proofs.Common.{◌≡◌}
 use Rattle.book_base.specs.declared.TheConstants.{MAX_CALLERS}
-use Rattle.set_order.specs.declared.walk.TheConstants.{CAPACITY}
 use Rattle.set_order.specs.Search.{IsWalk, weight}
 use Rattle.set_order.proofs.search.SetSearch.go_on.Given as goal
 
 abbrev pub invariant-steps : goal.invariant-steps
 invariant-steps g l = record {
-  spare : l.spare.room ≡ CAPACITY;
+  spare : l.spare.room ≡ l.fn.spare.room;
   replies : l.replies.room ≡ MAX_CALLERS;
   walk : IsWalk (g.O.SetObject.init l.self.object.now)
       (g.O.SetObject.served l.self.object.now) l.self.book.now l.walk;

@@ -4,7 +4,7 @@ use Rattle.book_base.specs.declared.call.Call.{Call}
 use Rattle.book_base.specs.Book.{IsAnswered, Precedes}
 use Rattle.book_base.proofs.PageLemmas.{caller_from_answer}
 use Rattle.book_base.specs.Next.{next_call, MayComeNext}
-use Rattle.book_laws.proofs.Precedence.{may_come_next-from_first}
+use Rattle.legal_orders.proofs.Precedence.{may_come_next-from_first}
 use Rattle.set_order.proofs.search.SetSearch.may_come.Goals as goal
 
 pub returns-then-precedes : goal.returns-then-precedes

@@ -1,4 +1,4 @@
-use Rattle.std.proofs.Common.{◌≡◌, ◌∙◌, ℕ, List, Some, None, length, sym, ap, subst, arith}
+use Rattle.std.proofs.Common.{◌≡◌, ◌≤◌, ◌∙◌, ℕ, List, Some, None, length, sym, ap, subst, arith}
 use Rattle.std.proofs.lemmas.List.{length-map}
 use Rattle.book_base.specs.declared.call.Place.{Place}
 use Rattle.book_base.specs.Book.{Page}
@@ -13,8 +13,7 @@ operations-requires-clause-inside g c =
     let object = c.args.self.now.object.now in
     let w = walk-part (g.O.SetObject.init object)
     (g.O.SetObject.served object) c.args.self.now.book.now c.args.walk.now c.requires.small
-    (g.met.O.SetObject.begins_small object)
-    (g.met.O.SetObject.grows_by_each object) c.requires.walk c.requires.left in
+    c.requires.walk c.requires.left in
     (part_fits c.args.self.now.book.now c.args.walk.now.counts.items
     (picked c.args.walk.now.left c.args.walk.now.callers.items) w.wide w.part c.deref-2.result.now
     c.deref-3.result.now
@@ -26,8 +25,7 @@ operations-requires-clause-calls g c =
     let object = c.args.self.now.object.now in
     let w = walk-part (g.O.SetObject.init object)
     (g.O.SetObject.served object) c.args.self.now.book.now c.args.walk.now c.requires.small
-    (g.met.O.SetObject.begins_small object)
-    (g.met.O.SetObject.grows_by_each object) c.requires.walk c.requires.left in
+    c.requires.walk c.requires.left in
     (part_fits c.args.self.now.book.now c.args.walk.now.counts.items
     (picked c.args.walk.now.left c.args.walk.now.callers.items) w.wide w.part c.deref-2.result.now
     c.deref-3.result.now
@@ -39,9 +37,8 @@ copy_from-requires g c =
     let object = c.args.self.now.object.now in
     let w = walk-part (g.O.SetObject.init object)
     (g.O.SetObject.served object) c.args.self.now.book.now c.args.walk.now c.requires.small
-    (g.met.O.SetObject.begins_small object)
-    (g.met.O.SetObject.grows_by_each object) c.requires.walk c.requires.left in
-    omega (arith, w.words, c.requires.spare)
+    c.requires.walk c.requires.left in
+    w.here c.args.spare.now.room c.requires.spare
 
 -- how many operations there are
 ops_long : (book : List Page) (cut part ops : List ℕ) → ops ≡ next_operations book cut part
@@ -53,8 +50,7 @@ serve-requires-clause-some g c =
     let object = c.args.self.now.object.now in
     let w = walk-part (g.O.SetObject.init object)
     (g.O.SetObject.served object) c.args.self.now.book.now c.args.walk.now c.requires.small
-    (g.met.O.SetObject.begins_small object)
-    (g.met.O.SetObject.grows_by_each object) c.requires.walk c.requires.left in
+    c.requires.walk c.requires.left in
     let long = ops_long c.args.self.now.book.now c.deref-2.result.now c.deref-3.result.now
     c.deref-4.result.now (c.deref-4.ensures.value ∙ c.in_ok-operations.ensures) in
     omega (
@@ -70,29 +66,23 @@ serve-requires-clause-room g c =
     let object = c.args.self.now.object.now in
     let w = walk-part (g.O.SetObject.init object)
     (g.O.SetObject.served object) c.args.self.now.book.now c.args.walk.now c.requires.small
-    (g.met.O.SetObject.begins_small object)
-    (g.met.O.SetObject.grows_by_each object) c.requires.walk c.requires.left in
+    c.requires.walk c.requires.left in
     let long = ops_long c.args.self.now.book.now c.deref-2.result.now c.deref-3.result.now
     c.deref-4.result.now (c.deref-4.ensures.value ∙ c.in_ok-operations.ensures) in
-    omega (
-      arith,
-      w.words,
-      w.few,
-      long,
-      ap (λ (x : List ℕ). length x) (c.deref-3.ensures.value
-          ∙ (c.in_ok-part.ensures ∙ ap (picked c.args.walk.now.left) c.deref.ensures.value)),
-      ap (λ (s : Contents). length s.words) c.copy_from.ensures,
-      ap (λ (s : Contents). s.room) c.copy_from.ensures,
-      c.requires.spare,
-    )
+    λ after replies is. subst (λ (n : ℕ). length after ≤ n)
+    (sym (ap (λ (s : Contents). s.room) c.copy_from.ensures))
+    (w.fits c.args.spare.now.room c.requires.spare c.deref-4.result.now after replies
+    (long ∙ ap (λ (x : List ℕ). length x) (c.deref-3.ensures.value
+    ∙ (c.in_ok-part.ensures ∙ ap (picked c.args.walk.now.left) c.deref.ensures.value)))
+    (ap (λ (l : List ℕ). g.O.SetObject.served object l c.deref-4.result.now)
+    (sym (ap (λ (s : Contents). s.words) c.copy_from.ensures)) ∙ is))
 
 pub serve-requires-clause-replies : goal.serve-requires-clause-replies
 serve-requires-clause-replies g c =
     let object = c.args.self.now.object.now in
     let w = walk-part (g.O.SetObject.init object)
     (g.O.SetObject.served object) c.args.self.now.book.now c.args.walk.now c.requires.small
-    (g.met.O.SetObject.begins_small object)
-    (g.met.O.SetObject.grows_by_each object) c.requires.walk c.requires.left in
+    c.requires.walk c.requires.left in
     let long = ops_long c.args.self.now.book.now c.deref-2.result.now c.deref-3.result.now
     c.deref-4.result.now (c.deref-4.ensures.value ∙ c.in_ok-operations.ensures) in
     omega (
@@ -128,8 +118,7 @@ places-requires-clause-inside g c =
     let object = c.args.self.now.object.now in
     let w = walk-part (g.O.SetObject.init object)
     (g.O.SetObject.served object) c.args.self.now.book.now c.args.walk.now c.requires.small
-    (g.met.O.SetObject.begins_small object)
-    (g.met.O.SetObject.grows_by_each object) c.requires.walk c.requires.left in
+    c.requires.walk c.requires.left in
     (part_fits c.args.self.now.book.now c.args.walk.now.counts.items
     (picked c.args.walk.now.left c.args.walk.now.callers.items) w.wide w.part c.deref-5.result.now
     c.deref-6.result.now
@@ -141,8 +130,7 @@ places-requires-clause-calls g c =
     let object = c.args.self.now.object.now in
     let w = walk-part (g.O.SetObject.init object)
     (g.O.SetObject.served object) c.args.self.now.book.now c.args.walk.now c.requires.small
-    (g.met.O.SetObject.begins_small object)
-    (g.met.O.SetObject.grows_by_each object) c.requires.walk c.requires.left in
+    c.requires.walk c.requires.left in
     (part_fits c.args.self.now.book.now c.args.walk.now.counts.items
     (picked c.args.walk.now.left c.args.walk.now.callers.items) w.wide w.part c.deref-5.result.now
     c.deref-6.result.now
@@ -174,8 +162,7 @@ returns-clause-some g c =
     let list : List ℕ = c.args.walk.now.here.words in
     let part : List ℕ = picked c.args.walk.now.left c.args.walk.now.callers.items in
     let w = walk-part (g.O.SetObject.init object) served book c.args.walk.now c.requires.small
-    (g.met.O.SetObject.begins_small object)
-    (g.met.O.SetObject.grows_by_each object) c.requires.walk c.requires.left in
+    c.requires.walk c.requires.left in
     let part_is : c.in_ok-part.part.items ≡ part =
     c.in_ok-part.ensures ∙ ap (picked c.args.walk.now.left) c.deref.ensures.value in
     let ops : c.deref-4.result.now ≡ next_operations book cut part =

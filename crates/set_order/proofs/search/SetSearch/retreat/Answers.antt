@@ -18,9 +18,8 @@ load-requires g c =
     let object = c.args.self.now.object.now in
     let fits = last_level (g.O.SetObject.init object) (g.O.SetObject.served object)
     c.args.self.now.book.now c.args.walk.now c.pop.new.self.items c.in-Some.frame c.requires.small
-    (g.met.O.SetObject.begins_small object)
-    (g.met.O.SetObject.grows_by_each object) c.requires.walk c.in-Some.ensures.items in
-    omega (arith, fits, c.requires.walk.room, ap length c.deref.ensures.value)
+    c.requires.walk c.in-Some.ensures.items c.args.walk.now.here.room c.requires.walk.room in
+    omega (arith, fits, ap length c.deref.ensures.value)
 
 pub returns : goal.returns
 returns g c =

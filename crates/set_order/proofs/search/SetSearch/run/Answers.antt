@@ -5,9 +5,10 @@ use Rattle.book_base.specs.State.{Contents}
 use Rattle.book_base.specs.Next.{HoldsAnswered}
 use Rattle.set_order.specs.SetOrder.{IsLegalSetOrder}
 use Rattle.set_order.specs.declared.walk.SetWalk.{SetWalk}
-use Rattle.set_order.specs.Search.{no_calls, AreCandidates, IsOpen}
+use Rattle.set_order.specs.declared.walk.TheConstants.{MOST_CALLS}
+use Rattle.set_order.specs.Search.{IsBookCapacity, no_calls, AreCandidates, IsOpen}
 use Rattle.set_order.proofs.Trying.{open-start}
-use Rattle.set_order.proofs.Leading.{legal-from_leads}
+use Rattle.set_order.proofs.Leading.{suffices-list, legal-from_leads}
 use Rattle.set_order.proofs.Walking.{walk-start, nothing_remembered}
 use Rattle.set_order.proofs.search.SetSearch.run.Goals as goal
 
@@ -25,6 +26,12 @@ returns-then-holds_answered-clause-found g c =
     subst (λ (order : List (List Place)). IsLegalSetOrder init served book order)
     (sym c.new.ensures.items)
     (legal-from_leads init served book [] (no_calls book) init (refl, refl) all)
+
+pub reset-requires : goal.reset-requires
+reset-requires g c =
+    let object = c.args.self.now.object.now in
+    suffices-list (g.O.SetObject.served object) (g.O.SetObject.init object) MOST_CALLS
+    c.in_ok-here.here.room c.in_ok-here.ensures
 
 pub go_on-requires-clause-walk : goal.go_on-requires-clause-walk
 go_on-requires-clause-walk g c =
@@ -56,7 +63,8 @@ go_on-requires-clause-walk g c =
     served book counts walk.here.words walk.callers.items walk.left whole unended candidates in
     walk-start init served book walk c.new-2.ensures.items start
     (ap (λ (s : Contents). s.words) c.reset.ensures)
-    (ap (λ (s : Contents). s.room) c.reset.ensures
-    ∙ ap (λ (s : Contents). s.room) c.in_ok-here.ensures) c.new-3.ensures.memo
+    (subst (λ (n : ℕ). IsBookCapacity init served n)
+    (sym (ap (λ (s : Contents). s.room) c.reset.ensures)) c.in_ok-here.ensures)
+    c.new-3.ensures.memo
     (c.new-3.ensures.callers ∙ c.callers-callers.ensures.count)
     (nothing_remembered c.new-3.result c.new-3.ensures.empty) here

@@ -1,6 +1,6 @@
 use Rattle.std.proofs.Common.{◌≡◌, ℕ, ◌+◌, ◌<◌, ◌≤◌, [], Some, vec_len, vec_capacity}
 use Rattle.std.specs.List.{All}
-use Rattle.shared_log.specs.Holders.{has}
+use Rattle.shared_words.specs.Holders.{has}
 use Rattle.shared_words.proofs.Dealing.{AreDealt}
 use Rattle.shared_words.proofs.shared_words.SharedWords.deal.Given as goal
 

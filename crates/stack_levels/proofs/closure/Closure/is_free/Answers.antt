@@ -1,7 +1,7 @@
 use Rattle.std.proofs.Common.{ℕ, Option, sym, subst}
 use Rattle.std.proofs.lemmas.Bool.{not-true}
 use Rattle.std.specs.Option.{IfSome}
-use Rattle.history_rules.specs.Calls.{IsNeverTaken}
+use Rattle.legal_orders.specs.Calls.{IsNeverTaken}
 use Rattle.stack_levels.proofs.closure.Closure.is_free.Goals as goal
 
 pub returns-in-Some : goal.returns-in-Some

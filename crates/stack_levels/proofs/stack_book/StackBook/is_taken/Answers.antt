@@ -1,5 +1,5 @@
 use Rattle.std.proofs.Common.{ℕ, List, replicate, sym, subst}
-use Rattle.value_pruning.specs.HoldsLast.{IsRead}
+use Rattle.list_pruning.specs.HoldsLast.{IsRead}
 use Rattle.stack_levels.proofs.Closing.{never_taken}
 use Rattle.stack_levels.proofs.stack_book.StackBook.is_taken.Goals as goal
 

@@ -10,5 +10,5 @@ returns-then-not-known c =
 
 pub returns : goal.returns
 returns c =
-    subst (IsPossible Counter c.args.op) (sym c.value_reply.ensures)
+    subst (IsPossible Counter c.args.op) (sym c.wrapping_value_reply.ensures)
     (increment-possible c.from.result c.args.op (sym c.known.ensures ∙ c.if-not-known.false))

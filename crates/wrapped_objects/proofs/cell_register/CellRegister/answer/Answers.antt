@@ -12,7 +12,7 @@ returns-in-Some-Write c =
 
 pub returns-in-Some-Read : goal.returns-in-Some-Read
 returns-in-Some-Read c =
-    subst (IsPossible Register c.args.op) (sym c.value_reply.ensures)
+    subst (IsPossible Register c.args.op) (sym c.wrapping_value_reply.ensures)
     (read-possible c.from.result c.args.op
     (sym (ap register_word c.in-Some-Read.field-0-is) ∙ c.in-Some-Read.ensures.found))
 

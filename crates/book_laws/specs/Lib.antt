@@ -1,3 +1,0 @@
-pub mod BooksAtCuts
-pub mod Finality
-pub mod Greatest

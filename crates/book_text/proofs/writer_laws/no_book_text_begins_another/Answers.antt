@@ -1,0 +1,5 @@
+use Rattle.book_text.proofs.Prefixes.{no_prefix}
+use Rattle.book_text.proofs.writer_laws.no_book_text_begins_another.Goals as goal
+
+pub returns : goal.returns
+returns c = no_prefix

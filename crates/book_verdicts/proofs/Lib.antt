@@ -1,3 +1,0 @@
-mod Answers
-pub mod BookLemmas
-pub mod CertificateLemmas

@@ -1,5 +1,0 @@
-use Rattle.book_writer.proofs.Prefixes.{no_sketch_prefix}
-use Rattle.book_writer.proofs.laws.no_sketch_text_begins_another.Goals as goal
-
-pub returns : goal.returns
-returns c = no_sketch_prefix

@@ -1,5 +1,0 @@
-use Rattle.book_writer.proofs.Prefixes.{written_is_one}
-use Rattle.book_writer.proofs.laws.written_books_are_one.Goals as goal
-
-pub returns : goal.returns
-returns c = written_is_one

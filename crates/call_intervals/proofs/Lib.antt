@@ -1,2 +1,0 @@
-pub mod IntervalLemmas
-pub mod LaneLemmas

@@ -1,9 +1,0 @@
-use Rattle.std.proofs.Common.{◌-◌, length}
-use Rattle.call_intervals.specs.Intervals.{StandsFrom}
-use Rattle.call_intervals.proofs.place.place_from.Given as goal
-
-abbrev pub invariant-loop-event : goal.invariant-loop-event
-invariant-loop-event l = StandsFrom l.events l.place l.event
-
-abbrev pub decreases-loop-event : goal.decreases-loop-event
-decreases-loop-event l = length l.events - l.place

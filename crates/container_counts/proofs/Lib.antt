@@ -1,4 +1,0 @@
-pub mod Entries
-pub mod Counting
-pub mod Holding
-pub mod Refuting

@@ -1,5 +1,0 @@
-use Rattle.container_counts.proofs.Counting.{less-counts}
-use Rattle.container_counts.proofs.counts.puts_are_ahead.Goals as goal
-
-pub returns : goal.returns
-returns c told = less-counts _ _ _ _ (c.is_less.ensures told) c.count.ensures c.count-2.ensures

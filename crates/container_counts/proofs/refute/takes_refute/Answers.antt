@@ -1,8 +1,0 @@
-use Rattle.std.proofs.Common.{arith}
-use Rattle.container_counts.proofs.Refuting.{takes-refute}
-use Rattle.container_counts.proofs.refute.takes_refute.Goals as goal
-
-pub returns : goal.returns
-returns c told =
-    takes-refute c.args.table.now c.args.values.now c.args.moment (omega arith)
-    (c.takes_are_ahead.ensures told)

@@ -1,4 +1,0 @@
-pub mod Container
-pub mod Calls
-pub mod Rules
-pub mod Standing

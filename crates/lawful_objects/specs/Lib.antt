@@ -1,8 +1,0 @@
-pub mod Scratches
-pub mod Replays
-pub mod Pairs
-pub mod Passes
-pub mod Equipment
-pub mod Forms
-pub mod WordObjects
-pub mod Together

@@ -1,5 +1,0 @@
-use Rattle.lawful_reports.proofs.Orders.{delivered_replies_stand_in_one_order as law}
-use Rattle.lawful_reports.proofs.laws.delivered_replies_stand_in_one_order.Goals as goal
-
-pub returns : goal.returns
-returns c = law

@@ -1,0 +1,10 @@
+pub mod BooksAtCuts
+pub mod Finality
+pub mod Greatest
+pub mod Container
+pub mod Calls
+pub mod Rules
+pub mod Standing
+pub mod Twins
+pub mod Idle
+pub mod Keys

@@ -1,0 +1,15 @@
+pub mod Moving
+pub mod Placing
+pub mod Taking
+pub mod Putting
+pub mod Listing
+pub mod LeastViews
+pub mod Writing
+pub mod Wanting
+pub mod NextOrLater
+pub mod Stepping
+pub mod StackTaking
+pub mod Pairing
+pub mod Keeping
+pub mod Answering
+pub mod Representing

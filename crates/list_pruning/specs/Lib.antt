@@ -1,0 +1,4 @@
+pub mod Sights
+pub mod LeastFirst
+pub mod HoldsLast
+pub mod LastFirst

@@ -1,9 +1,0 @@
-use Rattle.log_program.proofs.LogEffects.{logs_linearize}
-use Rattle.log_program.proofs.LogOrders.{log_orders_are_of_tickets}
-use Rattle.log_program.proofs.laws.logs_linearize.Goals as goal
-
-pub returns-clause-linearizable : goal.returns-clause-linearizable
-returns-clause-linearizable c = logs_linearize
-
-pub returns-clause-order : goal.returns-clause-order
-returns-clause-order c = log_orders_are_of_tickets

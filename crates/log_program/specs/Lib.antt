@@ -1,4 +1,0 @@
-pub mod LogWords
-pub mod LogProgram
-pub mod LogEffects
-pub mod LogRules

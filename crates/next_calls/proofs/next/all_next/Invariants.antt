@@ -1,5 +1,0 @@
-use Rattle.next_calls.proofs.Least.{MarksNextBelow}
-use Rattle.next_calls.proofs.next.all_next.Given as goal
-
-abbrev pub invariant-loop-caller : goal.invariant-loop-caller
-invariant-loop-caller l = MarksNextBelow l.book l.cut l.caller l.marks

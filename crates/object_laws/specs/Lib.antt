@@ -1,5 +1,0 @@
-pub mod Runs
-pub mod CounterRuns
-pub mod RegisterRuns
-pub mod SetRuns
-pub mod Removals

@@ -1,5 +1,0 @@
-use Rattle.report_laws.proofs.Worlds.{worlds_are_lawful}
-use Rattle.report_laws.proofs.laws.lawful_from_worlds.Goals as goal
-
-pub returns : goal.returns
-returns c = worlds_are_lawful

@@ -1,5 +1,0 @@
-use Rattle.report_laws.proofs.Runs.{seen_cuts_were_published}
-use Rattle.report_laws.proofs.laws.seen_cuts_were_published.Goals as goal
-
-pub returns : goal.returns
-returns c = seen_cuts_were_published

@@ -1,4 +1,0 @@
-pub mod Steps
-pub mod Telling
-pub mod Working
-pub mod Reporting

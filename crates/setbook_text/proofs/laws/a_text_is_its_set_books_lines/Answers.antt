@@ -1,5 +1,0 @@
-use Rattle.setbook_text.proofs.WrittenTexts as from
-use Rattle.setbook_text.proofs.laws.a_text_is_its_set_books_lines.Goals as goal
-
-pub returns : goal.returns
-returns c = λ bytes book. (from.written_is_read bytes book, from.read_is_written bytes book)

@@ -1,4 +1,0 @@
-pub mod JoinWords
-pub mod JoinLaws
-pub mod SetBookRules
-pub mod Grammar

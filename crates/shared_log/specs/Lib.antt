@@ -1,6 +1,0 @@
-pub mod Entries
-pub mod Words
-pub mod Holders
-pub mod Hands
-pub mod Rule
-pub mod Seats

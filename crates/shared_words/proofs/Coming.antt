@@ -1,0 +1,127 @@
+-- The seats of all callers come back to one seat, the last first, and its view has what they know.
+use Rattle.std.proofs.Common.{◌≡◌, ℕ, zero, suc, ◌+◌, ◌<◌, List, [], ◌∷◌, ◌++◌, length, map, slice_set, Option, Some, None, refl, sym, ap, ◌∙◌, subst, arith, append_assoc, length-append, length-set}
+use Rattle.std.specs.List.{All, range_with_len}
+use Rattle.std.proofs.lemmas.Option.{none-some}
+use Rattle.std.proofs.lemmas.List.{nil_from_length}
+use Rattle.std.proofs.lemmas.List.Elements.{All-cons, All-nil, All-weaker}
+use Rattle.shared_words.specs.Holders.{has, only}
+use Rattle.shared_words.proofs.Holding.{only_here, length-only, with_here, with_else}
+
+-- A suffix of the seats of n callers came back: a view has what each of them knows, and nothing of
+-- the others.
+pub record IsComing {S A : Type 0} (caller : S → ℕ) (known : S → A) (n : ℕ)
+    (all rest gathered : List S) (v : List (Option A)) : Type 0 where
+  pub split : all ≡ rest ++ gathered
+  pub hands : All (λ s. has v (caller s) ≡ Some (known s)) gathered
+  pub below : (i : ℕ) → i < length rest → has v i ≡ None
+  pub wide : length v ≡ n
+
+module _ {S A : Type 0} (caller : S → ℕ) (known : S → A) where
+  only_below : (who i : ℕ) (x : A) → i < who → has (only who x) i ≡ None
+  only_below zero i x low = absurd (omega arith)
+  only_below (suc who) zero x low = refl
+  only_below (suc who) (suc i) x low = only_below who i x (omega arith)
+
+  callers_count : (a n : ℕ) (xs : List S) → map caller xs ≡ range_with_len a n → length xs ≡ n
+  callers_count a zero [] e = refl
+  callers_count a zero (x ∷ xs) e = absurd (let long = ap length e in omega arith)
+  callers_count a (suc n) [] e = absurd (let long = ap length e in omega arith)
+  callers_count a (suc n) (x ∷ xs) e = let rest : map caller xs ≡ range_with_len (a + 1) n = cc in
+      ap suc (callers_count (a + 1) n xs rest)
+
+  -- in seats that are in order, a seat's caller is its place
+  caller_at : (a n : ℕ) (xs ys : List S) (s : S) → map caller (xs ++ s ∷ ys) ≡ range_with_len a n
+      → (caller s ≡ a + length xs) × (length xs + suc (length ys) ≡ n)
+  caller_at a zero [] ys s e = absurd (let long = ap length e in omega arith)
+  caller_at a zero (x ∷ xs) ys s e = absurd (let long = ap length e in omega arith)
+  caller_at a (suc n) [] ys s e =
+      let head : caller s ≡ a = cc in
+      let tail : map caller ys ≡ range_with_len (a + 1) n = cc in (
+        (let same = head in omega arith),
+        (let long = callers_count (a + 1) n ys tail in omega arith),
+      )
+  caller_at a (suc n) (x ∷ xs) ys s e =
+      let tail : map caller (xs ++ s ∷ ys) ≡ range_with_len (a + 1) n = cc in
+      let deeper = caller_at (a + 1) n xs ys s tail in
+      ((let same = deeper.0 in omega arith), (let long = deeper.1 in omega arith))
+
+  -- coming back begins with the last caller's seat, to which the others come back
+  pub starts_coming : (n : ℕ) (all rest : List S) (last : S) (v : List (Option A)) → all ≡ rest
+      ++ last ∷ [] → map caller all ≡ range_with_len 0 n → v ≡ only (caller last) (known last)
+      → IsComing caller known n all rest (last ∷ []) v
+  starts_coming n all rest last v is callers alone =
+      let at = caller_at 0 n rest [] last (ap (map caller) (sym is) ∙ callers) in
+      let who : caller last ≡ length rest = (let place = at.0 in omega arith) in
+      let here : has v (caller last) ≡ Some (known last) = ap
+      (λ (w : List (Option A)). has w (caller last)) alone ∙ only_here (caller last) (known last) in
+      record {
+        split = is;
+        hands = All-cons (λ s. has v (caller s) ≡ Some (known s)) last [] here
+            (All-nil (λ s. has v (caller s) ≡ Some (known s)));
+        below = λ i low. ap (λ (w : List (Option A)). has w i) alone
+            ∙ only_below (caller last) i (known last) (omega arith);
+        wide =
+            let long = length-only (caller last) (known last) in
+            let same = ap (λ (w : List (Option A)). length w) alone in
+            let count = at.1 in
+            omega arith;
+      }
+
+  -- one more seat comes back
+  module _ (n : ℕ) (all rest rest' gathered : List S) (s : S) (v : List (Option A))
+      (callers : map caller all ≡ range_with_len 0 n)
+      (h : IsComing caller known n all rest gathered v) (popped : rest ≡ rest' ++ s ∷ []) where
+    pub split_next : all ≡ rest' ++ s ∷ gathered
+    split_next =
+        h.split ∙ ap (λ (r : List S). r ++ gathered) popped ∙ append_assoc rest' (s ∷ []) gathered
+
+    place : (caller s ≡ 0 + length rest') × (length rest' + suc (length gathered) ≡ n)
+    place = caller_at 0 n rest' gathered s (ap (map caller) (sym split_next) ∙ callers)
+
+    next_low : caller s < length rest
+    next_low = let at = place.0 in let long = ap length popped in
+        omega (arith, length-append rest' (s ∷ []))
+
+    -- the view lacks the caller that comes back next, and has a place for it
+    pub next_gone : has v (caller s) ≡ None
+    next_gone = h.below (caller s) next_low
+
+    pub next_inside : caller s < length v
+    next_inside = (let at = place.0 in let count = place.1 in let wide = h.wide in omega arith)
+
+    module _ (u : List (Option A)) (after : u ≡ slice_set v (caller s) (Some (known s))) where
+      abbrev Has : S → Type 0
+      Has t = has u (caller t) ≡ Some (known t)
+
+      own_known : Has s
+      own_known = ap (λ (w : List (Option A)). has w (caller s)) after
+          ∙ with_here v (caller s) (known s) next_inside
+
+      other_known : (t : S) → has v (caller t) ≡ Some (known t) → Has t
+      other_known t was =
+          ap (λ (w : List (Option A)). has w (caller t)) after
+          ∙ with_else v (caller s) (caller t) (known s)
+          (λ same. none-some (known t) (sym (ap (has v) same ∙ next_gone) ∙ was))
+          ∙ was
+
+      pub more_coming : IsComing caller known n all rest' (s ∷ gathered) u
+      more_coming =
+          record {
+            split = split_next;
+            hands = All-cons Has s gathered own_known (All-weaker
+                (λ t. has v (caller t) ≡ Some (known t)) Has other_known gathered h.hands);
+            below = λ i low.
+                ap (λ (w : List (Option A)). has w i) after
+                ∙ with_else v (caller s) i (known s)
+                (λ same. absurd (let at = place.0 in omega arith))
+                ∙ h.below i
+                (let long = ap length popped in omega (arith, length-append rest' (s ∷ [])));
+            wide = ap (λ (w : List (Option A)). length w) after
+                ∙ length-set v (caller s) (Some (known s)) ∙ h.wide;
+          }
+
+  -- all seats have come back
+  pub all_came : (n : ℕ) (all rest gathered : List S) (v : List (Option A))
+      → IsComing caller known n all rest gathered v → length rest ≡ 0 → gathered ≡ all
+  all_came n all rest gathered v h none =
+      sym (h.split ∙ ap (λ (r : List S). r ++ gathered) (nil_from_length rest none))

@@ -1,0 +1,13 @@
+pub mod Replaying
+pub mod Pairing
+pub mod Telling
+pub mod Equipping
+pub mod Forming
+pub mod Counting
+pub mod Together
+pub mod Answering
+pub mod Waiting
+pub mod Naming
+pub mod FaultyForming
+pub mod Raising
+pub mod FaultyTogether

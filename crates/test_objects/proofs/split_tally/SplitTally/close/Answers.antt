@@ -1,0 +1,21 @@
+use Rattle.test_objects.specs.Forms.{cell_may}
+use Rattle.test_objects.specs.FaultyForms.{IsSplit}
+use Rattle.shared_words.proofs.Closing.{seats_of, of_one_history}
+use Rattle.test_objects.proofs.FaultyTogether.{one_split}
+use Rattle.test_objects.proofs.split_tally.SplitTally.close.Goals as goal
+
+pub close-requires-clause-seats : goal.close-requires-clause-seats
+close-requires-clause-seats c =
+    seats_of cell_may (λ _. IsSplit) c.args.self.words c.args.passes.items c.requires.own
+
+pub returns : goal.returns
+returns c =
+    let known = c.close.ensures.history in
+    record {
+      history = (
+        known.0,
+        one_split _ known.0 _ (of_one_history cell_may
+            (λ _. IsSplit) c.args.self.words _ known.0 c.args.passes.items c.requires.callers
+            c.requires.own known.1),
+      );
+    }

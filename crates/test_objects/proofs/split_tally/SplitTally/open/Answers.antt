@@ -1,0 +1,12 @@
+use Rattle.test_objects.specs.Forms.{cell_may}
+use Rattle.test_objects.specs.FaultyForms.{IsSplit}
+use Rattle.shared_words.proofs.Dealing.{new_are_own, new_are_fresh}
+use Rattle.test_objects.proofs.split_tally.SplitTally.open.Goals as goal
+
+pub returns-clause-own : goal.returns-clause-own
+returns-clause-own c = new_are_own cell_may
+    (λ _. IsSplit) c.in_ok-words.words c.in_ok-words.passes.items c.in_ok-words.ensures.new
+
+pub returns-clause-fresh : goal.returns-clause-fresh
+returns-clause-fresh c = new_are_fresh c.in_ok-words.words c.args.cap c.in_ok-words.passes.items
+    c.in_ok-words.ensures.words.1 c.in_ok-words.ensures.new

@@ -1,0 +1,14 @@
+use Rattle.std.proofs.Common.{◌≡◌, ◌+◌, ◌≤◌, length, drop}
+use Rattle.test_objects.specs.Replays.{list_after}
+use Rattle.test_objects.specs.Twice.{without_takes}
+use Rattle.test_objects.proofs.twice.Twice.replay.Given as goal
+
+abbrev pub invariant-loop-entry : goal.invariant-loop-entry
+invariant-loop-entry g l =
+    record {
+      room : l.state.room ≡ l.fn.state.room;
+      length : length l.state.words ≤ length l.fn.state.words + l.entry-index;
+      list : list_after (g.S.SeqObject.spec l.self.object).next l.state.words
+          (without_takes (drop l.entry-index l.log)) ≡ list_after
+          (g.S.SeqObject.spec l.self.object).next l.fn.state.words (without_takes l.fn.log);
+    }

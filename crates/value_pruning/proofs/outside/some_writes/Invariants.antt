@@ -1,8 +1,0 @@
-use Rattle.std.proofs.Common.{ℕ, ◌≡◌, ◌<◌, Some, slice_get}
-use Rattle.book_base.specs.declared.call.Call.{Call}
-use Rattle.value_pruning.specs.HoldsLast.{WritesOutside}
-use Rattle.value_pruning.proofs.outside.some_writes.Given as goal
-
-abbrev pub invariant-loop-k : goal.invariant-loop-k
-invariant-loop-k g l = (j : ℕ) (call : Call) → j < l.k → slice_get l.calls j ≡ Some call
-    → WritesOutside (g.R.Reader.reading l.reader) l.book l.cut l.value call → ⊥

@@ -1,9 +1,0 @@
-use Rattle.std.proofs.Common.{refl}
-use Rattle.value_pruning.proofs.Listing.{has_put}
-use Rattle.value_pruning.proofs.sight.list_put.Goals as goal
-
-pub returns : goal.returns
-returns c =
-    has_put c.args.sight.now c.place_for.new.sight _ c.args.value c.in_ok-place.place c.args.call
-    c.index_mut.result.now _ c.in_ok-place.ensures c.index_mut.ensures.value (λ w. refl) refl
-    c.in_ok-push.ensures.items refl

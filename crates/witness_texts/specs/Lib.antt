@@ -1,3 +1,0 @@
-pub mod Explaining
-pub mod Marking
-pub mod Texts

@@ -1,5 +1,0 @@
-use Rattle.world_books.proofs.NoFalseErrors.{runs_have_their_histories}
-use Rattle.world_books.proofs.linearizing.runs_have_their_histories.Goals as goal
-
-pub returns : goal.returns
-returns c = runs_have_their_histories

@@ -1,5 +1,0 @@
-use Rattle.world_books.proofs.Judging.{delivered_calls_stand_in_one}
-use Rattle.world_books.proofs.verdicts.delivered_calls_stand_in_one.Goals as goal
-
-pub returns : goal.returns
-returns c = delivered_calls_stand_in_one

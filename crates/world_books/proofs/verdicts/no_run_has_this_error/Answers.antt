@@ -1,8 +1,0 @@
-use Rattle.world_books.proofs.Judging.{no_run_has_this_error, no_run_has_this_error_seen}
-use Rattle.world_books.proofs.verdicts.no_run_has_this_error.Goals as goal
-
-pub returns-clause-cuts : goal.returns-clause-cuts
-returns-clause-cuts c = no_run_has_this_error
-
-pub returns-clause-seen : goal.returns-clause-seen
-returns-clause-seen c = no_run_has_this_error_seen

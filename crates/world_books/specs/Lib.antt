@@ -1,5 +1,0 @@
-pub mod Books
-pub mod Gathering
-pub mod Linearizing
-pub mod Verdicts
-pub mod Rows

@@ -1,0 +1,10 @@
+pub mod Linearizations
+pub mod EffectOrders
+pub mod AskedCalls
+pub mod OneWords
+pub mod TallyAndCell
+pub mod LogWords
+pub mod LogSteps
+pub mod LogEffects
+pub mod LogOrders
+pub mod LogCapacity
