@@ -24,18 +24,22 @@ fn the_examples_have_their_verdicts() {
     }
 }
 
-/// The worked books of `scripts/explain-cases`, each with its line.
+/// The worked books that are explained in `crates/witness_tool/cases`, each with its line.
 #[test]
 fn books_are_explained_as_their_cases_say() {
-    let file = Path::new(env!("CARGO_MANIFEST_DIR")).join("../../crates/explained_witness/cases");
+    let file = Path::new(env!("CARGO_MANIFEST_DIR")).join("../../crates/witness_tool/cases");
     let cases = fs::read_to_string(file).unwrap();
+    let explained = cases
+        .split("\nargs ")
+        .find(|group| group.starts_with("explain\n"))
+        .unwrap();
     let lines_of = |case: &str, word: &str| {
         case.lines()
             .filter_map(|line| line.strip_prefix(word))
             .fold(String::new(), |text, line| text + line + "\n")
     };
     let mut tried = 0;
-    for case in cases.split("\ncase ").skip(1) {
+    for case in explained.split("\ncase ").skip(1) {
         let (book, line) = (lines_of(case, "in "), lines_of(case, "out "));
         let line = (line != "no rule of these is broken\n").then_some(line);
         assert_eq!(explain(&book), Ok(line), "{case}");

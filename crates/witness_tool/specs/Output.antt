@@ -1,0 +1,34 @@
+-- What the program writes, by its task, of the input that it reads.
+use Rattle.std.specs.Prelude.{◌≡◌, ℕ, List, codes}
+use Rattle.book_base.specs.declared.fault.TextFault.{TextFault}
+use Rattle.text_fields.specs.declared.version.Version.TheVariants.{Second}
+use Rattle.book_text.specs.BookRules.{IsFirstBookFault}
+use Rattle.certificate_text.specs.Books.{Certifies, IsIllegalBook}
+use Rattle.given_book.specs.Given.{IsFirstGivenFault}
+use Rattle.given_book.specs.Explaining.{IsExplained, SaysNoneBroken}
+use Rattle.given_book.specs.Texts.{IsPictureOf, IsLegalGiven, IsSmallerWitness}
+use Rattle.witness_tool.specs.declared.task.Task.{Task}
+use Rattle.witness_tool.specs.declared.task.Task.TheVariants.{Picture, Smaller, Explain, Certificate}
+
+-- The text is written of the bytes with the status `Fine`: the picture of the book that they give,
+-- whatever its verdict; that the book that they give is legal; that it breaks none of the rules of
+-- its kind; or a certificate of the book whose text they are.
+abbrev pub IsFineFor : Task → List ℕ → List ℕ → Type 0
+IsFineFor Picture bytes text = IsPictureOf bytes text
+IsFineFor Smaller bytes text = IsLegalGiven bytes × (text ≡ codes "legal\n")
+IsFineFor Explain bytes text = SaysNoneBroken bytes text
+IsFineFor Certificate bytes text = Certifies bytes text
+
+-- The text is written of the bytes with the status `Found`: a smaller book of the one that they
+-- give; which rule of its kind that book breaks; or that the book whose text they are is illegal.
+abbrev pub IsFoundFor : Task → List ℕ → List ℕ → Type 0
+IsFoundFor Picture bytes text = ⊥
+IsFoundFor Smaller bytes text = IsSmallerWitness bytes text
+IsFoundFor Explain bytes text = IsExplained bytes text
+IsFoundFor Certificate bytes text = IsIllegalBook bytes × (text ≡ codes "illegal\n")
+
+-- The bytes are refused for this fault: the first one of what they give, or of the bytes as the
+-- text of a book in version 2, where a certificate is asked for.
+abbrev pub IsFaultFor : Task → List ℕ → TextFault → Type 0
+IsFaultFor Certificate bytes fault = IsFirstBookFault Second bytes fault
+IsFaultFor task bytes fault = IsFirstGivenFault bytes fault
