@@ -93,7 +93,7 @@ def hunt(settings, make, call=by_name):
             while hunted.runs != settings.most_runs and (ends is None or _now() < ends):
                 trial = hunter.run(hunted.runs, begun.begins)
                 run, hunted.runs = hunted.runs, hunted.runs + 1
-                hunted.turns += len(trial.steps)
+                hunted.turns += trial.turns
                 if trial.found is None:
                     continue
                 goes_on = settings.after_exceptions and trial.found == endings.EXCEPTION

@@ -1,6 +1,7 @@
 """One run under a schedule: one thread has the turn, and gives it away at its steps."""
 
 import _thread
+import bisect
 import functools
 import gc
 import os
@@ -55,6 +56,9 @@ class Member:
         self.worker = worker
         self.parker = worker.parker
         self.call = None
+        # how many steps it has until it is asked who goes on
+        self.budget = 0
+        self.add = run.turns.append
         self.status = _READY
         self.key = self.until = self.awaits = self.gives_way = None
         self.timed_out = False
@@ -65,14 +69,26 @@ class Member:
     def told(self, _run):
         return self.who
 
-    def step(self, *operated):
-        """A step, at which the turn may go elsewhere: its name, and the number of its object."""
+    def begins_call(self, call):
+        self.call = call
+        self.run.goes_on(self)
+        self.step("call")
+
+    def step(self, name, thing=None):
+        """A step, at which the turn may go elsewhere: what is done, and to which object."""
         run = self.run
-        code, at = self.place = caller_place()
+        code, at = self.place = place_of(sys._getframe(1))
         if run.over:
             raise Abandon
-        run.pass_turn(self)
-        run.steps.append((self.number, self.call, operated, code, at))
+        operated = (name,)
+        if thing is not None:
+            of, number = thing.numbered
+            operated = name, number if of is run else run.number_of(thing)
+        if self.budget > 0:
+            self.budget -= 1
+        else:
+            run.pass_turn(self)
+        self.add((code, at, operated))
 
     def give_way(self, operated, nanoseconds=None):
         """A step before which another thread moves, where one can."""
@@ -80,6 +96,7 @@ class Member:
         if nanoseconds is None:
             nanoseconds = 1000 << min(run.idle, 40)
         self.gives_way = run.now + nanoseconds
+        self.budget = 0
         run.chooser.lower(self.number)
         self.step(operated)
 
@@ -93,10 +110,10 @@ class Member:
             raise Abandon
         code, at = self.place = caller_place()
         self.status, self.key, self.awaits = _WAITS, key, awaits
-        run._waiting += 1
+        run.waiting += 1
         self.until = None if nanoseconds is None else run.now + nanoseconds
         run.pass_turn(self)
-        run.steps.append((self.number, self.call, WOKEN, code, at))
+        self.add((code, at, WOKEN))
         self.awaits = None
         timed_out, self.timed_out = self.timed_out, False
         return not timed_out
@@ -109,9 +126,11 @@ def caller_place():
 
 def place_of(frame):
     """Where in a frame, or in those that it was called by, code is that isn't the hunt's own."""
-    while frame.f_back and _is_own(frame.f_code.co_filename):
+    code = frame.f_code
+    while _is_own(code.co_filename) and frame.f_back:
         frame = frame.f_back
-    return frame.f_code, frame.f_lasti
+        code = frame.f_code
+    return code, frame.f_lasti
 
 
 @functools.lru_cache(maxsize=4096)
@@ -199,21 +218,22 @@ class Worker:
             return _UNTRACED
         if file.startswith(_QUIET):
             return _SILENT
-        steps = opcodes.steps_of(code, names)
+        # for each instruction that is a step the turn that is told of it
+        steps = [
+            (code, 2 * it, None) if is_step else None
+            for it, is_step in enumerate(opcodes.steps_of(code, names))
+        ]
 
         def tracer(frame, event, _argument):
-            if event != "opcode":
-                return tracer
-            at = frame.f_lasti
-            if steps[at >> 1]:
+            step = steps[frame.f_lasti >> 1]
+            if step is not None and event == "opcode":
                 member = self.member
-                run = member.run
-                if run.budget > 0 and not run.over:
-                    run.budget -= 1
+                if member.budget > 0:
+                    member.budget -= 1
                 else:
-                    member.place = code, at
-                    run.pass_turn(member)
-                run.steps.append((member.number, member.call, None, code, at))
+                    member.place = code, step[1]
+                    member.run.pass_turn(member)
+                member.add(step)
             return tracer
 
         return tracer
@@ -241,21 +261,20 @@ class Run:
         self._patience = patience
         self._keeps_threads = keeps_threads
         self._members = []
-        # the turns: number, call, what is done if it isn't by an opcode, code and place
-        self.steps = []
+        # each turn's code and place, and what is done if it isn't by an opcode
+        self.turns = []
+        # whose they are: from which turn on a thread goes on, by its number, and in which call
+        self.whose = []
         self.switches = 0
         self._last = 0
         self._since = 0
-        self.budget = 0
         # in nanoseconds; it goes on where all threads give way or wait
         self.now = 0
         self.idle = 0
         self._call_ended = 0
         self._objects = 0
         # how many members wait
-        self._waiting = 0
-        # who holds a lock, and since which place
-        self._held = {}
+        self.waiting = 0
         self.ending = None
         self.over = False
         self._main_ended = None
@@ -287,26 +306,36 @@ class Run:
             if self.over:
                 self.is_left = False
                 return
-            if len(self.steps) == seen:
+            if len(self.turns) == seen:
                 stuck = self._members[self._last]
                 frame = sys._current_frames().get(stuck.ident)
                 if frame:
                     stuck.place = place_of(frame)
                 self.end(Ending(endings.STUCK, [self._told(stuck)]))
-            seen = len(self.steps)
+            seen = len(self.turns)
 
     def whos(self):
         return [it.who for it in self._members]
 
+    def goes_on(self, member):
+        """The turns from here on are the member's, in its call."""
+        self.whose.append((len(self.turns), member.number, member.call))
+
     def legs(self):
         """The turns as legs, each a thread, its call and how many turns."""
         legs = []
-        for number, call, *_ in self.steps:
-            if legs and legs[-1][0] == number and legs[-1][1] == call:
-                legs[-1][2] += 1
-            else:
-                legs.append([number, call, 1])
+        ends = [begins for begins, *_ in self.whose[1:]] + [len(self.turns)]
+        for (begins, number, call), end in zip(self.whose, ends):
+            if legs and legs[-1][:2] == [number, call]:
+                legs[-1][2] += end - begins
+            elif end > begins:
+                legs.append([number, call, end - begins])
         return legs
+
+    def steps(self):
+        """The turns, each with its thread's number and call before it."""
+        whose = ((number, call) for number, call, turns in self.legs() for _ in range(turns))
+        return [(*who, operated, code, at) for who, (code, at, operated) in zip(whose, self.turns)]
 
     def number_of(self, thing):
         """The number of an object, in the order in which the run has used them first."""
@@ -327,7 +356,7 @@ class Run:
         self._members.append(member)
         self._inside += 1
         worker.job = lambda: self._live(member, body)
-        self.budget = 0
+        self._members[self._last].budget = 0
         return number
 
     def _live(self, member, body):
@@ -337,7 +366,8 @@ class Run:
         error = None
         try:
             if not self.over:
-                self.steps.append((member.number, None, START, None, 0))
+                self.goes_on(member)
+                member.add((None, 0, START))
                 body()
         except BaseException as it:
             error = it
@@ -364,7 +394,7 @@ class Run:
     def _finish(self, member):
         member.status = _ENDED
         if member.number == 0:
-            self._main_ended = len(self.steps)
+            self._main_ended = len(self.turns)
         self.wake(("end", member.number))
         member.worker.hand_back()
         chosen = None if self.over else self._next()
@@ -380,9 +410,6 @@ class Run:
         """Gives the turn to whom the schedule chooses, and comes back once it is the member."""
         if self.over:
             raise Abandon
-        if self.budget > 0 and member.status is _READY and member.gives_way is None:
-            self.budget -= 1
-            return
         if self._is_at_limit():
             raise Abandon
         chosen = self._next()
@@ -393,6 +420,7 @@ class Run:
             acquire = member.parker.acquire
             chosen.parker.release()
             acquire()
+            self.goes_on(member)
         if self.over:
             raise Abandon
 
@@ -407,10 +435,11 @@ class Run:
         return None
 
     def _is_at_limit(self):
-        turns = len(self.steps)
+        turns = len(self.turns)
         if turns >= self._most_steps:
             half = turns // 2
-            moved = {number for number, *_ in self.steps[half:]}
+            at = bisect.bisect(self.whose, half, key=lambda it: it[0])
+            moved = {number for _, number, _ in self.whose[at - 1 :]}
             is_livelock = len(moved) > 1 and self._call_ended < half
             name = endings.LIVELOCK if is_livelock else endings.STEP_LIMIT
             self.end(Ending(name, self._waiters()))
@@ -436,15 +465,17 @@ class Run:
         member = members[number]
         if member.status is _WAITS:
             member.status, member.timed_out = _READY, True
-            self._waiting -= 1
+            self.waiting -= 1
         return [number]
 
     # The number of who has the next turn; None where no thread can go on.
     def _choose(self):
-        candidates, last, turn = self._candidates(), self._last, len(self.steps)
+        candidates, last, turn = self._candidates(), self._last, len(self.turns)
         if not candidates:
             return None
-        if turn - self._since >= _MOST_IN_A_ROW and len(candidates) > 1 and last in candidates:
+        if len(candidates) == 1:
+            self._since = turn
+        elif turn - self._since >= _MOST_IN_A_ROW and last in candidates:
             self.chooser.lower(last)
             candidates.remove(last)
         chosen, turns = self.chooser.choose(candidates, last, turn)
@@ -453,23 +484,24 @@ class Run:
             self.switches += last in candidates
             for member in self._members:
                 member.gives_way = None
-        self._members[chosen].gives_way = None
+        member = self._members[chosen]
+        member.gives_way = None
         self._last = chosen
         left = max(1, self._since + _MOST_IN_A_ROW - turn)
-        self.budget = min(turns, left, max(1, self._most_steps - turn)) - 1
+        member.budget = min(turns, left, max(1, self._most_steps - turn)) - 1
         return chosen
 
     # What waits for what
 
     def wake(self, key):
         """Wakes those that wait for this key."""
-        if not self._waiting:
+        if not self.waiting:
             return
         for member in self._members:
             if member.status is _WAITS and member.key == key:
                 member.status, member.awaits = _READY, None
-                self._waiting -= 1
-                self.budget = self.idle = 0
+                self.waiting -= 1
+                self._members[self._last].budget = self.idle = 0
 
     def has_ended(self, number):
         return self._members[number].status is _ENDED
@@ -482,16 +514,8 @@ class Run:
                 return
 
     def ended_call(self):
-        self._call_ended = len(self.steps)
+        self._call_ended = len(self.turns)
         self.idle = 0
-
-    def holds(self, thing, member):
-        """The member has a lock from now on, which is told of who waits for it."""
-        self._held[thing] = member, member.place
-
-    def gives_back(self, thing):
-        self._held.pop(thing, None)
-        self.wake(thing)
 
     def _told(self, member):
         call = "" if member.call is None else f", in its call {member.call},"
@@ -502,9 +526,9 @@ class Run:
         if member.awaits:
             doing = "waits for " + member.awaits[0].format(member.awaits[1].told(self))
         held = ""
-        if member.awaits and member.key in self._held:
-            holder, since = self._held[member.key]
-            held = f", held by {holder.who} since {opcodes.place(*since)}"
+        holder = member.awaits and getattr(member.key, "owner", None)
+        if holder:
+            held = f", held by {holder.who} since {opcodes.place(*member.key.since)}"
         return f"{member.who}{call} {doing} at {opcodes.place(code, at)}{held}"
 
     # Those that haven't ended; the main one only where nobody else is left, since it waits for the
@@ -522,5 +546,6 @@ class Run:
             self.ending = ending
             self.over = True
             for member in self._members:
+                member.budget = 0
                 if member.status is not _ENDED:
                     _permit(member.parker)

@@ -45,7 +45,7 @@ class _Shrinking:
             return None
         trial = self._hunter.trial(script, how)
         self._runs -= 1
-        self._turns -= len(trial.steps)
+        self._turns -= trial.turns
         return trial if trial.is_like(self._found) else None
 
     def remove_calls(self):
@@ -67,7 +67,7 @@ class _Shrinking:
             if (best.threads[thread], call) not in gone
         ]
         trial = self._wrong_by(script, joined(left))
-        turns = len(best.steps)
+        turns = best.turns
         for other in range(_OTHERS):
             if trial is None:
                 trial = self._wrong(script, Priorities(Draw.of_run(other, turns), 2, turns))
@@ -104,7 +104,7 @@ class _Shrinking:
             if switches <= 1:
                 break
             points = 1 + min(number % 2, switches - 2)
-            how = Priorities(Draw.of_run(number, 1), points, len(self.best.steps))
+            how = Priorities(Draw.of_run(number, 1), points, self.best.turns)
             self._takes(self._wrong(self.best.script, how))
         self.join_legs()
 

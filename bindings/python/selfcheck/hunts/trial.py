@@ -1,5 +1,6 @@
 """A run of a hunt: its script, its schedule, its book, and what is wrong with it."""
 
+import functools
 import keyword
 
 from .. import Incomplete, Recorder, verify
@@ -19,15 +20,31 @@ class Trial:
     def __init__(self, script, run, book, written):
         self.script = script
         self.ending = run.ending
-        self.steps = run.steps
-        self.legs = run.legs()
-        # legs by which it comes again
-        self.written = written or chooser.joined((it, turns) for it, _, turns in self.legs)
-        self.threads = run.whos()
+        self.turns = len(run.turns)
+        self._run = run
+        self._written = written
         self.switches = run.switches
         self.is_left = run.is_left
         self.book = book
         self.found = self._found()
+
+    @functools.cached_property
+    def steps(self):
+        """The turns: number, call, what is done if it isn't by an opcode, code and place."""
+        return self._run.steps()
+
+    @functools.cached_property
+    def legs(self):
+        return self._run.legs()
+
+    @functools.cached_property
+    def written(self):
+        """Legs by which it comes again."""
+        return self._written or chooser.joined((it, turns) for it, _, turns in self.legs)
+
+    @property
+    def threads(self):
+        return self._run.whos()
 
     def _found(self):
         if self.ending.name != endings.FINISHED:
@@ -51,7 +68,7 @@ class Trial:
 
     def size(self):
         """What is made less: switches first."""
-        return self.switches, len(self.written), len(self.steps)
+        return self.switches, len(self.written), self.turns
 
     def steps_text(self, most=None):
         """The steps, or so many of them, with a blank line where another thread goes on."""
@@ -76,8 +93,7 @@ def _life(run, caller, calls, thing, call):
     me = current()
     traced = me.worker.traced
     for number, (op, *arguments) in calls:
-        me.call = number
-        me.step("call")
+        me.begins_call(number)
         caller.call(op, *arguments, lambda: traced(call, thing, op, *arguments))
         run.ended_call()
 
@@ -145,7 +161,7 @@ class Hunter:
             begins(run, script)
         trial = self.trial(script, self._chooser(run, draw))
         if run == 0:
-            self._turns = len(trial.steps)
+            self._turns = trial.turns
         return trial
 
     def again(self, again):

@@ -10,10 +10,11 @@ import threading
 import time
 
 from . import opcodes
-from .run import Abandon, caller_place, current
+from .run import Abandon, _of_threads, caller_place, current
 
 _Lock, _RLock, _Condition = threading.Lock, threading.RLock, threading.Condition
 _sleep, _now = time.sleep, time.monotonic
+_get_ident, _gettrace, _settrace = threading.get_ident, sys.gettrace, sys.settrace
 
 
 def operation(method):
@@ -24,16 +25,17 @@ def operation(method):
 
     @functools.wraps(method)
     def operates(thing, *arguments, **named):
-        me = current()
-        trace = me and sys.gettrace()
+        # no call of other Python code before tracing ends, since that would be traced
+        me = _of_threads.get(_get_ident())
+        trace = me and _gettrace()
         if not trace:
             return method(thing, me, *arguments, **named)
-        sys.settrace(None)
+        _settrace(None)
         try:
             return method(thing, me, *arguments, **named)
         finally:
             if not me.run.over:
-                sys.settrace(trace)
+                _settrace(trace)
 
     return operates
 
@@ -45,9 +47,10 @@ def nanoseconds(seconds):
 class _Waited:
     """An object that members of a run wait for, with its number there and where it was made."""
 
-    def __init__(self, made=None):
+    def _is_made(self, place):
         self.numbered = None, 0
-        self._made = made or caller_place()
+        self._made = place
+        self.begins()
 
     def begins(self):
         """A run uses it for the first time."""
@@ -56,30 +59,24 @@ class _Waited:
         made = self._made if isinstance(self._made, str) else opcodes.place(*self._made)
         return f"{self._KIND} #{run.number_of(self)}, made at {made},"
 
-    def _step(self, me, name):
-        run, number = self.numbered
-        me.step(name, number if run is me.run else me.run.number_of(self))
-
 
 class Lock(_Waited):
-    _KIND, _ACQUIRE = "Lock", "Lock.acquire"
+    _KIND, _ACQUIRE, _PLAIN = "Lock", "Lock.acquire", _Lock
 
-    def __new__(cls):
-        return super().__new__(cls) if current() else _Lock()
-
-    def __init__(self, made=None):
-        super().__init__(made)
-        self.begins()
+    @operation
+    def __new__(cls, me):
+        return cls.of_module(caller_place()) if me else cls._PLAIN()
 
     @classmethod
     def of_module(cls, name):
-        """In the place of a lock that a module has made."""
+        """In the place of a lock that a module has made: its name, or the place where one is made."""
         lock = object.__new__(cls)
-        lock.__init__(name)
+        lock._is_made(name)
         return lock
 
     def begins(self):
-        self._count, self._owner = 0, None
+        # who has it, and since which place
+        self._count, self.owner, self.since = 0, None, None
 
     def _is_free(self, _me):
         return self._count == 0
@@ -88,7 +85,10 @@ class Lock(_Waited):
     def acquire(self, me, blocking=True, timeout=-1):
         if me is None:
             return self._acquire_plainly(blocking, timeout)
-        self._step(me, self._ACQUIRE)
+        me.step(self._ACQUIRE, self)
+        if self._count == 0:
+            self._count, self.owner, self.since = 1, me, me.place
+            return True
         return self._take(me, blocking, nanoseconds(None if timeout < 0 else timeout))
 
     __enter__ = acquire
@@ -100,8 +100,8 @@ class Lock(_Waited):
             if not blocking or not me.wait(self, ("{}", self), left):
                 return False
         if self._count == 0:
-            me.run.holds(self, me)
-        self._count, self._owner = self._count + 1, me
+            self.owner, self.since = me, me.place
+        self._count += 1
         return True
 
     # By a thread that is in no run, as where a test looks at an object once its run is over.
@@ -111,7 +111,7 @@ class Lock(_Waited):
             if not blocking or 0 <= timeout and _now() >= until:
                 return False
             _sleep(0.001)
-        self._count, self._owner = self._count + 1, None
+        self._count, self.owner = self._count + 1, None
         return True
 
     @operation
@@ -128,9 +128,9 @@ class Lock(_Waited):
             self._give_back(me)
 
     def _give_back(self, me):
-        owner, self._owner = self._owner, None
-        if owner or me:
-            (owner or me).run.gives_back(self)
+        owner, self.owner = self.owner or me, None
+        if owner and owner.run.waiting:
+            owner.run.wake(self)
 
     @operation
     def __exit__(self, me, *_):
@@ -139,7 +139,7 @@ class Lock(_Waited):
     @operation
     def locked(self, me):
         if me:
-            self._step(me, f"{self._KIND}.locked")
+            me.step(f"{self._KIND}.locked", self)
         return self._count > 0
 
     def _at_fork_reinit(self):
@@ -164,21 +164,18 @@ class Lock(_Waited):
 
 
 class RLock(Lock):
-    _KIND, _ACQUIRE = "RLock", "RLock.acquire"
-
-    def __new__(cls):
-        return object.__new__(cls) if current() else _RLock()
+    _KIND, _ACQUIRE, _PLAIN = "RLock", "RLock.acquire", _RLock
 
     def _is_free(self, me):
-        return self._count == 0 or self._owner is me
+        return self._count == 0 or self.owner is me
 
     def _release(self, me):
-        if self._count > 0 and self._owner is not me and not (me and me.run.over):
+        if self._count > 0 and self.owner is not me and not (me and me.run.over):
             raise RuntimeError("cannot release un-acquired lock")
         super()._release(me)
 
     def _is_owned(self):
-        return self._count > 0 and self._owner is current()
+        return self._count > 0 and self.owner is current()
 
 
 class Condition(_Waited):
@@ -188,7 +185,7 @@ class Condition(_Waited):
         return super().__new__(cls) if current() else _Condition(lock)
 
     def __init__(self, lock=None):
-        super().__init__()
+        self._is_made(caller_place())
         self._lock = RLock() if lock is None else lock
         self._waiters = []
         self.acquire, self.release = self._lock.acquire, self._lock.release
@@ -203,7 +200,7 @@ class Condition(_Waited):
     def wait(self, me, timeout=None):
         if not self._lock._is_owned():
             raise RuntimeError("cannot wait on un-acquired lock")
-        self._step(me, "Condition.wait")
+        me.step("Condition.wait", self)
         ticket = object()
         self._waiters.append(ticket)
         saved = self._lock._release_save()
@@ -233,7 +230,7 @@ class Condition(_Waited):
             raise RuntimeError("cannot notify on un-acquired lock")
         if me is None:
             return
-        self._step(me, "Condition.notify")
+        me.step("Condition.notify", self)
         woken, self._waiters = self._waiters[:n], self._waiters[n:]
         for ticket in woken:
             me.run.wake(ticket)
