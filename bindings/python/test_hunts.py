@@ -18,7 +18,10 @@ from threading import Lock as ImportedLock
 
 import hunted
 import selfcheck
-from selfcheck.hunts import NoRun, SettingError, Settings, Unwritten, hunt, replay
+from selfcheck.hunts import NoRun, SettingError, Settings, Unwritten, chooser, hunt, replay
+from selfcheck.hunts.draw import Draw
+from selfcheck.hunts.script import Script
+from selfcheck.hunts.trial import Hunter
 
 _SEEDS = int(os.environ.get("SELFCHECK_SEEDS", "1"))
 _module_lock = threading.Lock()
@@ -49,6 +52,18 @@ class Locked:
             return old
 
 
+class Tired(Locked):
+    """Right unless so many calls of others are made between the steps of one."""
+
+    def __init__(self):
+        super().__init__(threading.Lock())
+
+    def inc(self):
+        before = self.number
+        old = super().inc()
+        return old - (old - before > 7)
+
+
 def settings_of(case, **more):
     return Settings(case.kind, **case.settings, **more)
 
@@ -74,8 +89,9 @@ class Objects(unittest.TestCase):
 
     def test_each_strategy_finds(self):
         for strategy in "walk", "priorities":
-            told = hunt(Settings("counter", strategy=strategy), Torn)
-            self.assertEqual(told.finding.found, "illegal")
+            for make in Torn, Tired:
+                told = hunt(Settings("counter", strategy=strategy, runs=2000), make)
+                self.assertEqual(told.finding.found, "illegal")
 
     def test_a_seed_has_one_hunt(self):
         script = (
@@ -93,6 +109,49 @@ class Objects(unittest.TestCase):
             for seed in ("1", "2")
         }
         self.assertEqual(len(told), 1)
+
+
+class Schedules(unittest.TestCase):
+    def test_each_turn_is_of_a_thread_in_a_call(self):
+        for case in hunted.CASES:
+            with self.subTest(case.name):
+                trial = replay(settings_of(case, seed=2), 3, case.right)
+                legs = [(it, call) for it, call, turns in trial.legs for _ in range(turns)]
+                self.assertEqual([it[:2] for it in trial.steps], legs)
+                self.assertEqual(trial.turns, len(legs))
+                for caller, calls in enumerate(trial.script.callers):
+                    thread = trial.threads.index(f"caller {caller}")
+                    begun = [
+                        call for it, call, does, *_ in trial.steps if (it, does) == (thread, ("call",))
+                    ]
+                    self.assertEqual(begun, [number for number, _ in calls])
+
+    def test_a_thread_that_is_alone_goes_on_without_being_chosen(self):
+        class Counts(chooser.Written):
+            chosen = 0
+
+            def choose(self, *state):
+                self.chosen += 1
+                return super().choose(*state)
+
+        def long(number):
+            for _ in range(1000):
+                number = [number][0]
+            return number
+
+        hunter = Hunter(Settings("counter", callers=1, calls=2), lambda: None, lambda _, op: long(1))
+        script = Script([[(0, ("inc",)), (1, ("inc",))]])
+        counts = Counts([])
+        trial = hunter.trial(script, counts)
+        self.assertGreater(trial.turns, 4000)
+        self.assertLess(counts.chosen, 20)
+
+    def test_nobody_waits_for_a_thread_that_rests(self):
+        for seed in range(100):
+            walk = chooser.Walk(Draw(seed), 10)
+            chosen = [walk.choose([1, 2], 1 + turn % 2, turn)[0] for turn in range(100)]
+            self.assertEqual(set(chosen), {1, 2})
+            self.assertEqual({walk.choose([2], 2, turn)[0] for turn in range(100)}, {2})
 
 
 class Endings(unittest.TestCase):

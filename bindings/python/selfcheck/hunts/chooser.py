@@ -8,19 +8,36 @@ moved, and how many turns there were.
 FAR = 2**32 - 1
 
 
-class Walk:
-    """A thread by chance, for a number of turns with a mean that the run draws.
+# For how many legs of others a thread rests at the most.
+_RESTS = 8
 
-    A run of so many turns has some 8 to 64 such legs, since the object's code may be short or long.
+
+class Walk:
+    """A thread by chance, for a number of turns.
+
+    In the mean that is as many as a call has, twice or half as many, which the run draws. So threads
+    rest within calls. After half of the legs their thread rests for some legs of the others, and
+    then it goes on: meanwhile they make whole calls, and end within others.
     """
 
-    def __init__(self, draw, turns):
+    def __init__(self, draw, turns_of_call):
         self._draw = draw
-        self._mean = max(3, turns // (8, 16, 32, 64)[draw.below(4)])
+        self._mean = max(3, (turns_of_call << draw.below(3)) // 2)
+        # who rests, and for how many legs more
+        self._resting, self._legs = None, 0
 
-    def choose(self, candidates, _last, _turn):
-        thread = candidates[self._draw.below(len(candidates))]
-        return thread, 1 + self._draw.below(2 * self._mean - 1)
+    def choose(self, candidates, last, _turn):
+        draw, thread = self._draw, None
+        if self._resting is None and last in candidates and draw.below(2):
+            self._resting, self._legs = last, 1 + draw.below(_RESTS)
+        if self._legs > 0:
+            self._legs -= 1
+            candidates = [it for it in candidates if it != self._resting] or candidates
+        else:
+            thread, self._resting = self._resting, None
+        if thread not in candidates:
+            thread = candidates[draw.below(len(candidates))]
+        return thread, 1 + draw.below(2 * self._mean - 1)
 
     def lower(self, _thread):
         pass

@@ -218,14 +218,14 @@ class Worker:
             return _UNTRACED
         if file.startswith(_QUIET):
             return _SILENT
-        # for each instruction that is a step the turn that is told of it
-        steps = [
-            (code, 2 * it, None) if is_step else None
-            for it, is_step in enumerate(opcodes.steps_of(code, names))
-        ]
+        # by its place, for each instruction that is a step, the turn that is told of it
+        steps = [None] * len(code.co_code)
+        for it, is_step in enumerate(opcodes.steps_of(code, names)):
+            if is_step:
+                steps[2 * it] = code, 2 * it, None
 
         def tracer(frame, event, _argument):
-            step = steps[frame.f_lasti >> 1]
+            step = steps[frame.f_lasti]
             if step is not None and event == "opcode":
                 member = self.member
                 if member.budget > 0:

@@ -120,11 +120,9 @@ def _operation(settings, role, inside, draw):
             return inside > 0
         return role is None or role is effect
 
-    allowed = [
-        (it, weight)
-        for it, weight in zip(settings.operations, settings.weighted)
-        if is_allowed(it.effect)
-    ]
+    allowed = settings.weighted
+    if role is not None or most is not None:
+        allowed = [(it, weight) for it, weight in allowed if is_allowed(it.effect)]
     place = draw.below(sum(weight for _, weight in allowed))
     for it, weight in allowed:
         if place < weight:

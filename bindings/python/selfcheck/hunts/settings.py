@@ -39,7 +39,8 @@ class Settings:
                            for objects of which calls wait where they are full or empty: half of
                            the callers take, and the others put as many in all
     strategy               "both" in turn by the run's seed, "walk" or "priorities"
-    change_points          at how many points at the most priorities change: 6
+    change_points          at how many points at the most priorities change; as many as a script
+                           has calls where this isn't said
     most_steps             how many steps a run has at the most: 10,000, or 400 for each call
     patience               for how many seconds a thread may make no step before it is told: 5
     after_exceptions       the hunt goes on after an exception, and tells one of each line
@@ -62,7 +63,7 @@ class Settings:
         at_most_more_puts=None,
         producers_and_consumers=False,
         strategy="both",
-        change_points=6,
+        change_points=None,
         most_steps=None,
         patience=5,
         after_exceptions=False,
@@ -77,9 +78,8 @@ class Settings:
         self._check_numbers()
         self._check_weights()
         self._check_rule()
-        self.operations = OPERATIONS[kind]
         named = weights or {}
-        self.weighted = [named.get(it.name, 1) for it in self.operations]
+        self.weighted = [(it, named.get(it.name, 1)) for it in OPERATIONS[kind]]
         self.different_values = VALUES[kind] if values is None else values
         self.most_runs = runs if runs is not None else None if seconds is not None else _RUNS
         self.step_limit = most_steps or max(_STEPS, _STEPS_OF_CALL * callers * calls)
@@ -89,10 +89,10 @@ class Settings:
         self._is_in("calls", 1, MAX_CALLS)
         self._is_in("seed", 0, 2**64 - 1)
         self._is_in("keys", 1, 2**32 - 1)
-        self._is_in("change_points", 1, 1000)
         for name, most in (
             ("values", 2**32 - 1),
             ("runs", None),
+            ("change_points", 1000),
             ("most_steps", 2**30),
             ("at_most_more_puts", None),
         ):

@@ -144,12 +144,12 @@ class Hunter:
         return Trial(script, run, book, getattr(how, "legs", None))
 
     # The schedule of a run. The first one is a walk, and tells how many turns the others may have.
-    def _chooser(self, run, draw):
+    def _chooser(self, run, calls, draw):
         strategy = self.settings.strategy
         by_priorities = draw.below(2) == 0 if strategy == "both" else strategy == "priorities"
         if run == 0 or not by_priorities:
-            return chooser.Walk(draw, self._turns if run else _TURNS)
-        points = 1 + draw.below(self.settings.change_points)
+            return chooser.Walk(draw, (self._turns if run else _TURNS) // calls)
+        points = 1 + draw.below(self.settings.change_points or calls)
         return chooser.Priorities(draw, points, self._turns)
 
     def run(self, run, begins=None):
@@ -159,7 +159,7 @@ class Hunter:
         script, draw = Script.drawn(self.settings, run)
         if begins:
             begins(run, script)
-        trial = self.trial(script, self._chooser(run, draw))
+        trial = self.trial(script, self._chooser(run, script.calls(), draw))
         if run == 0:
             self._turns = trial.turns
         return trial
