@@ -61,7 +61,7 @@ class Tired(Locked):
     def inc(self):
         before = self.number
         old = super().inc()
-        return old - (old - before > 7)
+        return old - (old - before > 5)
 
 
 def settings_of(case, **more):
@@ -90,7 +90,8 @@ class Objects(unittest.TestCase):
     def test_each_strategy_finds(self):
         for strategy in "walk", "priorities":
             for make in Torn, Tired:
-                told = hunt(Settings("counter", strategy=strategy, runs=2000), make)
+                settings = Settings("counter", callers=2, calls=8, strategy=strategy, runs=2000)
+                told = hunt(settings, make)
                 self.assertEqual(told.finding.found, "illegal")
 
     def test_a_seed_has_one_hunt(self):
@@ -403,7 +404,7 @@ class Written(unittest.TestCase):
         self.assertIn(" counted ", finding.explanation)
         self.assertIn(f"\n\n{finding.explanation}\nbook 2\n", read("finding.txt"))
         self.assertTrue(read("picture.svg").startswith("<svg"))
-        self.assertEqual(read("settings.txt"), "Settings('counter', callers=3, calls=6, seed=3)\n")
+        self.assertEqual(read("settings.txt"), "Settings('counter', callers=4, calls=6, seed=3)\n")
         self.assertIn("caller 2: inc, inc, inc, inc, inc, inc\n", read("script.txt"))
         self.assertGreaterEqual(len(read("steps.txt")), len(read("small-steps.txt")))
         names = {"replay": replay, "Settings": Settings, "make": Torn}
@@ -442,7 +443,7 @@ class Written(unittest.TestCase):
         with open(os.path.join(self.folder, "counter-4-begun.txt"), encoding="utf-8") as file:
             first, line, *script = file.read().splitlines()
         self.assertRegex(first, r"^run \d+ has begun, and hasn't ended:$")
-        settings = "Settings('counter', callers=3, calls=6, seed=4)"
+        settings = "Settings('counter', callers=4, calls=6, seed=4)"
         self.assertRegex(line, rf'^    replay\({re.escape(settings)}, "\d+", make, call\)$')
         self.assertIn("caller 2: inc, inc, inc, inc, inc, inc", script)
 

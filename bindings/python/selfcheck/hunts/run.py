@@ -198,9 +198,9 @@ class Worker:
         if of_code is None:
             of_code = self._tracers[id(code)] = code, self._tracer(code, frame.f_globals)
         tracer = of_code[1]
-        frame.f_trace_lines = False
         if tracer is _UNTRACED:
             return None
+        frame.f_trace_lines = False
         if tracer is _SILENT:
             self._quiet = frame
             return self._silent

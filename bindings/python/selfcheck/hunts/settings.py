@@ -23,7 +23,7 @@ class SettingError(ValueError):
 class Settings:
     """The kind of the object and, by their names, whichever settings aren't to be as usual.
 
-    callers, calls         how many callers, and how many calls each of them makes: 3 and 6
+    callers, calls         how many callers, and how many calls each of them makes: 4 and 6
     seed                   by which scripts and schedules are drawn: 0
     weights                how often each operation comes, by its name: {"enq": 2, "deq": 1}; one
                            that isn't named comes as often as 1 says
@@ -52,7 +52,7 @@ class Settings:
         self,
         kind,
         *,
-        callers=3,
+        callers=4,
         calls=6,
         seed=0,
         weights=None,
