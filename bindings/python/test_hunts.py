@@ -122,9 +122,8 @@ class Schedules(unittest.TestCase):
                 self.assertEqual(trial.turns, len(legs))
                 for caller, calls in enumerate(trial.script.callers):
                     thread = trial.threads.index(f"caller {caller}")
-                    begun = [
-                        call for it, call, does, *_ in trial.steps if (it, does) == (thread, ("call",))
-                    ]
+                    own = [it[1:3] for it in trial.steps if it[0] == thread]
+                    begun = [call for call, does in own if does == ("call",)]
                     self.assertEqual(begun, [number for number, _ in calls])
 
     def test_a_thread_that_is_alone_goes_on_without_being_chosen(self):
@@ -140,7 +139,8 @@ class Schedules(unittest.TestCase):
                 number = [number][0]
             return number
 
-        hunter = Hunter(Settings("counter", callers=1, calls=2), lambda: None, lambda _, op: long(1))
+        settings = Settings("counter", callers=1, calls=2)
+        hunter = Hunter(settings, lambda: None, lambda _, op: long(1))
         script = Script([[(0, ("inc",)), (1, ("inc",))]])
         counts = Counts([])
         trial = hunter.trial(script, counts)

@@ -438,7 +438,7 @@ class Run:
         turns = len(self.turns)
         if turns >= self._most_steps:
             half = turns // 2
-            at = bisect.bisect(self.whose, half, key=lambda it: it[0])
+            at = bisect.bisect(self.whose, (half + 1,))
             moved = {number for _, number, _ in self.whose[at - 1 :]}
             is_livelock = len(moved) > 1 and self._call_ended < half
             name = endings.LIVELOCK if is_livelock else endings.STEP_LIMIT

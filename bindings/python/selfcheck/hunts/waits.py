@@ -65,14 +65,18 @@ class Lock(_Waited):
 
     @operation
     def __new__(cls, me):
-        return cls.of_module(caller_place()) if me else cls._PLAIN()
+        return cls._made_at(caller_place()) if me else cls._PLAIN()
+
+    @classmethod
+    def _made_at(cls, place):
+        lock = object.__new__(cls)
+        lock._is_made(place)
+        return lock
 
     @classmethod
     def of_module(cls, name):
-        """In the place of a lock that a module has made: its name, or the place where one is made."""
-        lock = object.__new__(cls)
-        lock._is_made(name)
-        return lock
+        """In the place of a lock that a module has made."""
+        return cls._made_at(name)
 
     def begins(self):
         # who has it, and since which place
