@@ -13,16 +13,15 @@ _RESTS = 8
 
 
 class Walk:
-    """A thread by chance, for a number of turns.
+    """A thread by chance, for as many turns in the mean as a call has.
 
-    In the mean that is as many as a call has, by a quarter of the runs twice and by a quarter half
-    as many. After half of the legs their thread rests for some legs of the others, and then it goes
-    on: it rests within a call, while they make whole calls and end within further ones.
+    After half of such legs their thread rests for some legs of the others, and then it goes on: it
+    rests within a call, while they make whole calls and end within further ones.
     """
 
     def __init__(self, draw, turns_of_call):
         self._draw = draw
-        self._mean = max(3, turns_of_call * (2, 2, 1, 4)[draw.below(4)] // 2)
+        self._mean = max(3, turns_of_call)
         # who rests, and for how many legs more
         self._resting, self._legs = None, 0
 

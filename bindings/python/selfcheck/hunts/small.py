@@ -32,8 +32,13 @@ class _Shrinking:
         self._runs, self._turns = _RUNS, _TURNS
         self._tried = set()
 
+    def _may_run(self):
+        return self._runs > 0 and self._turns > 0
+
     # A run with these legs, where it is wrong as wanted and they are tried for the first time.
     def _wrong_by(self, script, legs):
+        if not self._may_run():
+            return None
         tried = tuple(script.names()), tuple(legs)
         if tried in self._tried:
             return None
@@ -41,7 +46,7 @@ class _Shrinking:
         return self._wrong(script, Written(legs))
 
     def _wrong(self, script, how):
-        if self._runs <= 0 or self._turns <= 0:
+        if not self._may_run():
             return None
         trial = self._hunter.trial(script, how)
         self._runs -= 1
@@ -50,6 +55,10 @@ class _Shrinking:
 
     def remove_calls(self):
         for caller in range(len(self.best.script.callers) - 1, -1, -1):
+            calls = self.best.script.callers[caller]
+            if len(calls) > 1 and not self._hunter.settings.producers_and_consumers:
+                # all at once, which costs fewer runs
+                self._removes({(caller, number) for number, _ in calls})
             for place in range(len(self.best.script.callers[caller]) - 1, -1, -1):
                 if place < len(self.best.script.callers[caller]):
                     ways = self.best.script.removed_with(self._hunter.settings, caller, place)
@@ -91,7 +100,7 @@ class _Shrinking:
 
     def join_legs(self):
         place = 0
-        while place < len(self.best.written):
+        while place < len(self.best.written) and self._may_run():
             script = self.best.script
             ways = _shorter(self.best.written, place)
             if not any(self._takes(self._wrong_by(script, it)) for it in ways):
