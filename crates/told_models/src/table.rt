@@ -54,6 +54,13 @@ impl ToldTable {
         }
     }
 
+    /// The number of the initial state.
+    pub fn init(&self) -> u64
+        ensures { result ≡ self.now.init }
+    {
+        self.init
+    }
+
     /// The transition that an operation was told to make at a state, where one was told.
     pub fn get(&self, state: u64, op: OpWord) -> Option<Transition>
         ensures { result ≡ told_step self.now state op }

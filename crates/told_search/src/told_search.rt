@@ -1,0 +1,67 @@
+ghost use Rattle.std.specs.Prelude.{◌≡◌, IfOk, IfSome};
+ghost use Rattle.told_models.specs.Answers.{IsRightAnswer};
+ghost use Rattle.told_search.specs.Searching.{IsSearch};
+
+use crate::walk::{Step, Walk};
+use book_base::{Book, NoMemory};
+use std::alloc::Global;
+use told_models::{Answer, ToldTable};
+
+/// A search for a legal order of a book, by what was told of its object.
+///
+/// It goes depth first through the pairs of a cut and a state, and remembers those that are dead
+/// ends (after Wing and Gong 1993, and Lowe 2017). Where a step isn't told that it needs, it asks
+/// for the step and stays where it is. So nothing is searched twice when the step was told, and
+/// steps are asked for only where the search comes to them.
+///
+/// A search is of one book. Steps may be told at any time, and each answer stays right when more is
+/// told (`told_models::laws::verdicts_stand`). After want of memory a search is given up: a new one
+/// with the same table asks for no step that was told.
+#[derive(Drop)]
+pub struct ToldSearch {
+    walk: Option<Walk>,
+}
+
+impl ToldSearch {
+    /// A search at its beginning.
+    pub fn begin(alloc: Global, table: &ToldTable, book: &Book) -> Result<ToldSearch, NoMemory>
+        ensures { IfOk result (IsSearch table.now book.now) }
+    {
+        Ok(ToldSearch {
+            walk: Walk::begin(alloc, table, book)?,
+        })
+    }
+
+    /// Goes on with the search, by at most so many steps. `None` comes where these are used up.
+    pub fn go_on(
+        &mut self,
+        alloc: Global,
+        table: &ToldTable,
+        book: &Book,
+        steps: u64,
+    ) -> Result<Option<Answer>, NoMemory>
+        // The search is of this book, and was begun or went on with no more steps told than the
+        // table has.
+        requires search { IsSearch table.now book.now self.old }
+        // The search can go on from here.
+        ensures search { IfOk result (λ _. IsSearch table.now book.now self.new) }
+        // An order in the answer is legal for each object that agrees with the table, `Illegal` comes
+        // only where no object that agrees has a legal order, and `Ask` names a state and an
+        // operation word of the book whose step wasn't told, where fewer told steps of the book's
+        // words lead to the state than the book has calls.
+        ensures answer { IfOk result (λ said. IfSome said (IsRightAnswer table.now book.now)) }
+    {
+        let Some(walk) = &mut self.walk else {
+            return Ok(Some(Answer::Legal(Vec::new(alloc))));
+        };
+        for _ in 0..steps {
+            match walk.advance(alloc, table, book)? {
+                Step::Found(order) => return Ok(Some(Answer::Legal(order))),
+                Step::NoneLeft => return Ok(Some(Answer::Illegal)),
+                Step::Asks(state, op) => return Ok(Some(Answer::Ask(state, op))),
+                Step::GoesOn => {}
+            }
+        }
+        Ok(None)
+    }
+}
