@@ -14,7 +14,7 @@ use Rattle.book_base.specs.Book.{Page, record_of}
 use Rattle.book_base.specs.Sequential.{IsRunFrom}
 use Rattle.book_base.specs.Order.{call_at, StandsAt, step_at}
 use Rattle.book_base.specs.Reaching.{list_after_run, SufficesAfter, IsCapacityFor, Reaches}
-use Rattle.book_base.specs.ReachingLaws.{NoPlacesReachTheStart, OneMorePlaceReachesOn, OneCutIsReached, PrecedingComesFirst, ReadOnlyMayBeLeftOut, WhatStandsIsNotInfeasible}
+use Rattle.book_base.specs.ReachingLaws.{NoPlacesReachTheStart, OneMorePlaceReachesOn, OneCutIsReached, ReadOnlyMayBeLeftOut}
 use Rattle.book_base.proofs.ViewLemmas.{same_call}
 
 -- the object's list after one more place is the one that its operation makes of the list before it
@@ -114,29 +114,6 @@ one_cut_is_reached spec book order a b x y wide first second = (
   )),
   sym first.reached ∙ second.reached,
 )
-
-pub what_stands_is_not_infeasible : WhatStandsIsNotInfeasible
-what_stands_is_not_infeasible spec book before rest place cut list legal reaches infeasible =
-    infeasible before rest place.reply reaches legal
-
-pub preceding_comes_first : PrecedingComesFirst
-preceding_comes_first spec book a b precedes order legal q stands =
-    elim precedes [
-      | inl answered ↦
-          let says : Record → Type 0 = λ r. get_or r.view b.caller 0 ≤ b.number in
-          let known = some_from_is_some_and (record_of book a) says answered in
-          let found = legal.answered a known.0 known.1 in
-          let there : StandsAt order found.0 a =
-          (record { caller = a.caller; number = a.number; reply = known.0.reply }, found.1, refl) in
-          (found.0, legal.precedence found.0 q a b there stands (inl answered), there)
-      | inr own ↦
-          let found = legal.earlier q b stands a.number own.1 in (
-            found.0,
-            found.1,
-            subst (λ (i : ℕ). StandsAt order found.0 (record { caller = i; number = a.number }))
-                (sym own.0) found.2,
-          )
-    ]
 
 pub read_only_may_be_left_out : ReadOnlyMayBeLeftOut
 read_only_may_be_left_out next op reply list steps leaves gives =

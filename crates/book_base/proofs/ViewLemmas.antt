@@ -276,16 +276,6 @@ part_to_all book cut part n valid all h = record {
 
 -- ---- a caller's views, by bisection
 
-pub views_within_all : (book : List Page) (caller : ℕ) (view : List ℕ)
-    → AreViewsWithin book caller view 0 (answers_of book caller)
-views_within_all book caller view = record {
-  ordered = omega arith;
-  few = omega arith;
-  below = λ k r lt e. absurd (omega arith);
-  above = λ k r le e.
-      absurd (let there : k < answers_of book caller = slice_get_within _ k r e in omega arith);
-}
-
 -- where the view in the middle is within the given one, the search goes on above it
 pub views_within_low : (book : List Page) (caller : ℕ) (view : List ℕ) (low high middle : ℕ)
     → IsValid book → AreViewsWithin book caller view low high → middle < high

@@ -1,13 +1,12 @@
--- Which cut and list an order reaches, which capacity the lists need, which calls are infeasible
--- there, which must come first, which operations are read-only with a reply, and which replies an
--- operation may have.
+-- Which cut and list an order reaches, which capacity the lists need, which operations are read-only
+-- with a reply, and which replies an operation may have.
 use Rattle.std.specs.Prelude.{◌≡◌, ℕ, ◌<◌, ◌≤◌, List, [], ◌∷◌, ◌++◌, length, map}
 use Rattle.book_base.specs.declared.call.Call.{Call}
 use Rattle.book_base.specs.declared.call.Place.{Place}
 use Rattle.book_base.specs.SeqSpec.{SeqSpec}
 use Rattle.book_base.specs.Cut.{Holds}
 use Rattle.book_base.specs.Book.{Page}
-use Rattle.book_base.specs.Order.{StandsAt, step_at, IsLegalOrder}
+use Rattle.book_base.specs.Order.{StandsAt, step_at}
 
 -- the object's list after the operations of a run, applied in order from a first list on
 abbrev pub list_after_run : (List ℕ → ℕ → List ℕ × ℕ) → List ℕ → List (ℕ × ℕ) → List ℕ
@@ -31,19 +30,6 @@ pub record Reaches (spec : SeqSpec) (book : List Page) (order : List Place)
   pub holds : (k : ℕ) (call : Call) → StandsAt order k call → Holds cut call
   pub held : (call : Call) → Holds cut call → (k : ℕ) × StandsAt order k call
   pub reached : list_after_run spec.next spec.init (map (step_at book) order) ≡ list
-
--- A call is infeasible next, after a cut and at a list: no legal order has it right after places
--- that reach the cut and the list.
-abbrev pub IsInfeasible : SeqSpec → List Page → List ℕ → List ℕ → Call → Type 0
-IsInfeasible spec book cut list call = (before rest : List Place) (reply : ℕ)
-    → Reaches spec book before cut list
-    → IsLegalOrder spec book
-    (before ++ record { caller = call.caller; number = call.number; reply = reply } ∷ rest) → ⊥
-
--- In every legal order where call b stands, call a stands before it.
-abbrev pub MustComeFirst : SeqSpec → List Page → Call → Call → Type 0
-MustComeFirst spec book a b = (order : List Place) → IsLegalOrder spec book order
-    → (q : ℕ) → StandsAt order q b → (p : ℕ) × (p < q) × StandsAt order p a
 
 -- An operation is read-only with this reply: it doesn't change any list at which it has the reply.
 abbrev pub Leaves : (List ℕ → ℕ → List ℕ × ℕ) → ℕ → ℕ → Type 0

@@ -1,12 +1,11 @@
--- Laws of what orders reach, of infeasible calls, and of read-only operations.
+-- Laws of what orders reach, and of read-only operations.
 use Rattle.std.specs.Prelude.{◌≡◌, ℕ, ◌+◌, ◌<◌, ◌↔◌, List, [], ◌∷◌, ◌++◌, length, replicate, slice_index, slice_set}
-use Rattle.book_base.specs.declared.call.Call.{Call}
 use Rattle.book_base.specs.declared.call.Place.{Place}
 use Rattle.book_base.specs.SeqSpec.{SeqSpec}
-use Rattle.book_base.specs.Book.{Page, Precedes}
+use Rattle.book_base.specs.Book.{Page}
 use Rattle.book_base.specs.Sequential.{IsRunFrom}
-use Rattle.book_base.specs.Order.{call_at, step_at, IsLegalOrder}
-use Rattle.book_base.specs.Reaching.{Reaches, IsInfeasible, MustComeFirst, Leaves}
+use Rattle.book_base.specs.Order.{step_at}
+use Rattle.book_base.specs.Reaching.{Reaches, Leaves}
 
 -- The empty order reaches the cut that holds no call, and the object's first list.
 abbrev pub NoPlacesReachTheStart : Type 0
@@ -29,20 +28,6 @@ OneCutIsReached = (spec : SeqSpec) (book : List Page)
     (order : List Place) (cut other list last : List ℕ)
     → length cut ≡ length other → Reaches spec book order cut list
     → Reaches spec book order other last → (cut ≡ other) × (list ≡ last)
-
--- A call of a legal order isn't infeasible after the cut and at the list that the places before it
--- reach.
-abbrev pub WhatStandsIsNotInfeasible : Type 0
-WhatStandsIsNotInfeasible = (spec : SeqSpec) (book : List Page)
-    (before rest : List Place) (place : Place) (cut list : List ℕ)
-    → IsLegalOrder spec book (before ++ place ∷ rest) → Reaches spec book before cut list
-    → IsInfeasible spec book cut list (call_at place) → ⊥
-
--- A call that precedes another one must come first.
-abbrev pub PrecedingComesFirst : Type 0
-PrecedingComesFirst =
-    (spec : SeqSpec) (book : List Page) (a b : Call)
-    → Precedes book a b → MustComeFirst spec book a b
 
 -- A run stays a run where a read-only operation with its reply is put in or left out at a list at
 -- which the object gives this reply.

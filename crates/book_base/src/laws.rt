@@ -6,7 +6,7 @@ ghost use Rattle.book_base.specs.Book.{Page, IsValid, AnswersAreRecorded, with_a
 ghost use Rattle.book_base.specs.OperationWord.{joined, WordsAreJoinedAndParted};
 ghost use Rattle.book_base.specs.Refusal.{MayAnswer};
 ghost use Rattle.book_base.specs.Rising.{ViewsRise, PrecedesByItsView};
-ghost use Rattle.book_base.specs.ReachingLaws.{NoPlacesReachTheStart, OneMorePlaceReachesOn, OneCutIsReached, WhatStandsIsNotInfeasible, PrecedingComesFirst, ReadOnlyMayBeLeftOut};
+ghost use Rattle.book_base.specs.ReachingLaws.{NoPlacesReachTheStart, OneMorePlaceReachesOn, OneCutIsReached, ReadOnlyMayBeLeftOut};
 
 /// A book takes exactly those answers that leave it valid.
 pub fn valid_answers_are_taken()
@@ -51,17 +51,6 @@ pub fn orders_reach_place_by_place()
     ensures more { OneMorePlaceReachesOn }
     // An order reaches at most one cut of a given number of callers, and at most one list.
     ensures one { OneCutIsReached }
-{}
-
-/// No legal order goes on with a call after a cut and at a list where the call is infeasible, and a
-/// call that precedes another one must come first.
-pub fn infeasible_and_first_calls()
-    // A call of a legal order isn't infeasible after the cut and at the list that the places before
-    // it reach.
-    ensures infeasible { WhatStandsIsNotInfeasible }
-    // A call that precedes another one stands before it in each legal order where the other one
-    // stands.
-    ensures first { PrecedingComesFirst }
 {}
 
 /// A read-only operation with its reply may be put into a run or left out of it, at a list at which

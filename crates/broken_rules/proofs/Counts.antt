@@ -16,9 +16,9 @@ use Rattle.book_base.specs.Sequential.{IsRunFrom}
 use Rattle.book_base.specs.Order.{HasLegalOrder, IsLegalOrder, call_at, step_at}
 use Rattle.legal_orders.specs.Container.{Takes, Neither}
 use Rattle.legal_orders.proofs.Orders.{steps_of, answered_step}
-use Rattle.container_pruning.specs.declared.deal.Deal.TheVariants as deals
-use Rattle.container_pruning.specs.Deals.{deal_of}
-use Rattle.container_pruning.proofs.Dealing.{takes_by_deal}
+use Rattle.legal_orders.specs.Deals as deals
+use Rattle.legal_orders.specs.Deals.{deal_of}
+use Rattle.legal_orders.proofs.Dealing.{takes_by_deal}
 use Rattle.seq_objects.specs.declared.kind.Kind.TheVariants as kinds
 use Rattle.seq_objects.specs.Words as words
 use Rattle.seq_objects.specs.Words.{entries, entry_of, is_operation_of, is_known_word}

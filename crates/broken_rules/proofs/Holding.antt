@@ -5,17 +5,16 @@ use Rattle.book_base.specs.declared.call.Call.{Call}
 use Rattle.book_base.specs.SeqSpec.{SeqSpec}
 use Rattle.book_base.specs.Book.{Page, page_of, IsCall, Precedes}
 use Rattle.book_base.specs.Order.{HasLegalOrder}
-use Rattle.book_base.proofs.ReachingLemmas.{preceding_comes_first}
 use Rattle.legal_orders.specs.Container.{Reading, put_by, taken_by, times, IsContainer}
 use Rattle.legal_orders.specs.Calls.{PutsInAlone}
 use Rattle.legal_orders.proofs.Counting.{how_often, how_often-more, how_often-found}
 use Rattle.legal_orders.proofs.Orders.{steps_of, answered_step, putting_step}
 use Rattle.legal_orders.proofs.ContainerRules.{held_after, take_at, puts_by, takes_by, taken_once}
-use Rattle.container_pruning.specs.declared.deal.Deal.TheVariants as deals
-use Rattle.container_pruning.specs.Deals.{deal_of}
-use Rattle.container_pruning.proofs.Dealing.{puts_by_deal, deal_of_put, takes_by_deal, nothing_by_deal}
+use Rattle.legal_orders.specs.Deals as deals
+use Rattle.legal_orders.specs.Deals.{deal_of}
+use Rattle.legal_orders.proofs.Dealing.{puts_by_deal, deal_of_put, takes_by_deal, nothing_by_deal}
 use Rattle.broken_rules.proofs.Searching.{cases_call}
-use Rattle.broken_rules.proofs.Standing.{taker_of_step, putter_of_step}
+use Rattle.broken_rules.proofs.Standing.{preceding_comes_first, taker_of_step, putter_of_step}
 
 module _ (reading : Reading) (spec : SeqSpec) (book : List Page)
     (is : IsContainer reading spec.next) (none : reading.values spec.init ≡ []) where

@@ -12,7 +12,7 @@ use Rattle.book_base.specs.Order.{call_at, StandsAt, step_at, IsLegalOrder, HasL
 use Rattle.book_base.specs.Reaching.{list_after_run}
 use Rattle.legal_orders.proofs.Runs.{step_of_run}
 use Rattle.legal_orders.proofs.Orders.{steps_of, step_stands, place_of_step}
-use Rattle.container_pruning.specs.declared.deal.Deal.TheVariants as deals
+use Rattle.legal_orders.specs.Deals as deals
 use Rattle.seq_objects.specs.declared.kind.Kind.{Kind}
 use Rattle.broken_rules.specs.Deeds.{key_of_word, puts_key, finds_key, has_found, deal_on_key, deal_by_word, deal_by_key}
 use Rattle.broken_rules.proofs.Standing.{reply_of_place}

@@ -6,14 +6,13 @@ use Rattle.book_base.specs.declared.call.Call.{Call}
 use Rattle.book_base.specs.Book.{Page, IsCall, Precedes}
 use Rattle.book_base.specs.Sequential.{IsRunFrom}
 use Rattle.book_base.specs.Order.{HasLegalOrder}
-use Rattle.book_base.proofs.ReachingLemmas.{preceding_comes_first}
 use Rattle.legal_orders.specs.Container.{Effect, Puts, Takes, Neither, value_put, value_taken, put_by, taken_by, times, GivesOne, IsContainer}
 use Rattle.legal_orders.proofs.Counting.{is_once, how_often, how_often-more, how_often-found, times-shown}
 use Rattle.legal_orders.proofs.Orders.{steps_of, answered_step, putting_step}
 use Rattle.legal_orders.proofs.ContainerRules.{puts_by}
-use Rattle.container_pruning.specs.declared.deal.Deal.TheVariants as deals
-use Rattle.container_pruning.specs.Deals.{deal_of}
-use Rattle.container_pruning.proofs.Dealing.{puts_by_deal, takes_by_deal}
+use Rattle.legal_orders.specs.Deals as deals
+use Rattle.legal_orders.specs.Deals.{deal_of}
+use Rattle.legal_orders.proofs.Dealing.{puts_by_deal, takes_by_deal}
 use Rattle.seq_objects.specs.declared.kind.Kind.TheVariants as kinds
 use Rattle.seq_objects.specs.Words as words
 use Rattle.seq_objects.specs.Words.{is_operation_of, argument_of}
@@ -25,7 +24,7 @@ use Rattle.seq_objects.specs.Objects.{kind_next, kind_spec}
 use Rattle.kind_search.proofs.Reading.{shown_item}
 use Rattle.broken_rules.specs.Removals as removals
 use Rattle.broken_rules.proofs.Rising.{after_insert, after_min, after_other, mins_give_the_least}
-use Rattle.broken_rules.proofs.Standing.{taker_of_step}
+use Rattle.broken_rules.proofs.Standing.{preceding_comes_first, taker_of_step}
 
 abbrev next : List ℕ → ℕ → List ℕ × ℕ
 next list word = pqueue_after list (pqueue_operation word)

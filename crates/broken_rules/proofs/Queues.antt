@@ -9,16 +9,15 @@ use Rattle.book_base.specs.Book.{Page, IsCall, Precedes}
 use Rattle.book_base.specs.Sequential.{IsRunFrom}
 use Rattle.book_base.specs.Order.{HasLegalOrder}
 use Rattle.book_base.specs.Reaching.{list_after_run}
-use Rattle.book_base.proofs.ReachingLemmas.{preceding_comes_first}
 use Rattle.legal_orders.specs.Container.{Reading, put_by, taken_by, IsQueue}
 use Rattle.legal_orders.proofs.Ranks.{rank, shown_at_rank, found_at_rank, rank-grows, rank-more}
 use Rattle.legal_orders.proofs.QueueRuns.{queue_gives_in_order}
 use Rattle.legal_orders.proofs.Orders.{steps_of, answered_step, putting_step}
 use Rattle.legal_orders.proofs.ContainerRules.{puts_by, takes_by}
-use Rattle.container_pruning.specs.declared.deal.Deal.TheVariants as deals
-use Rattle.container_pruning.specs.Deals.{deal_of}
-use Rattle.container_pruning.proofs.Dealing.{puts_by_deal, takes_by_deal}
-use Rattle.broken_rules.proofs.Standing.{taker_of_step, putter_of_step}
+use Rattle.legal_orders.specs.Deals as deals
+use Rattle.legal_orders.specs.Deals.{deal_of}
+use Rattle.legal_orders.proofs.Dealing.{puts_by_deal, takes_by_deal}
+use Rattle.broken_rules.proofs.Standing.{preceding_comes_first, taker_of_step, putter_of_step}
 
 -- From an empty queue, a value that is taken was put in, and whatever was put in before it is taken
 -- before it.

@@ -7,9 +7,9 @@ use Rattle.book_base.specs.Order.{HasLegalOrder}
 use Rattle.legal_orders.specs.Container.{IsContainer, IsQueue, IsStack}
 use Rattle.legal_orders.proofs.QueueRuns.{queue_is_container, stack_is_container}
 use Rattle.list_pruning.specs.HoldsLast.{HoldsLast}
-use Rattle.container_pruning.specs.declared.deal.Deal.{Deal}
-use Rattle.container_pruning.specs.declared.deal.Deal.TheVariants as deals
-use Rattle.container_pruning.specs.Deals.{deal_of}
+use Rattle.legal_orders.specs.Deals.{Deal}
+use Rattle.legal_orders.specs.Deals as deals
+use Rattle.legal_orders.specs.Deals.{deal_of}
 use Rattle.seq_objects.specs.declared.kind.Kind.{Kind}
 use Rattle.seq_objects.specs.declared.kind.Kind.TheVariants as kinds
 use Rattle.kind_search.specs.Readings.{queue_reading, stack_reading}

@@ -8,16 +8,15 @@ use Rattle.book_base.specs.Book.{Page, IsCall, Precedes}
 use Rattle.book_base.specs.Sequential.{IsRunFrom}
 use Rattle.book_base.specs.Order.{HasLegalOrder}
 use Rattle.book_base.specs.Reaching.{list_after_run}
-use Rattle.book_base.proofs.ReachingLemmas.{preceding_comes_first}
 use Rattle.legal_orders.specs.Container.{Effect, Puts, Takes, Neither, Reading, value_put, value_taken, put_by, taken_by, one_if, times, GivesFirst, IsStack}
 use Rattle.legal_orders.proofs.Counting.{times-apart}
 use Rattle.legal_orders.proofs.Runs.{step_of_run}
 use Rattle.legal_orders.proofs.Orders.{steps_of, answered_step, putting_step}
 use Rattle.legal_orders.proofs.ContainerRules.{puts_by}
-use Rattle.container_pruning.specs.declared.deal.Deal.TheVariants as deals
-use Rattle.container_pruning.specs.Deals.{deal_of}
-use Rattle.container_pruning.proofs.Dealing.{puts_by_deal, takes_by_deal}
-use Rattle.broken_rules.proofs.Standing.{taker_of_step, putter_of_step}
+use Rattle.legal_orders.specs.Deals as deals
+use Rattle.legal_orders.specs.Deals.{deal_of}
+use Rattle.legal_orders.proofs.Dealing.{puts_by_deal, takes_by_deal}
+use Rattle.broken_rules.proofs.Standing.{preceding_comes_first, taker_of_step, putter_of_step}
 
 -- The values of a stack from v on are still there after a step that doesn't take v; and no w is
 -- over v, if the step doesn't put w in.

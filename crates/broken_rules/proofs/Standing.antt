@@ -1,18 +1,18 @@
--- The calls whose operations are the steps of a legal order.
-use Rattle.std.proofs.Common.{◌≡◌, ◌⊎◌, ◌∙◌, ℕ, List, unwrap_or, Option, Some, refl, sym, ap, inl, inr, slice_get}
+-- The calls whose operations are the steps of a legal order, and which stand before others.
+use Rattle.std.proofs.Common.{◌≡◌, ◌⊎◌, ◌∙◌, ℕ, ◌<◌, ◌≤◌, List, get_or, unwrap_or, Option, Some, refl, sym, ap, subst, inl, inr, slice_get}
 use Rattle.std.proofs.lemmas.Option.{same_Some, none-some}
-use Rattle.list_laws.proofs.Options.{cases_Option}
+use Rattle.list_laws.proofs.Options.{cases_Option, some_from_is_some_and}
 use Rattle.book_base.specs.declared.call.Call.{Call}
 use Rattle.book_base.specs.declared.call.Place.{Place}
 use Rattle.book_base.specs.declared.call.Record.{Record}
 use Rattle.book_base.specs.SeqSpec.{SeqSpec}
-use Rattle.book_base.specs.Book.{Page, IsCall, operation_of, record_of}
+use Rattle.book_base.specs.Book.{Page, IsCall, Precedes, operation_of, record_of}
 use Rattle.book_base.specs.Order.{call_at, StandsAt, IsLegalOrder}
 use Rattle.legal_orders.specs.Container.{Effect, Puts, Takes, Neither, Reading, value_taken, put_by, taken_by}
 use Rattle.legal_orders.proofs.Orders.{steps_of, place_of_step, has_operation, call_of_put}
-use Rattle.container_pruning.specs.declared.deal.Deal.TheVariants as deals
-use Rattle.container_pruning.specs.Deals.{shown_deal, recorded_deal, deal_by_deed, deal_by_operation, deal_of}
-use Rattle.container_pruning.proofs.Dealing.{deal_of_put}
+use Rattle.legal_orders.specs.Deals as deals
+use Rattle.legal_orders.specs.Deals.{shown_deal, recorded_deal, deal_by_deed, deal_by_operation, deal_of}
+use Rattle.legal_orders.proofs.Dealing.{deal_of_put}
 
 -- an effect by which a value is taken out is a take, and this value is the one that the reply shows
 taken_from_value : (deed : Effect) (shown : Option ℕ) (v : ℕ) → value_taken deed shown ≡ Some v
@@ -34,6 +34,28 @@ reply_of_place spec book order legal k place at r answered =
     let one : it ≡ place =
     same_Some it place (sym found.1 ∙ (ap (slice_get order) same_place ∙ at)) in
     ap (λ (p : Place). p.reply) one
+
+-- A call that precedes another one stands before it in each legal order where the other one stands.
+pub preceding_comes_first : (spec : SeqSpec) (book : List Page) (a b : Call) → Precedes book a b
+    → (order : List Place) → IsLegalOrder spec book order → (q : ℕ) → StandsAt order q b → (p : ℕ)
+    × (p < q) × StandsAt order p a
+preceding_comes_first spec book a b precedes order legal q stands =
+    elim precedes [
+      | inl answered ↦
+          let says : Record → Type 0 = λ r. get_or r.view b.caller 0 ≤ b.number in
+          let known = some_from_is_some_and (record_of book a) says answered in
+          let found = legal.answered a known.0 known.1 in
+          let there : StandsAt order found.0 a =
+          (record { caller = a.caller; number = a.number; reply = known.0.reply }, found.1, refl) in
+          (found.0, legal.precedence found.0 q a b there stands (inl answered), there)
+      | inr own ↦
+          let found = legal.earlier q b stands a.number own.1 in (
+            found.0,
+            found.1,
+            subst (λ (i : ℕ). StandsAt order found.0 (record { caller = i; number = a.number }))
+                (sym own.0) found.2,
+          )
+    ]
 
 -- A step that takes out a value is the operation of a call that takes it, or of a take without an
 -- answer.

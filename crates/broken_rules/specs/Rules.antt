@@ -4,7 +4,7 @@ use Rattle.book_base.specs.declared.call.Call.{Call}
 use Rattle.book_base.specs.Book.{Page, operation_of, record_of, IsCall, IsSmall, Precedes}
 use Rattle.book_base.specs.Order.{HasLegalOrder}
 use Rattle.book_base.specs.Reaching.{MayReply}
-use Rattle.container_pruning.specs.declared.deal.Deal.{Deal}
+use Rattle.legal_orders.specs.Deals.{Deal}
 use Rattle.seq_objects.specs.declared.kind.Kind.{Kind}
 use Rattle.seq_objects.specs.declared.kind.Kind.TheVariants as kinds
 use Rattle.seq_objects.specs.Objects.{kind_next, kind_spec}

@@ -2,14 +2,14 @@
 
 ghost use Rattle.std.specs.Prelude.{◌≡◌, ◌==◌, ◌&&◌, ◌||◌};
 ghost use Rattle.book_base.specs.Book.{IsCall, record_of};
-ghost use Rattle.container_pruning.specs.Deals.{deed_of, deal_of, take_of};
+ghost use Rattle.legal_orders.specs.Deals.{deed_of, deal_of, take_of};
 ghost use Rattle.kind_search.specs.Readings.{queue_reading};
 ghost use Rattle.broken_rules.specs.Deeds as deeds;
 ghost use Rattle.broken_rules.specs.Deeds.{reading_of, counter_reading, did, deal_by_key, deal_on_key, deal_of_act, value_by, is_put, is_take, is_nothing, is_open};
 
 use book_base::{Book, Call, OpWord, SeqObject, low};
-use container_pruning::{Reader, Role};
 use kind_search::{PqueueReader, QueueReader, RegisterReader, StackReader};
+use legal_orders::{Reader, Role};
 use seq_objects::{Kind, NO, YES, shown_value};
 
 /// How many keys there are: a key is below this number.

@@ -1,4 +1,3 @@
-pub mod Handing
 pub mod Published
 pub mod Watched
 pub mod Values

@@ -21,12 +21,12 @@ use Rattle.drv_wrapper.specs.States.{caller_announced, announced_local}
 use Rattle.enforcer.specs.declared.outcome.Outcome.{Outcome}
 use Rattle.enforcer.specs.declared.outcome.Outcome.TheVariants as outcome
 use Rattle.enforcer.specs.Judged.{is_illegal}
-use Rattle.enforcer.specs.Lines.{OrderStandsIn}
+use Rattle.enforcer.specs.Verdicts.{OrderStandsIn}
 use Rattle.call_handles.specs.declared.stage.HandleStage.{HandleStage}
 use Rattle.call_handles.specs.declared.stage.HandleStage.TheVariants.{Idle, Announced, Wrong, Unjudged}
 use Rattle.call_handles.specs.declared.stage.Wrong as wrong
-use Rattle.call_handles.specs.declared.caller_handle.CallAnswer.{CallAnswer}
-use Rattle.call_handles.specs.declared.caller_handle.CallAnswer.TheVariants as answer
+use Rattle.call_handles.specs.declared.verdict.HandleVerdict.{HandleVerdict}
+use Rattle.call_handles.specs.declared.verdict.HandleVerdict.TheVariants as verdict
 use Rattle.call_handles.specs.declared.caller_handle.CallerHandle.{CallerHandle}
 use Rattle.call_handles.specs.declared.kept.KeptByHandle.{KeptByHandle}
 use Rattle.call_handles.specs.Ends.{IsAnnouncedBy, IsPublishedBy, IsJudgedAs}
@@ -110,21 +110,21 @@ outcome_of w = outcome.Illegal w.reply w.view w.seen w.book
 -- with their book, which has no legal order. The record of a call that isn't judged is published
 -- all the same, and its caller is halted.
 abbrev pub AnswersFor : Rows Outside → Kind → announced.Announced Outside → ℕ → HandleStage
-    → CallAnswer → Type 0
-AnswersFor r kind call reply stage answer.Delivered =
+    → HandleVerdict → Type 0
+AnswersFor r kind call reply stage verdict.Legal =
     (c : Caller Outside) × (found : Outcome) × (stage ≡ Idle c) × (is_illegal found ≡ false)
     × IsJudgedAs every_reply r (kind_spec kind) call reply c found
-AnswersFor r kind call reply stage answer.Illegal =
+AnswersFor r kind call reply stage verdict.Illegal =
     (w : wrong.Wrong) × (stage ≡ Wrong w)
     × IsJudgedAs every_reply r (kind_spec kind) call reply w.caller (outcome_of w)
-AnswersFor r kind call reply stage answer.Unjudged =
+AnswersFor r kind call reply stage verdict.Unjudged =
     (c : Caller Outside) × (told : Record) × (seen : List ℕ) × (stage ≡ Unjudged c)
     × IsPublishedBy every_reply r call reply c told seen
     × (stance_of c ≡ record ready { live = false })
 
 -- The call that is announced at the handle h has ended with this reply and this answer, which is
 -- right, and its caller is in the stage of the handle k.
-abbrev pub HasEnded : ℕ → CallerHandle → CallAnswer → CallerHandle → Type 0
+abbrev pub HasEnded : ℕ → CallerHandle → HandleVerdict → CallerHandle → Type 0
 HasEnded reply h found k =
     (call : announced.Announced Outside) × (h.stage ≡ Announced call)
     × AnswersFor (rows_of h) (kind_of h) call reply k.stage found

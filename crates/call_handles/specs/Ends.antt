@@ -13,14 +13,8 @@ use Rattle.drv_wrapper.specs.Events.{HasAnnounced}
 use Rattle.drv_wrapper.specs.Growth.{Grows}
 use Rattle.drv_wrapper.specs.States.{caller_announced, op_announced, announced_local}
 use Rattle.enforcer.specs.declared.outcome.Outcome.{Outcome}
-use Rattle.enforcer.specs.declared.seen_call.Seen.{Seen}
 use Rattle.enforcer.specs.Judged.{record_in, cut_in, stance_after, AreWide, IsRightByPeeks, IsRightOf}
 use Rattle.enforcer.specs.Recorded.{HoldsOwn}
-use Rattle.enforcer.specs.States.{reply_seen, view_seen}
-
--- The record of a call that is published, whose caller has seen a cut since.
-abbrev pub record_seen : {P : Type 0} → Seen P → Record
-record_seen s = record { reply = reply_seen s; view = view_seen s }
 
 module _ {P : Type 0} (meaning : P → ℕ → ℕ → Meaning) (r : Rows P) where
   -- The call is one that this caller announced with this operation: the caller made one scan of N,

@@ -1,5 +1,3 @@
-pub mod Passes
-pub mod Told
 pub mod Ends
 pub mod Callers
 pub mod Monitors

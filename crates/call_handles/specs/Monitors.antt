@@ -12,15 +12,15 @@ use Rattle.book_text.specs.BookRules.{IsBookText}
 use Rattle.text_fields.specs.declared.version.Version.TheVariants.{Second}
 use Rattle.row_table.specs.declared.rows.Rows.{Rows}
 use Rattle.row_table.specs.Callers.{shape_of, who_of}
-use Rattle.enforcer.specs.Lines.{OrderStandsIn}
+use Rattle.enforcer.specs.Verdicts.{OrderStandsIn}
 use Rattle.monitor.specs.declared.monitor.Monitor.{Monitor}
 use Rattle.monitor.specs.declared.round.Round.{Round}
 use Rattle.monitor.specs.declared.round.Round.TheVariants as round
 use Rattle.monitor.specs.declared.witness.Witness.{Witness}
 use Rattle.monitor.specs.Monitors.{caller_of, local_of, own_of, kept_by, IsOn, IsMonitorOf, HasScannedSome, HasFound}
 use Rattle.monitor.specs.Worlds.{IsRightRound}
-use Rattle.call_handles.specs.declared.monitor_handle.Judgement.{Judgement}
-use Rattle.call_handles.specs.declared.monitor_handle.Judgement.TheVariants.{Legal, Illegal, Unjudged}
+use Rattle.call_handles.specs.declared.verdict.HandleVerdict.{HandleVerdict}
+use Rattle.call_handles.specs.declared.verdict.HandleVerdict.TheVariants.{Legal, Illegal, Unjudged}
 use Rattle.call_handles.specs.declared.monitor_handle.MonitorHandle.{MonitorHandle}
 use Rattle.call_handles.specs.Callers.{every_reply}
 
@@ -73,7 +73,7 @@ pub record IsRightOfRound (h : MonitorHandle) (m : Monitor Outside) (made : Roun
 -- What a judgement of the monitor says: that a round was made at a cut where the published records
 -- have a legal order; that one was made where they have none, with their book as the witness; or
 -- that M was scanned, without a verdict and without a witness.
-abbrev pub HasJudged : MonitorHandle → Judgement → MonitorHandle → Type 0
+abbrev pub HasJudged : MonitorHandle → HandleVerdict → MonitorHandle → Type 0
 HasJudged h Legal k = (cut : List ℕ) × IsRightOfRound h k.monitor (round.Legal cut)
 HasJudged h Illegal k = (cut : List ℕ) × IsRightOfRound h k.monitor (round.Illegal cut)
 HasJudged h Unjudged k = HasScannedSome (local_of h.monitor) (local_of k.monitor)

@@ -4,9 +4,8 @@ use Rattle.std.specs.Prelude.{◌≡◌, ℕ, ◌≤◌, ◌+◌, List, Option, 
 use Rattle.book_base.specs.declared.TheConstants.{MAX_CALLERS, MAX_CALLS}
 use Rattle.seq_objects.specs.declared.kind.Kind.{Kind}
 use Rattle.seq_objects.specs.Words.{kind_name}
-use Rattle.call_handles.specs.declared.caller_handle.CallAnswer.{CallAnswer}
 use Rattle.call_handles.specs.declared.caller_handle.CallerHandle.{CallerHandle}
-use Rattle.call_handles.specs.declared.monitor_handle.Judgement.{Judgement}
+use Rattle.call_handles.specs.declared.verdict.HandleVerdict.{HandleVerdict}
 use Rattle.call_handles.specs.declared.monitor_handle.MonitorHandle.{MonitorHandle}
 use Rattle.call_handles.specs.declared.table_handle.TableHandle.{TableHandle}
 use Rattle.call_handles.specs.declared.handle.Handle.{Handle}
@@ -77,7 +76,7 @@ Begins op before after = AreCallers (HasBegun op) before after
 
 -- The call that is announced at the handle before has ended with this reply and this answer, which
 -- is right, and its caller is in the stage of the handle after.
-abbrev pub Ends : ℕ → CallAnswer → Option Handle → Option Handle → Type 0
+abbrev pub Ends : ℕ → HandleVerdict → Option Handle → Option Handle → Type 0
 Ends reply answer before after = AreCallers (λ h k. HasEnded reply h answer k) before after
 
 -- The call that the caller had announced is published with this reply, and nobody has judged it.
@@ -89,8 +88,8 @@ abbrev pub IsMonitors : (MonitorHandle → Type 0) → Option Handle → Type 0
 IsMonitors Is found = (m : MonitorHandle) × (found ≡ Some (Monitor m)) × Is m
 
 -- The handles before and after are monitors' handles of one table and one kind, and the monitor has
--- made a round with this judgement.
-abbrev pub Judges : Judgement → Option Handle → Option Handle → Type 0
+-- made a round with this verdict.
+abbrev pub Judges : HandleVerdict → Option Handle → Option Handle → Type 0
 Judges judgement before after =
     (m k : MonitorHandle) × (before ≡ Some (Monitor m)) × (after ≡ Some (Monitor k))
     × IsOfSameWatch m k × HasJudged m judgement k

@@ -7,6 +7,7 @@ use crate::judging::judge_alone;
 use crate::kept::KeptByHandle;
 use crate::publishing::publish_alone;
 use crate::stage::{HandleStage, Wrong};
+use crate::verdict::HandleVerdict;
 use book_base::{NoMemory, OpWord};
 use book_text::write_book;
 use row_table::{Caller, Rows};
@@ -24,17 +25,6 @@ use std::sync::Arc;
 pub struct CallerHandle {
     pub(crate) kept: KeptByHandle,
     pub(crate) stage: HandleStage,
-}
-
-/// What became of a call whose reply was handed in.
-#[derive(Clone, Copy, Debug, PartialEq, Eq)]
-pub enum CallAnswer {
-    /// The reply is delivered: the published records at the seen cut have a legal order.
-    Delivered,
-    /// The object is wrong: the published records at the seen cut have no legal order.
-    Illegal,
-    /// Memory was refused, and nobody has checked the reply.
-    Unjudged,
 }
 
 impl CallerHandle {
@@ -131,7 +121,7 @@ impl CallerHandle {
 
     /// Hands in the object's reply to the call that is announced, and judges the call. Where no
     /// call is announced there is no answer, and the handle is as it was.
-    pub fn answered(self, alloc: Global, reply: u64) -> (CallerHandle, Option<CallAnswer>)
+    pub fn answered(self, alloc: Global, reply: u64) -> (CallerHandle, Option<HandleVerdict>)
         // The handle is sound: its caller, stage and kept book fit one another.
         requires sound { IsSoundCaller self }
         // The handle that comes back is sound: its caller, stage and kept book fit one another.
@@ -141,8 +131,8 @@ impl CallerHandle {
         // There is an answer exactly where the caller has announced a call whose reply isn't handed
         // in yet.
         ensures when { IsSome result.1 ↔ HasAnnounced self }
-        // With an answer the call has this reply, and the answer is right: delivered where the book
-        // at the cut that its caller has seen has a legal order, illegal where that book has none,
+        // With an answer the call has this reply, and the answer is right: legal where the book at
+        // the cut that its caller has seen has a legal order, illegal where that book has none,
         // or unjudged where the call is published and nobody has judged it.
         ensures ended { IfSome result.1 (λ answer. HasEnded reply self answer result.0) }
         // Without an answer the handle is as it was.

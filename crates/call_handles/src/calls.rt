@@ -5,7 +5,7 @@ ghost use Rattle.call_handles.specs.Monitors.{MayJudge};
 ghost use Rattle.call_handles.specs.Slots.{handle_in, IsCallers, Begins, Ends, Publishes, IsMonitors, Judges, HasWitness, Witnesses};
 
 use crate::slot::Slot;
-use crate::{CallAnswer, Handle, Judgement};
+use crate::{Handle, HandleVerdict};
 use book_base::{NoMemory, OpWord};
 use core::mem::replace_with;
 use std::alloc::Global;
@@ -59,7 +59,7 @@ pub fn announce(alloc: Global, slot: &mut Slot, op: OpWord) -> bool
 
 // The handle after the reply to its announced call is handed in, where one is announced, and the
 // answer.
-fn answered_by(handle: Handle, given: (Global, u64)) -> (Handle, Option<CallAnswer>)
+fn answered_by(handle: Handle, given: (Global, u64)) -> (Handle, Option<HandleVerdict>)
     requires sound { IsSound handle }
     ensures sound { IsSound result.0 }
     ensures when { IsSome result.1 ↔ IsCallers HasAnnounced (Some handle) }
@@ -77,7 +77,7 @@ fn answered_by(handle: Handle, given: (Global, u64)) -> (Handle, Option<CallAnsw
     }
 }
 
-fn answered_in(slot: Slot, given: (Global, u64)) -> (Slot, Option<CallAnswer>)
+fn answered_in(slot: Slot, given: (Global, u64)) -> (Slot, Option<HandleVerdict>)
     requires taken { IsTrue (is_some (handle_in slot)) }
     ensures when { IsSome result.1 ↔ IsCallers HasAnnounced (handle_in slot) }
     ensures ended { IfSome result.1 (λ answer.
@@ -92,12 +92,12 @@ fn answered_in(slot: Slot, given: (Global, u64)) -> (Slot, Option<CallAnswer>)
 /// Hands in the reply to the call announced by the caller whose handle is in the slot, and judges
 /// the call. Where the slot has no caller with an announced call that waits for its reply, there is
 /// no answer, and the handle is as it was.
-pub fn answered(alloc: Global, slot: &mut Slot, reply: u64) -> Option<CallAnswer>
+pub fn answered(alloc: Global, slot: &mut Slot, reply: u64) -> Option<HandleVerdict>
     // There is an answer exactly where the slot has a caller that has announced a call whose reply
     // isn't handed in yet.
     ensures when { IsSome result ↔ IsCallers HasAnnounced (handle_in slot.old) }
-    // With an answer the call has this reply, and the answer is right: delivered where the book at
-    // the cut that its caller has seen has a legal order, illegal where that book has none, or
+    // With an answer the call has this reply, and the answer is right: legal where the book at the
+    // cut that its caller has seen has a legal order, illegal where that book has none, or
     // unjudged where the call is published and nobody has judged it.
     ensures ended { IfSome result (λ answer.
         Ends reply answer (handle_in slot.old) (handle_in slot.new)) }
@@ -158,8 +158,8 @@ pub fn publish(alloc: Global, slot: &mut Slot, reply: u64) -> bool
     replace_with(slot, (alloc, reply), published_in)
 }
 
-// The handle after a round of its monitor, where the monitor may make one, and the judgement.
-fn judged_by(handle: Handle, alloc: Global) -> (Handle, Option<Judgement>)
+// The handle after a round of its monitor, where the monitor may make one, and the verdict.
+fn judged_by(handle: Handle, alloc: Global) -> (Handle, Option<HandleVerdict>)
     requires sound { IsSound handle }
     ensures sound { IsSound result.0 }
     ensures when { IsSome result.1 ↔ IsMonitors MayJudge (Some handle) }
@@ -175,7 +175,7 @@ fn judged_by(handle: Handle, alloc: Global) -> (Handle, Option<Judgement>)
     }
 }
 
-fn judged_in(slot: Slot, alloc: Global) -> (Slot, Option<Judgement>)
+fn judged_in(slot: Slot, alloc: Global) -> (Slot, Option<HandleVerdict>)
     requires taken { IsTrue (is_some (handle_in slot)) }
     ensures when { IsSome result.1 ↔ IsMonitors MayJudge (handle_in slot) }
     ensures judged { IfSome result.1 (λ found. Judges found (handle_in slot) (handle_in result.0)) }
@@ -189,7 +189,7 @@ fn judged_in(slot: Slot, alloc: Global) -> (Slot, Option<Judgement>)
 /// Makes a round of the monitor whose handle is in the slot, where no earlier round was illegal.
 /// The answer is what the round found. Where the slot has no monitor, or one that has made an
 /// illegal round, there is no answer, and the handle is as it was.
-pub fn judge(alloc: Global, slot: &mut Slot) -> Option<Judgement>
+pub fn judge(alloc: Global, slot: &mut Slot) -> Option<HandleVerdict>
     // There is an answer exactly where the slot has a monitor that has made no illegal round.
     ensures when { IsSome result ↔ IsMonitors MayJudge (handle_in slot.old) }
     // With an answer the slot's monitor has made a round. The book at the round's cut has a legal

@@ -5,12 +5,11 @@ ghost use Rattle.row_gather.specs.Gathered.{IsGatheredBy};
 ghost use Rattle.drv_wrapper.specs.States.{caller_announced, announced_local};
 ghost use Rattle.call_handles.specs.Callers.{every_reply, IsSoundAt, KeepsStanding, AnswersFor};
 
-use crate::caller_handle::CallAnswer;
 use crate::finishing::finish;
 use crate::kept::KeptByHandle;
-use crate::stage::{HandleStage, Wrong};
+use crate::stage::HandleStage;
+use crate::verdict::HandleVerdict;
 use drv_wrapper::Announced;
-use enforcer::{Judged, Unjudged};
 use row_table::Steps;
 use std::alloc::Global;
 use std::marker::Brand;
@@ -24,7 +23,7 @@ fn judge_counted<L: Ledger>(
     call: Announced,
     reply: u64,
     blank: Blank,
-) -> (HandleStage, CallAnswer)
+) -> (HandleStage, HandleVerdict)
     requires blank { (blank.name ≡ L.name) × (blank.parts ≡ L.parts) × (0 < blank.parts) }
     requires rows { IsCallerOf every_reply (arc_value kept.old.rows) (caller_announced call) }
     requires gathered { IsGatheredBy (announced_local call) kept.old.gathered }
@@ -36,7 +35,7 @@ fn judge_counted<L: Ledger>(
         result.0 result.1 }
 {
     let mut steps = Steps::<L>::new(blank);
-    let ended = finish(
+    finish(
         alloc,
         &kept.rows,
         call,
@@ -45,35 +44,7 @@ fn judge_counted<L: Ledger>(
         &mut kept.gathered,
         &mut kept.standing,
         &mut steps,
-    );
-    match ended {
-        Ok((caller, judged)) => match judged {
-            Judged::Delivered { .. } => (HandleStage::Idle(caller), CallAnswer::Delivered),
-            Judged::Illegal {
-                reply,
-                view,
-                seen,
-                book,
-            } => {
-                let wrong = Wrong {
-                    caller,
-                    reply,
-                    view,
-                    seen,
-                    book,
-                };
-                (HandleStage::Wrong(wrong), CallAnswer::Illegal)
-            }
-        },
-        Err(
-            Unjudged {
-                caller,
-                reply: _,
-                view: _,
-                seen: _,
-            },
-        ) => (HandleStage::Unjudged(caller), CallAnswer::Unjudged),
-    }
+    )
 }
 
 /// Judges a call whose reply is handed in. It answers the stage of the call's caller afterwards,
@@ -83,7 +54,7 @@ pub(crate) fn judge_alone(
     kept: &mut KeptByHandle,
     call: Announced,
     reply: u64,
-) -> (HandleStage, CallAnswer)
+) -> (HandleStage, HandleVerdict)
     requires rows { IsCallerOf every_reply (arc_value kept.old.rows) (caller_announced call) }
     requires gathered { IsGatheredBy (announced_local call) kept.old.gathered }
     requires stands { KeepsStanding kept.old }

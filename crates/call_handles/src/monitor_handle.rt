@@ -3,6 +3,7 @@ ghost use Rattle.std.specs.Arc.{arc_value};
 ghost use Rattle.row_table.specs.Callers.{IsCallerOf, IsFree};
 
 use crate::rounds::round_alone;
+use crate::verdict::HandleVerdict;
 use book_base::NoMemory;
 use book_text::write_book;
 use frontier_check::KeptOrder;
@@ -24,17 +25,6 @@ pub struct MonitorHandle {
     pub(crate) board: Board,
     pub(crate) monitor: Monitor,
     pub(crate) standing: Option<KeptOrder>,
-}
-
-/// What a round of a monitor found.
-#[derive(Clone, Copy, Debug, PartialEq, Eq)]
-pub enum Judgement {
-    /// The published records at the round's cut have a legal order.
-    Legal,
-    /// The object is wrong: the published records at the round's cut have no legal order.
-    Illegal,
-    /// Memory was refused, and nobody has judged the published records at the round's cut.
-    Unjudged,
 }
 
 impl MonitorHandle {
@@ -82,7 +72,7 @@ impl MonitorHandle {
     /// Makes a round, where no earlier one was illegal: scans M, and judges the book at the scan's
     /// cut. After an illegal round there is no answer, and the handle is as it was. After a round
     /// that lacked memory the monitor may make a further one.
-    pub fn judge(self, alloc: Global) -> (MonitorHandle, Option<Judgement>)
+    pub fn judge(self, alloc: Global) -> (MonitorHandle, Option<HandleVerdict>)
         // The handle is sound: its monitor, board and kept order fit one another.
         requires sound { IsSoundMonitor self }
         // The handle that comes back is sound: its monitor, board and kept order fit one another.

@@ -2,10 +2,9 @@ ghost use Rattle.std.specs.Prelude.{◌≡◌, ◌<◌, List, ℕ};
 ghost use Rattle.book_base.specs.declared.call.Record.{Record};
 ghost use Rattle.row_table.specs.Callers.{IsCallerOf, IsFree};
 ghost use Rattle.drv_wrapper.specs.States.{caller_announced};
-ghost use Rattle.enforcer.specs.States.{caller_seen, cut_seen};
-ghost use Rattle.call_handles.specs.Ends.{record_seen, IsPublishedBy};
+ghost use Rattle.enforcer.specs.States.{caller_seen, cut_seen, record_seen};
+ghost use Rattle.call_handles.specs.Ends.{IsPublishedBy};
 
-use crate::handed::hand_in;
 use drv_wrapper::{Announced, view};
 use enforcer::{Seen, publish, seen};
 use row_table::{Caller, Rows, Steps};
@@ -26,7 +25,7 @@ pub(crate) fn publish_reply<L: Ledger>(
     ensures published { IsPublishedBy ⟦<Outside as Program>⟧.meaning rows.now announced reply
         (caller_seen result) (record_seen result) (cut_seen result) }
 {
-    let answered = hand_in(announced, reply);
+    let answered = announced.answer(reply);
     let viewed = view(answered, rows, steps);
     let published = publish(viewed, rows, steps);
     seen(published, rows, steps)

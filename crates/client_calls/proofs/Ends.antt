@@ -17,12 +17,12 @@ use Rattle.row_table.specs.Callers.{shape_of, who_of, local_with}
 use Rattle.drv_wrapper.proofs.Locals.{local_has_phase}
 use Rattle.enforcer.specs.declared.published_call.Published.{Published}
 use Rattle.enforcer.specs.declared.seen_call.Seen.{Seen}
-use Rattle.enforcer.specs.States.{caller_published, caller_seen, cut_seen}
+use Rattle.enforcer.specs.States.{caller_published, caller_seen, cut_seen, record_published, record_seen}
 use Rattle.client_calls.specs.declared.stand.CallerState.{CallerState}
 use Rattle.client_calls.specs.declared.stand.CallerState.TheVariants as at
 use Rattle.client_calls.specs.declared.ended.Ended.{Ended}
 use Rattle.client_calls.specs.declared.ended.Ended.TheVariants.{GoesOn, Halts, WantsMemory}
-use Rattle.client_calls.specs.Endings.{record_published, record_seen, local_ended, HasEnded, HasEndedSeen, IsNoted}
+use Rattle.client_calls.specs.Endings.{local_ended, HasEnded, HasEndedSeen, IsNoted}
 use Rattle.client_calls.specs.Stands.{phases_at}
 use Rattle.client_calls.specs.Course.{HasCome}
 use Rattle.client_calls.proofs.Phases.{progress_along}

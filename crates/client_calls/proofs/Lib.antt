@@ -3,7 +3,6 @@ pub mod Lines
 pub mod Coming
 pub mod Ends
 pub mod Told
-pub mod Judged
 pub mod Seen
 pub mod Standing
 pub mod Spending

@@ -17,10 +17,10 @@ use Rattle.report_lines.specs.Allotments.{phases_of, KeepsTo}
 use Rattle.report_lines.proofs.Telling.{as_many_calls}
 use Rattle.row_table.specs.declared.rows.Rows.{Rows}
 use Rattle.drv_wrapper.specs.States.{reply_viewed, view_viewed}
+use Rattle.enforcer.specs.States.{record_published}
 use Rattle.client_calls.specs.declared.stand.CallerState.{CallerState}
 use Rattle.client_calls.specs.declared.stand.CallerState.TheVariants.{Idle, Announced, Answered, Viewed, Published, Halted, Unjudged}
 use Rattle.client_calls.specs.Ends.{IsLineOf, AreLinesOfCalls, HasLeftAt}
-use Rattle.client_calls.specs.Endings.{record_published}
 use Rattle.client_calls.specs.Stands.{local_at_stand, phases_at}
 use Rattle.client_calls.specs.Course.{EndsInError, HasCome}
 use Rattle.client_calls.specs.Clients.{Spent}

@@ -12,9 +12,9 @@ use Rattle.drv_wrapper.specs.Growth.{Grows}
 use Rattle.drv_wrapper.proofs.Growing.{grows_on}
 use Rattle.enforcer.specs.declared.published_call.Published.{Published}
 use Rattle.enforcer.specs.declared.seen_call.Seen.{Seen}
-use Rattle.enforcer.specs.States.{caller_published, reply_published, view_published, caller_seen, reply_seen, view_seen, cut_seen}
+use Rattle.enforcer.specs.States.{caller_published, reply_published, view_published, caller_seen, reply_seen, view_seen, cut_seen, record_published, record_seen}
 use Rattle.client_calls.specs.declared.ended.Ended.{Ended}
-use Rattle.client_calls.specs.Endings.{record_published, record_seen, caller_ended, local_ended, HasEnded, StandsAfter, FitsError, SaysOf}
+use Rattle.client_calls.specs.Endings.{caller_ended, local_ended, HasEnded, StandsAfter, FitsError, SaysOf}
 
 module _ {P : Type 0} (meaning : P → ℕ → ℕ → Meaning) (r : Rows P)
     (says : ℕ → Local → Record → List ℕ → LineEnd → Type 0) where

@@ -4,7 +4,6 @@ use Rattle.book_base.specs.declared.call.Record.{Record}
 use Rattle.world_core.specs.Shape.{Meaning}
 use Rattle.world_core.specs.Local.{Local}
 use Rattle.report_lines.specs.declared.line.LineEnd.{LineEnd}
-use Rattle.report_lines.specs.declared.line.LineEnd.TheVariants.{Pending, Unchecked, Delivered, Error}
 use Rattle.report_lines.specs.declared.line.Line.{Line}
 use Rattle.report_lines.specs.Lines.{is_error}
 use Rattle.report_lines.specs.Phases.{progress_of}
@@ -15,21 +14,13 @@ use Rattle.row_table.specs.Callers.{local_with, stance_of, IsFree, IsStill}
 use Rattle.drv_wrapper.specs.Growth.{Grows}
 use Rattle.enforcer.specs.declared.published_call.Published.{Published}
 use Rattle.enforcer.specs.declared.seen_call.Seen.{Seen}
-use Rattle.enforcer.specs.States.{caller_published, reply_published, view_published, caller_seen, reply_seen, view_seen, cut_seen}
+use Rattle.enforcer.specs.States.{caller_published, caller_seen, cut_seen, record_published, record_seen}
 use Rattle.client_calls.specs.declared.stand.CallerState.{CallerState}
 use Rattle.client_calls.specs.declared.stand.CallerState.TheVariants.{Idle, Halted, Unjudged}
 use Rattle.client_calls.specs.declared.ended.Ended.{Ended}
 use Rattle.client_calls.specs.declared.ended.Ended.TheVariants.{GoesOn, Halts, WantsMemory}
 
 module _ {P : Type 0} where
-  -- The record of a call for which a cut was seen.
-  abbrev pub record_seen : Seen P → Record
-  record_seen s = record { reply = reply_seen s; view = view_seen s }
-
-  -- The record of a call that is published.
-  abbrev pub record_published : Published P → Record
-  record_published p = record { reply = reply_published p; view = view_published p }
-
   -- The caller of a call that has ended.
   abbrev pub caller_ended : Ended P → Caller P
   caller_ended (GoesOn c end) = c
@@ -62,14 +53,6 @@ module _ {P : Type 0} where
   SaysOf says r cut (GoesOn c end) = says (local_with c) r cut end
   SaysOf says r cut (Halts c end) = says (local_with c) r cut end
   SaysOf says r cut (WantsMemory s) = (record_seen s ≡ r) × (cut_seen s ≡ cut)
-
-  -- The ended call is that of this caller with this end of its line: it halts the caller where the
-  -- end is an error, and else lets it go on.
-  abbrev pub IsEndedBy : Caller P → LineEnd → Ended P → Type 0
-  IsEndedBy c Pending ended = ended ≡ GoesOn c Pending
-  IsEndedBy c (Unchecked r) ended = ended ≡ GoesOn c (Unchecked r)
-  IsEndedBy c (Delivered r cut) ended = ended ≡ GoesOn c (Delivered r cut)
-  IsEndedBy c (Error r cut) ended = ended ≡ Halts c (Error r cut)
 
   -- What an ended call leaves: its caller idle, halted or unjudged, and the call's line after the
   -- caller's lines `own`, unless the call is unjudged, and so has no line.

@@ -11,9 +11,9 @@ use Rattle.row_table.specs.declared.stance.Stance.{Stance}
 use Rattle.row_table.specs.Benches.{fresh_stance}
 use Rattle.row_table.specs.Callers.{stance_of}
 use Rattle.drv_wrapper.specs.States.{reply_viewed, view_viewed}
+use Rattle.enforcer.specs.States.{record_published}
 use Rattle.client_calls.specs.Ends.{HasLeftAt}
 use Rattle.client_calls.specs.Stands.{caller_at, phases_at}
-use Rattle.client_calls.specs.Endings.{record_published}
 use Rattle.client_calls.specs.Clients.{Spent}
 use Rattle.client_calls.specs.declared.stand.CallerState.{CallerState}
 use Rattle.client_calls.specs.declared.stand.CallerState.TheVariants.{Idle, Announced, Answered, Viewed, Published, Halted, Unjudged}

@@ -8,8 +8,7 @@ use Rattle.row_table.specs.declared.caller.Caller.{Caller}
 use Rattle.row_table.specs.declared.rows.Rows.{Rows}
 use Rattle.row_table.specs.Callers.{local_with, stance_of, IsFree, MayGet}
 use Rattle.drv_wrapper.specs.States.{caller_announced, op_announced, announced_local, caller_answered, op_answered, reply_answered, caller_viewed, reply_viewed, view_viewed}
-use Rattle.enforcer.specs.States.{caller_published, reply_published, view_published, caller_seen, cut_seen}
-use Rattle.client_calls.specs.Endings.{record_seen}
+use Rattle.enforcer.specs.States.{caller_published, reply_published, view_published, caller_seen, cut_seen, record_seen}
 use Rattle.client_calls.specs.declared.stand.CallerState.{CallerState}
 use Rattle.client_calls.specs.declared.stand.CallerState.TheVariants.{Idle, Announced, Answered, Viewed, Published, Halted, Unjudged}
 

@@ -3,7 +3,6 @@ ghost use Rattle.client_calls.specs.Staying.{deferred_stays};
 
 use crate::ended::Ended;
 use crate::ending::Ending;
-use book_base::Record;
 use enforcer::{Gathered, Seen};
 use frontier_check::KeptOrder;
 use report_lines::LineEnd;
@@ -31,9 +30,8 @@ impl Ending for Deferring {
         _standing: &mut Option<KeptOrder>,
         _steps: &mut Steps<L>,
     ) -> Ended<P> {
-        let reply = seen.reply();
-        let view = seen.view();
-        Ended::GoesOn(seen.defer(), LineEnd::Unchecked(Record { reply, view }))
+        let record = seen.record();
+        Ended::GoesOn(seen.defer(), LineEnd::Unchecked(record))
     }
 
     fn another(&self) -> Self {

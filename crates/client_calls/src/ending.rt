@@ -7,9 +7,9 @@ ghost use Rattle.report_lines.specs.Phases.{progress_of};
 ghost use Rattle.row_table.specs.Callers.{local_with, IsCallerOf, IsStill};
 ghost use Rattle.row_gather.specs.Gathered.{IsGatheredBy};
 ghost use Rattle.drv_wrapper.specs.Growth.{Grows};
-ghost use Rattle.enforcer.specs.States.{caller_seen, cut_seen};
-ghost use Rattle.client_calls.specs.Endings.{record_seen, caller_ended, local_ended, StandsAfter, FitsError, SaysOf};
-ghost use Rattle.enforcer.specs.Lines.{OrderStandsIn};
+ghost use Rattle.enforcer.specs.States.{caller_seen, cut_seen, record_seen};
+ghost use Rattle.client_calls.specs.Endings.{caller_ended, local_ended, StandsAfter, FitsError, SaysOf};
+ghost use Rattle.enforcer.specs.Verdicts.{OrderStandsIn};
 
 use crate::ended::Ended;
 use enforcer::{Gathered, Seen};

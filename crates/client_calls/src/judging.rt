@@ -1,13 +1,12 @@
 ghost use Rattle.client_calls.specs.Ends.{SaysJudged};
-ghost use Rattle.client_calls.specs.Endings.{IsEndedBy};
 ghost use Rattle.client_calls.specs.Staying.{judged_stays};
 
 use crate::ended::Ended;
 use crate::ending::Ending;
-use enforcer::{Gathered, Seen, judge_line};
+use enforcer::{CallVerdict, Gathered, Seen, judge_seen};
 use frontier_check::KeptOrder;
 use report_lines::LineEnd;
-use row_table::{Caller, Rows, Steps};
+use row_table::{Rows, Steps};
 use search_hints::SearchHints;
 use std::alloc::Global;
 use std::sync::ledger::Ledger;
@@ -18,19 +17,6 @@ use world_core::Program;
 pub struct Judging<'a, S> {
     pub alloc: Global,
     pub sequential: &'a S,
-}
-
-// The ended call of `caller` whose line ends with `end`: an error halts the caller, and any other
-// end lets it go on.
-fn ended_by<P: Program>(caller: Caller<P>, end: LineEnd) -> Ended<P>
-    ensures { IsEndedBy caller end result }
-{
-    match end {
-        LineEnd::Error(record, cut) => Ended::Halts(caller, LineEnd::Error(record, cut)),
-        LineEnd::Delivered(record, cut) => Ended::GoesOn(caller, LineEnd::Delivered(record, cut)),
-        LineEnd::Unchecked(record) => Ended::GoesOn(caller, LineEnd::Unchecked(record)),
-        LineEnd::Pending => Ended::GoesOn(caller, LineEnd::Pending),
-    }
 }
 
 impl<S: SearchHints> Ending for Judging<'_, S> {
@@ -48,7 +34,8 @@ impl<S: SearchHints> Ending for Judging<'_, S> {
         standing: &mut Option<KeptOrder>,
         steps: &mut Steps<L>,
     ) -> Ended<P> {
-        match judge_line(
+        let (record, cut) = (seen.record(), seen.cut());
+        match judge_seen(
             self.alloc,
             self.sequential,
             rows,
@@ -57,7 +44,12 @@ impl<S: SearchHints> Ending for Judging<'_, S> {
             standing,
             steps,
         ) {
-            Ok((caller, end)) => ended_by(caller, end),
+            Ok((caller, CallVerdict::Delivered)) => {
+                Ended::GoesOn(caller, LineEnd::Delivered(record, cut))
+            }
+            Ok((caller, CallVerdict::Illegal(_))) => {
+                Ended::Halts(caller, LineEnd::Error(record, cut))
+            }
             Err(seen) => Ended::WantsMemory(seen),
         }
     }

@@ -4,7 +4,7 @@ ghost use Rattle.row_gather.specs.Gathered.{IsGatheredBy};
 ghost use Rattle.enforcer.specs.States.{caller_published, caller_seen};
 ghost use Rattle.client_calls.specs.Endings.{Ends, EndsSeen, IsNoted};
 ghost use Rattle.client_calls.specs.Stands.{local_at_stand};
-ghost use Rattle.enforcer.specs.Lines.{OrderStandsIn};
+ghost use Rattle.enforcer.specs.Verdicts.{OrderStandsIn};
 
 use crate::ended::Ended;
 use crate::ending::Ending;

@@ -9,9 +9,8 @@ use world_core::Outside;
 
 /// A call that is announced: its operation is in the table, and it has no reply yet.
 ///
-/// It is continued by [`ask`](crate::ask), or, where the object is inside the world, by `answer`;
-/// or it is ended by `stop`. One that is dropped stays announced, and its caller makes no more
-/// steps.
+/// It is continued by [`ask`](crate::ask), or by `answer` where the caller has the reply; or it is
+/// ended by `stop`. One that is dropped stays announced, and its caller makes no more steps.
 #[derive(Drop)]
 pub struct Announced<P = Outside> {
     pub(crate) caller: Caller<P>,

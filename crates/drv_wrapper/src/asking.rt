@@ -6,6 +6,7 @@ ghost use Rattle.drv_wrapper.specs.Telling.{told_after};
 use crate::announced::Announced;
 use crate::answered::Answered;
 use crate::black_box::BlackBox;
+use world_core::Program;
 
 /// Asks the object once, with the caller's pass, and keeps its reply.
 pub fn ask<B: BlackBox>(announced: Announced, object: &B, pass: &mut B::Pass) -> Answered
@@ -32,7 +33,30 @@ pub fn ask<B: BlackBox>(announced: Announced, object: &B, pass: &mut B::Pass) ->
     ensures operation { op_answered result ≡ op_announced announced }
 {
     let reply = object.call(pass, &announced);
-    let Announced { mut caller, op } = announced;
-    caller.keep_reply(reply);
-    Answered { caller, op, reply }
+    announced.answer(reply)
+}
+
+impl<P: Program> Announced<P> {
+    ghost use Rattle.row_table.specs.Callers.{MayGet};
+
+    /// Answers the call with a reply that the caller has: one that it found by its object steps, or
+    /// one that an object outside the world gave to whoever asked it. The program has to allow the
+    /// caller this reply, by its local, and still allows it when [`view`](crate::view) hands it
+    /// over. Outside the world every reply is allowed.
+    pub fn answer(self, reply: u64) -> Answered<P>
+        // The program allows the caller this reply, by its local.
+        requires allowed { MayGet P.meaning (caller_announced self) reply }
+        // The caller keeps its number and its local, and still belongs to its table.
+        ensures caller { IsSame (caller_announced self) (caller_answered result) }
+        // The answered call has the operation of the announced one.
+        ensures operation { op_answered result ≡ op_announced self }
+        // The answered call has this reply.
+        ensures reply { reply_answered result ≡ reply }
+        // The program still allows the caller the reply.
+        ensures allowed { MayGet P.meaning (caller_answered result) (reply_answered result) }
+    {
+        let Announced { mut caller, op } = self;
+        caller.keep_reply(reply);
+        Answered { caller, op, reply }
+    }
 }

@@ -1,14 +1,12 @@
 ghost use Rattle.std.specs.Prelude.{◌≡◌, ◌≢◌, ℕ, ◌+◌, ◌%◌, ◌<◌, ◌^◌, ◌==◌, IfOk, IfErr};
 ghost use prog.Atomic.{either};
 ghost use Rattle.row_table.specs.Found.{found_by};
-ghost use Rattle.row_table.specs.Callers.{IsCallerOf, MayGet};
+ghost use Rattle.row_table.specs.Callers.{IsCallerOf};
 ghost use Rattle.row_table.specs.ObjectSteps.{MayStep};
-ghost use Rattle.drv_wrapper.specs.Stands.{IsSame};
-ghost use Rattle.drv_wrapper.specs.States.{caller_announced, op_announced, caller_answered, op_answered, reply_answered};
+ghost use Rattle.drv_wrapper.specs.States.{caller_announced};
 ghost use Rattle.drv_wrapper.specs.ObjectSteps.{HasStepped};
 
 use crate::announced::Announced;
-use crate::answered::Answered;
 use row_table::Rows;
 use world_core::InWorld;
 
@@ -102,25 +100,5 @@ impl<P: InWorld> Announced<P> {
         ensures lost { IfErr result (λ x. x ≢ old) }
     {
         rows.object_exchange(&mut self.caller, place, old, new)
-    }
-
-    /// Answers the call with a reply that the caller found by its object steps. The program has to
-    /// allow the caller this reply, by its local, and still allows it when [`view`](crate::view)
-    /// hands it over.
-    pub fn answer(self, reply: u64) -> Answered<P>
-        // The program allows the caller this reply, by its local.
-        requires allowed { MayGet P.meaning (caller_announced self) reply }
-        // The caller keeps its number and its local, and still belongs to its table.
-        ensures caller { IsSame (caller_announced self) (caller_answered result) }
-        // The answered call has the operation of the announced one.
-        ensures operation { op_answered result ≡ op_announced self }
-        // The answered call has this reply.
-        ensures reply { reply_answered result ≡ reply }
-        // The program still allows the caller the reply.
-        ensures allowed { MayGet P.meaning (caller_answered result) (reply_answered result) }
-    {
-        let Announced { mut caller, op } = self;
-        caller.keep_reply(reply);
-        Answered { caller, op, reply }
     }
 }

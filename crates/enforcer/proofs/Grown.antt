@@ -17,7 +17,7 @@ use Rattle.row_gather.proofs.Gathering.{is_book_of_all}
 use Rattle.frontier_check.specs.declared.kept_order.KeptOrder.{KeptOrder}
 use Rattle.frontier_check.specs.Standing.{HasGrown, IsStandingFor}
 use Rattle.frontier_check.proofs.Resuming.{standing_stays}
-use Rattle.enforcer.specs.Lines.{OrderStandsIn, IsGatheredWithin}
+use Rattle.enforcer.specs.Verdicts.{OrderStandsIn, IsGatheredWithin}
 
 -- Where one cut is within another, the book at the first cut has grown to the book at the second.
 grown_at : (book : List Page) (early late : List ℕ) (a b : List Page) → IsWithin early late

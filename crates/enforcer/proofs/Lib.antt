@@ -5,3 +5,4 @@ pub mod Gathering
 pub mod Outcomes
 pub mod WholeCalls
 pub mod Grown
+pub mod Verdicts

@@ -21,9 +21,9 @@ use Rattle.row_gather.specs.declared.gathered.Gathered.{Gathered}
 use Rattle.enforcer.specs.declared.outcome.Outcome.{Outcome}
 use Rattle.enforcer.specs.declared.outcome.Outcome.TheVariants.{Illegal}
 use Rattle.enforcer.specs.declared.outcome.Unjudged.{Unjudged}
-use Rattle.enforcer.specs.declared.judged.Judged.TheVariants as judged
+use Rattle.enforcer.specs.declared.call_verdict.CallVerdict.TheVariants as verdict
 use Rattle.enforcer.specs.Judged.{record_in, cut_in, end_of, is_illegal, stance_after, IsRightFor, IsRightByPeeks, IsRightInWorlds}
-use Rattle.enforcer.specs.After.{outcome_of}
+use Rattle.enforcer.specs.Verdicts.{outcome_of}
 use Rattle.enforcer.specs.Kept.{TicksForNewAfter}
 
 -- The progress of a caller after a whole call: it has one more call, with this operation, this
@@ -79,13 +79,13 @@ pub record IsErrorOf (r : Record) (cut : List ℕ) (outcome : Outcome) : Type 0 
   pub halted : (stance_after outcome).live ≡ false
 
 -- An illegal outcome is an error with the record and the seen cut that it carries. An illegal
--- judgement makes the illegal outcome with the same parts, whatever order is kept.
+-- verdict on the call makes the outcome with the same parts, whatever order is kept.
 abbrev pub IllegalOutcomesAreErrors : Type 0
 IllegalOutcomesAreErrors =
     (reply : ℕ) (view seen : List ℕ) (book : List Page)
     (standing : Option KeptOrder)
     → IsErrorOf (record { reply = reply; view = view }) seen (Illegal reply view seen book)
-    × (outcome_of (judged.Illegal reply view seen book) standing
+    × (outcome_of (record { reply = reply; view = view }) seen (verdict.Illegal book) standing
     ≡ Some (Illegal reply view seen book))
 
 -- In a reachable world in which its caller has the local `l`, an illegal outcome that is right there

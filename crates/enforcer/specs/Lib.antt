@@ -4,5 +4,4 @@ pub mod Judged
 pub mod Enforced
 pub mod Kept
 pub mod Events
-pub mod Lines
-pub mod After
+pub mod Verdicts

@@ -34,6 +34,10 @@ module _ {P : Type 0} where
   abbrev pub cut_seen : Seen P → List ℕ
   cut_seen s = s.cut
 
+  -- The record of a published call: its reply and its view.
+  abbrev pub record_published : Published P → Record
+  record_published p = record { reply = p.reply; view = p.view }
+
   -- The record of a seen call: its reply and its view.
   abbrev pub record_seen : Seen P → Record
   record_seen s = record { reply = s.reply; view = s.view }

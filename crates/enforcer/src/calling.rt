@@ -30,23 +30,42 @@ pub fn call_and_see<B: BlackBox, L: Ledger>(
     pass: &mut B::Pass,
     steps: &mut Steps<L>,
 ) -> Seen
+    // The caller belongs to these rows.
     requires rows { IsCallerOf ⟦<Outside as Program>⟧.meaning rows.now caller }
+    // The caller is idle.
     requires idle { IsIdle (local_with caller) }
+    // The caller has announced fewer calls than the cap.
     requires row { (local_with caller).announced < rows.now.cap }
+    // The caller is live, means to begin no scan, and keeps no reply.
     requires stance { stance_of caller ≡ ready }
+    // The pass belongs to this object.
     requires own { B.is_own object.now pass.old }
+    // The pass is this caller's.
     requires pass { B.Pass.caller pass.old ≡ who_of caller }
+    // The pass has made fewer calls than it may make.
     requires left { B.Pass.made pass.old < B.Pass.cap pass.old }
+    // The caller still belongs to these rows, with the same number.
     ensures caller { IsStill ⟦<Outside as Program>⟧.meaning rows.now caller (caller_seen result) }
+    // The caller has made one call more than before, with this operation and the record and the cut
+    // of the seen call, and has published one record more.
     ensures progress { progress_of (local_with (caller_seen result)) ≡ after_call op
         (record_seen result) (cut_seen result) (progress_of (local_with caller)) }
+    // The view and the cut of the seen call have one count for each caller.
     ensures wide { AreWide rows.now.callers (view_seen result) (cut_seen result) }
+    // The caller's local has each look, each peek and each given cut that it had before the call.
     ensures grows { Grows (local_with caller) (local_with (caller_seen result)) }
+    // The pass still belongs to this object.
     ensures own { B.is_own object.now pass.new }
+    // The pass has made one call more than before.
     ensures made { B.Pass.made pass.new ≡ B.Pass.made pass.old + 1 }
+    // The pass keeps its caller and the number of calls that it may make.
     ensures same { (B.Pass.caller pass.new ≡ B.Pass.caller pass.old)
         × (B.Pass.cap pass.new ≡ B.Pass.cap pass.old) }
+    // Where the pass has a told list, the list has one more entry at its end: this operation with
+    // the reply of the call. A pass without a told list still has none.
     ensures told { B.Pass.told pass.new ≡ told_after op (reply_seen result) (B.Pass.told pass.old) }
+    // The counter of steps has not fallen, and has risen by at most the words that four scans may
+    // take.
     ensures ticks { (steps.old ≤ steps.new)
         × (steps.new ≤ steps.old + 4 * most_words rows.now.callers) }
 {

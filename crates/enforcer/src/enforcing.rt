@@ -12,7 +12,7 @@ ghost use Rattle.enforcer.specs.Kept.{IsKeptAfterOutcome};
 ghost use Rattle.enforcer.specs.Enforced.{after_call, record_unjudged, reply_of, TicksForWholeCall};
 
 use crate::calling::call_and_see;
-use crate::judging::judge;
+use crate::guided::judge;
 use crate::outcome::{Outcome, Unjudged};
 use book_base::OpWord;
 use drv_wrapper::BlackBox;
@@ -130,11 +130,12 @@ use world_core::{Outside, Program};
 ///   hand it to the same caller's next call. After `Illegal`, which carries its book, and after
 ///   `Unjudged` it is `None`. Like the guide it never changes a verdict, so `None` is always good;
 ///   but then the words of all earlier calls are peeked again.
-/// - `guide`: the last order that was found, after whose places the search for the next one begins.
-///   It costs or saves time alone, and never changes a verdict, so a new one is always good. The
-///   sequential object is asked for each of these places again;
-///   [`enforce_after`](crate::enforce_after) asks only for those after the last mark up to which
-///   the places still follow one another.
+/// - `guide`: the last order that was found. Where a book is handed in, the search for the next
+///   order begins after the guide's places. It costs or saves time alone, and never changes a
+///   verdict, so a new one is always good. The sequential object is asked for each of these places
+///   again; a caller that keeps its last order with marks makes its call by
+///   [`call_and_see`](crate::call_and_see) and then [`judge_seen`](crate::judge_seen), which asks
+///   only for those after the last mark up to which the places still follow one another.
 /// - `steps`: the counter that rises by 1 with each word of the table that is looked at or peeked:
 ///   with the words of four scans, and with those of the book that `gathered` lacks.
 ///

@@ -1,4 +1,5 @@
-ghost use Rattle.std.specs.Prelude.{◌≡◌, ◌+◌, ◌≤◌, false, None, IfOk, IfErr};
+ghost use Rattle.std.specs.Prelude.{◌≡◌, ◌+◌, ◌≤◌, false, None, Some, IfOk, IfErr, IfSome, IfNone};
+ghost use Rattle.book_base.specs.Order.{IsLegalOrder, HasLegalOrder};
 ghost use Rattle.world_core.specs.Local.{IsIdle};
 ghost use Rattle.world_core.specs.Calls.{IsGathered};
 ghost use Rattle.row_table.specs.Callers.{local_with, stance_of, IsCallerOf, IsStill};
@@ -6,17 +7,16 @@ ghost use Rattle.row_gather.specs.Peeks.{OnlyPeeks};
 ghost use Rattle.row_gather.specs.Exact.{IsTheBookAt};
 ghost use Rattle.row_gather.specs.Words.{words_of_book};
 ghost use Rattle.row_gather.specs.Gathered.{IsGatheredBy, TicksForNew};
-ghost use Rattle.frontier_check.specs.Verdict.{IsRight};
-ghost use Rattle.drv_wrapper.specs.Stands.{ready};
+ghost use Rattle.frontier_check.specs.Standing.{IsStandingFor};
 ghost use Rattle.enforcer.specs.Recorded.{HoldsOwn};
-ghost use Rattle.enforcer.specs.States.{caller_seen, reply_seen, view_seen, cut_seen};
-ghost use Rattle.enforcer.specs.Judged.{record_in, cut_in, stance_after, IsRightByPeeks, IsRightOf};
-ghost use Rattle.enforcer.specs.Kept.{IsKeptAfterOutcome, TicksForNewAfter};
+ghost use Rattle.enforcer.specs.States.{caller_seen, reply_seen, view_seen, cut_seen, record_seen};
+ghost use Rattle.enforcer.specs.Judged.{IsRightByPeeks, IsRightOf};
+ghost use Rattle.enforcer.specs.Verdicts.{OrderStandsIn, IsGatheredWithin, IsOutcome, IsKeptAfter, TicksForJudged, stance_judged};
 
-use crate::outcome::{Outcome, Unjudged};
+use crate::call_verdict::CallVerdict;
 use crate::seen_call::Seen;
-use book_base::NoMemory;
-use frontier_check::{Guide, Verdict, check_from};
+use book_base::{Cut, NoMemory};
+use frontier_check::{KeptOrder, check_after};
 use row_gather::{Gathered, grow_at};
 use row_table::{Caller, Rows, Steps};
 use search_hints::SearchHints;
@@ -75,19 +75,48 @@ pub fn gather<P: Program, L: Ledger>(
     grow_at(alloc, rows, &mut seen.caller, gathered, &seen.cut, steps)
 }
 
-// Gathers the book at the seen cut, and returns it with a legal order of it, or with `Illegal`
-// where it has no legal order.
+/// The order `standing`, if there is one, where a book of `n` callers is kept and `cut` contains
+/// the cut that is kept with that book; otherwise `None`. A returned order that stands in the kept
+/// book also stands in the book that its caller gathers at `cut`, since that book grows from the
+/// kept one.
+pub fn standing_in(
+    n: u32,
+    gathered: &Option<Gathered>,
+    standing: Option<KeptOrder>,
+    cut: &Cut,
+) -> Option<KeptOrder>
+    // Where an order is returned, it is the one that was handed in.
+    ensures same { IfSome result (λ s. standing ≡ Some s) }
+    // Where an order is returned, a book of `n` callers is kept, and the cut that is kept with it
+    // is within `cut`.
+    ensures held { IfSome result (λ _. IsGatheredWithin n gathered.now cut.now) }
+{
+    let Some(kept) = gathered else {
+        return None;
+    };
+    if kept.book.callers() != n || kept.cut.n() != cut.n() || !kept.cut.within(cut) {
+        return None;
+    }
+    match standing {
+        Some(standing) => Some(standing),
+        None => None,
+    }
+}
+
+// Gathers the book at the seen cut, and returns it with a legal order of it and the marks of that
+// order, or with `None` where the book has no legal order.
 fn decide<P: Program, S: SearchHints, L: Ledger>(
     alloc: Global,
     object: &S,
     rows: &Rows<P>,
     seen: &mut Seen<P>,
     gathered: Option<Gathered>,
-    guide: &mut Guide,
+    standing: Option<KeptOrder>,
     steps: &mut Steps<L>,
-) -> Result<(Gathered, Verdict), NoMemory>
+) -> Result<(Gathered, Option<KeptOrder>), NoMemory>
     requires rows { IsCallerOf P.meaning rows.now (caller_seen seen.old) }
     requires gathered { IsGatheredBy (local_with (caller_seen seen.old)) gathered }
+    requires stands { OrderStandsIn (S.spec object.now) gathered standing }
     ensures caller { IsStill P.meaning rows.now (caller_seen seen.old) (caller_seen seen.new) }
     ensures record { (reply_seen seen.new ≡ reply_seen seen.old)
         × (view_seen seen.new ≡ view_seen seen.old) }
@@ -101,11 +130,16 @@ fn decide<P: Program, S: SearchHints, L: Ledger>(
         IsTheBookAt P.meaning rows.now (caller_seen seen.new) (cut_seen seen.new) r.0.book) }
     ensures ticks { IfOk result (λ r.
         TicksForNew rows.now.callers gathered r.0 steps.old steps.new) }
-    ensures verdict { IfOk result (λ r. IsRight (S.spec object.now) r.0.book r.1) }
+    ensures legal { IfOk result
+        (λ r. IfSome r.1 (λ s. IsLegalOrder (S.spec object.now) r.0.book s.order.items)) }
+    ensures stands { IfOk result (λ r. IfSome r.1 (IsStandingFor (S.spec object.now) r.0.book)) }
+    ensures illegal { IfOk result
+        (λ r. IfNone r.1 (HasLegalOrder (S.spec object.now) r.0.book → ⊥)) }
 {
-    let gathered = gather(alloc, rows, seen, gathered, steps)?;
-    let verdict = check_from(alloc, object, &gathered.book, guide)?;
-    Ok((gathered, verdict))
+    let before = standing_in(rows.callers(), &gathered, standing, &seen.cut);
+    let found = gather(alloc, rows, seen, gathered, steps)?;
+    let after = check_after(alloc, object, &found.book, before)?;
+    Ok((found, after))
 }
 
 // Halts a caller of these rows: it makes no further call, and its local is unchanged.
@@ -118,89 +152,95 @@ pub(crate) fn halted<P: Program>(rows: &Rows<P>, caller: Caller<P>) -> Caller<P>
     caller.halt()
 }
 
-/// Judges a call by the book at its seen cut: delivers the reply with a legal order of the book
-/// where the book has one, and otherwise returns the error with that book (Castañeda and Rodríguez
-/// 2023).
+/// Judges a call by the book at its seen cut: delivers the reply where the book has a legal order,
+/// and otherwise returns the error with that book (Castañeda and Rodríguez 2023).
 ///
-/// After `Delivered` the caller is live and idle, and after `Illegal` it is halted. `Unjudged`
-/// comes for want of memory alone. The guide keeps the last order that was found; it costs or saves
-/// time, and never changes a verdict.
+/// After `Delivered` the caller is live and idle, and after `Illegal` it is halted. Where memory is
+/// lacking, the call isn't judged: the seen call is given back, and it may be judged again.
 ///
-/// `gathered` is the book that this caller has gathered before, or `None`. Where the seen cut
-/// contains the cut of that book, as each later seen cut of the same caller does, the new book
-/// grows from it, and only the words that it lacks are peeked. After `Delivered` `gathered` is the
-/// book that was judged, for the caller's next call; after `Illegal`, which carries its book, and
-/// after `Unjudged` it is `None`.
-pub fn judge<P: Program, S: SearchHints, L: Ledger>(
+/// `gathered` is the book that this caller has gathered before, and `standing` an order with its
+/// marks in that book, for this object; both are `None` before the caller's first call. The new
+/// book grows from the kept one, and only the words that the kept one lacks are peeked, where the
+/// seen cut contains the cut of the kept book, as it does where both are cuts of one caller. The
+/// search begins after the last mark up to which the order's places still follow one another in the
+/// grown book. A call mostly costs no more than what is new; no clause says how long a search
+/// takes. After `Delivered` both are set for the caller's next call, and `standing` has the order
+/// that was found. After `Illegal`, and where the call isn't judged, `gathered` is `None`, and
+/// without a book a kept order is not used, so it needn't be removed.
+///
+/// A kept order is good for one object alone, and its value doesn't say for which one: therefore
+/// the condition `stands` is needed. [`judge`](crate::judge) has no such condition, since it asks
+/// the object for each place again.
+pub fn judge_seen<P: Program, S: SearchHints, L: Ledger>(
     alloc: Global,
     object: &S,
     rows: &Rows<P>,
     mut seen: Seen<P>,
     gathered: &mut Option<Gathered>,
-    guide: &mut Guide,
+    standing: &mut Option<KeptOrder>,
     steps: &mut Steps<L>,
-) -> Result<(Caller<P>, Outcome), Unjudged<P>>
+) -> Result<(Caller<P>, CallVerdict), Seen<P>>
     // The caller of the seen call belongs to these rows.
     requires rows { IsCallerOf P.meaning rows.now (caller_seen seen) }
     // Where a book is kept, the caller has gathered it at the cut that is kept with it, by peeking
     // each of its words.
     requires gathered { IsGatheredBy (local_with (caller_seen seen)) gathered.old }
-    // With an outcome the caller still belongs to these rows, with the same number.
+    // Where a book and an order are kept, the order stands in the book: for this object, the
+    // order's places up to each of its marks follow one another in that book, or in an earlier one
+    // from which that book has grown.
+    requires stands { OrderStandsIn (S.spec object.now) gathered.old standing.old }
+    // The caller of a judged call still belongs to these rows, with the same number.
     ensures caller { IfOk result (λ r. IsStill P.meaning rows.now (caller_seen seen) r.0) }
-    // With an outcome the caller has made peeks and no other event, and the counter of steps has
+    // The caller of a judged call has made peeks and no other event, and the counter of steps has
     // risen by 1 for each of them.
     ensures peeks { IfOk result (λ r. OnlyPeeks (caller_seen seen) r.0 steps.old steps.new) }
-    // With an outcome the caller is idle.
+    // The caller of a judged call is idle.
     ensures idle { IfOk result (λ r. IsIdle (local_with r.0)) }
     // After `Delivered` the caller is ready for its next call, and after `Illegal` it is halted.
-    ensures stands { IfOk result (λ r. stance_of r.0 ≡ stance_after r.1) }
-    // The reply and the view of an outcome are those of the seen call.
-    ensures record { IfOk result
-        (λ r. record_in r.1 ≡ record { reply = reply_seen seen; view = view_seen seen }) }
-    // The seen cut of an outcome is that of the seen call.
-    ensures cut { IfOk result (λ r. cut_in r.1 ≡ cut_seen seen) }
-    // The count for the caller in the seen cut of an outcome is the number of records that the
+    ensures stance { IfOk result (λ r. stance_of r.0 ≡ stance_judged r.1) }
+    // The count for the caller of a judged call in its seen cut is the number of records that this
     // caller has published.
-    ensures own { IfOk result (λ r. HoldsOwn (cut_in r.1) r.0) }
-    // An outcome is right for a book that the caller has gathered at the seen cut, by peeking each
-    // of its words: `Delivered` carries a legal order of that book, and `Illegal` carries that
-    // book, which has no legal order.
-    ensures gathered { IfOk result
-        (λ r. IsRightByPeeks (S.spec object.now) rows.now.callers (local_with r.0) r.1) }
-    // In each reachable world in which the caller has its local, an outcome is right for the book
-    // at the seen cut, taken from the book of all callers' calls: `Delivered` carries a legal order
-    // of that book at the cut, and `Illegal` carries that book, which has no legal order.
-    ensures verdict { IfOk result (λ r. IsRightOf (S.spec object.now) P.meaning rows.now r.0 r.1) }
-    // With an outcome, where a book is kept after the call, the caller has gathered it at the cut
-    // that is kept with it, by peeking each of its words.
+    ensures own { IfOk result (λ r. HoldsOwn (cut_seen seen) r.0) }
+    // The verdict is right for a book that the caller has gathered at the seen cut, by peeking each
+    // of its words: after `Delivered` an order is kept, and it is a legal order of that book;
+    // `Illegal` carries that book, which has no legal order.
+    ensures gathered { IfOk result (λ r. IsOutcome (record_seen seen) (cut_seen seen) r.1
+        standing.new (IsRightByPeeks (S.spec object.now) rows.now.callers (local_with r.0))) }
+    // In each reachable world in which the caller has its local, the verdict is right for the book
+    // at the seen cut, taken from the book of all callers' calls: after `Delivered` an order is
+    // kept, and it is a legal order of that book at the cut; `Illegal` carries that book, which has
+    // no legal order.
+    ensures verdict { IfOk result (λ r. IsOutcome (record_seen seen) (cut_seen seen) r.1
+        standing.new (IsRightOf (S.spec object.now) P.meaning rows.now r.0)) }
+    // Where the call is judged and a book is kept after it, the caller has gathered this book at
+    // the cut that is kept with it, by peeking each of its words.
     ensures kept { IfOk result (λ r. IsGatheredBy (local_with r.0) gathered.new) }
     // After `Delivered` a book of as many callers as the rows have is kept, with the seen cut, and
     // after `Illegal` no book is kept.
-    ensures kept_book { IfOk result (λ r. IsKeptAfterOutcome rows.now.callers r.1 gathered.new) }
-    // With an outcome the counter of steps has risen by the number of words of the call's book that
-    // the book kept before lacks, where the book kept before is of as many callers as the rows have
-    // and its cut is within the seen cut. Where no book was kept before, the counter has risen by
-    // the number of all words of the call's book.
-    ensures new_words { IfOk result (λ r.
-        TicksForNewAfter rows.now.callers gathered.old r.1 gathered.new steps.old steps.new) }
+    ensures kept_book { IfOk result
+        (λ r. IsKeptAfter rows.now.callers (cut_seen seen) r.1 gathered.new) }
+    // Where a book and an order are kept after the call, the order stands in the book: for this
+    // object, the order's places up to each of its marks follow one another in that book, or in an
+    // earlier one from which that book has grown.
+    ensures stands { OrderStandsIn (S.spec object.now) gathered.new standing.new }
+    // Where the call is judged, the counter of steps has risen by the number of words of the judged
+    // book that the book kept before lacks, if the book kept before is of as many callers as the
+    // rows have and its cut is within the seen cut. If no book was kept before, the counter has
+    // risen by the number of all words of the judged book.
+    ensures new_words { IfOk result (λ r. TicksForJudged rows.now.callers gathered.old
+        (cut_seen seen) r.1 gathered.new steps.old steps.new) }
     // The caller of an unjudged call still belongs to these rows, with the same number.
     ensures unjudged_caller { IfErr result
-        (λ u. IsStill P.meaning rows.now (caller_seen seen) u.caller) }
+        (λ s. IsStill P.meaning rows.now (caller_seen seen) (caller_seen s)) }
     // The caller of an unjudged call has made peeks and no other event, and the counter of steps
     // has risen by 1 for each of them.
     ensures unjudged_peeks { IfErr result
-        (λ u. OnlyPeeks (caller_seen seen) u.caller steps.old steps.new) }
-    // The caller of an unjudged call is halted.
-    ensures unjudged_stands { IfErr result
-        (λ u. stance_of u.caller ≡ record ready { live = false }) }
+        (λ s. OnlyPeeks (caller_seen seen) (caller_seen s) steps.old steps.new) }
     // The reply, the view and the cut of an unjudged call are those of the seen call.
-    ensures unjudged_record { IfErr result
-        (λ u. (u.reply ≡ reply_seen seen) × (u.view ≡ view_seen seen) × (u.seen ≡ cut_seen seen)) }
-    // The count for the caller of an unjudged call in its seen cut is the number of records that
-    // this caller has published.
-    ensures unjudged_own { IfErr result (λ u. HoldsOwn u.seen u.caller) }
+    ensures unjudged_record { IfErr result (λ s. (reply_seen s ≡ reply_seen seen)
+        × (view_seen s ≡ view_seen seen) × (cut_seen s ≡ cut_seen seen)) }
     // After an unjudged call no book is kept.
-    ensures unjudged_kept { IfErr result (λ u. gathered.new ≡ None) }
+    ensures unjudged_kept { IfErr result (λ s. gathered.new ≡ None) }
     // The counter of steps has not fallen.
     ensures ticks { steps.old ≤ steps.new }
 {
@@ -210,47 +250,29 @@ pub fn judge<P: Program, S: SearchHints, L: Ledger>(
         rows,
         &mut seen,
         gathered.take(),
-        guide,
+        standing.take(),
         steps,
     );
-    let Seen {
-        caller,
-        reply,
-        view,
-        cut: seen,
-    } = seen;
     match decided {
-        Ok((found, verdict)) => match verdict {
-            Verdict::Legal(order) => {
-                *gathered = Some(found);
-                Ok((
-                    caller,
-                    Outcome::Delivered {
-                        reply,
-                        view,
-                        seen,
-                        order,
-                    },
-                ))
+        Ok((found, after)) => {
+            let Seen {
+                caller,
+                reply: _,
+                view: _,
+                cut: _,
+            } = seen;
+            match after {
+                Some(order) => {
+                    *gathered = Some(found);
+                    *standing = Some(order);
+                    Ok((caller, CallVerdict::Delivered))
+                }
+                None => {
+                    let Gathered { book, cut: _ } = found;
+                    Ok((halted(rows, caller), CallVerdict::Illegal(book)))
+                }
             }
-            Verdict::Illegal => {
-                let Gathered { book, cut: _ } = found;
-                Ok((
-                    halted(rows, caller),
-                    Outcome::Illegal {
-                        reply,
-                        view,
-                        seen,
-                        book,
-                    },
-                ))
-            }
-        },
-        Err(NoMemory) => Err(Unjudged {
-            caller: halted(rows, caller),
-            reply,
-            view,
-            seen,
-        }),
+        }
+        Err(NoMemory) => Err(seen),
     }
 }

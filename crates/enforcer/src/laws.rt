@@ -24,8 +24,8 @@ pub fn errors_are_final()
 #[tactic(auto, using(crate::proofs::Outcomes::illegal_outcomes_are_errors, crate::proofs::Outcomes::illegal_outcomes_are_evidence))]
 pub fn illegal_outcomes_are_evidence()
     // An illegal outcome is an error, of the record and the seen cut that it carries: the line of
-    // its call ends with `Error` and with both, and its caller is halted. A judgement with the same
-    // parts makes this outcome, whatever order is kept.
+    // its call ends with `Error` and with both, and its caller is halted. An illegal verdict on the
+    // call makes this outcome, whatever order is kept.
     ensures errors { IllegalOutcomesAreErrors }
     // An illegal outcome carries the book of all callers' calls at the seen cut, and this book has
     // no legal order, where the outcome is right in a reachable world.

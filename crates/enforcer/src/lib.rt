@@ -2,26 +2,23 @@
 //! published records is seen, and the book at this cut is judged.
 #![tactic(auto)]
 
+mod call_verdict;
 mod calling;
 mod enforcing;
-mod enforcing_after;
-mod judged;
+mod guided;
 mod judging;
-mod judging_after;
 pub mod laws;
-mod lines;
 mod outcome;
 mod published_call;
 mod publishing;
 mod seeing;
 mod seen_call;
 
+pub use call_verdict::CallVerdict;
+pub use calling::call_and_see;
 pub use enforcing::enforce;
-pub use enforcing_after::enforce_after;
-pub use judged::Judged;
-pub use judging::{gather, judge};
-pub use judging_after::judge_after;
-pub use lines::{judge_line, standing_in};
+pub use guided::judge;
+pub use judging::{gather, judge_seen, standing_in};
 pub use outcome::{Outcome, Unjudged};
 pub use published_call::Published;
 pub use publishing::publish;

@@ -3,15 +3,15 @@ ghost use Rattle.row_table.specs.Callers.{local_with, stance_of};
 ghost use Rattle.drv_wrapper.specs.Stands.{ready};
 ghost use Rattle.enforcer.specs.Recorded.{HasSeen, HoldsOwn};
 
-use book_base::Cut;
+use book_base::{Cut, Record};
 use row_table::Caller;
 use world_core::Outside;
 
 /// A call whose record is published, with its seen cut: a cut of the published records that its
 /// caller has seen since.
 ///
-/// The state has to be spent: by [`judge`](crate::judge), [`judge_after`](crate::judge_after) or
-/// [`judge_line`](crate::judge_line), by `defer`, or by `stop`.
+/// The state has to be spent: by [`judge`](crate::judge), [`judge_seen`](crate::judge_seen),
+/// by `defer`, or by `stop`.
 pub struct Seen<P = Outside> {
     pub(crate) caller: Caller<P>,
     pub(crate) reply: u64,
@@ -24,7 +24,7 @@ pub struct Seen<P = Outside> {
 
 impl<P> Seen<P> {
     ghost use Rattle.drv_wrapper.specs.Stands.{IsSame, IsStopped};
-    ghost use Rattle.enforcer.specs.States.{caller_seen, reply_seen, view_seen, cut_seen};
+    ghost use Rattle.enforcer.specs.States.{caller_seen, reply_seen, view_seen, cut_seen, record_seen};
 
     /// The reply that the object gave.
     pub fn reply(&self) -> u64
@@ -38,6 +38,16 @@ impl<P> Seen<P> {
         ensures { result ≡ view_seen self.now }
     {
         self.view
+    }
+
+    /// The record of the call: its reply and its view.
+    pub fn record(&self) -> Record
+        ensures { result ≡ record_seen self.now }
+    {
+        Record {
+            reply: self.reply,
+            view: self.view,
+        }
     }
 
     /// The seen cut: how many records of each caller were published, all at one moment after this

@@ -2,18 +2,14 @@
 -- order from there, some that begin with one of these do.
 use Rattle.std.proofs.Common.{◌≡◌, ℕ, zero, suc, ◌+◌, ◌<◌, ◌≤◌, ◌∙◌, List, [], ◌∷◌, ◌++◌, length, get_or, Option, Some, unwrap_or, refl, sym, ap, subst, inl, inr, arith}
 use Rattle.std.specs.List.{AllByRecursion, insert}
-use Rattle.std.specs.Option.{IsSomeAnd}
 use Rattle.std.proofs.lemmas.Bool.{cases_lt}
-use Rattle.std.proofs.lemmas.List.Elements.{Contains-get_or}
 use Rattle.std.proofs.lemmas.Option.{same_Some}
 use Rattle.book_base.specs.declared.call.Call.{Call}
 use Rattle.book_base.specs.declared.call.Place.{Place}
 use Rattle.book_base.specs.declared.call.Record.{Record}
-use Rattle.book_base.specs.SeqSpec.{SeqSpec}
 use Rattle.book_base.specs.Book.{Page, operation_of, record_of}
-use Rattle.book_base.specs.Order.{call_at, step_at, IsLegalOrder}
-use Rattle.book_base.specs.Reaching.{Leaves, IsInfeasible}
-use Rattle.search_hints.specs.PruningRules.{HasEarly, rank_of}
+use Rattle.book_base.specs.Order.{call_at, step_at}
+use Rattle.book_base.specs.Reaching.{Leaves}
 use Rattle.book_base.proofs.PageLemmas.{caller_from_call}
 use Rattle.book_base.specs.Next.{next_call, raised, list_after, HoldsAnswered, MayComeNext, MayStandNext, Continues}
 use Rattle.legal_orders.proofs.LegalOrder.{same_call, same_place}
@@ -21,9 +17,9 @@ use Rattle.legal_orders.specs.Standing.{MayStandAtOnce, answered_place, word_of}
 use Rattle.legal_orders.proofs.Exchange.{goes_on_with_it}
 use Rattle.frontier_check.specs.declared.choice.Choice.{Choice}
 use Rattle.search_hints.specs.declared.marked_callers.MarkedCallers.{MarkedCallers}
-use Rattle.book_base.specs.Pruning.{IsLeast, IsDeadEnd, StandsAtOnce, IsReached}
+use Rattle.book_base.specs.Pruning.{IsLeast, IsDeadEnd, StandsAtOnce}
 use Rattle.search_hints.specs.Marks.{IsMarked, MarksSuffice}
-use Rattle.frontier_check.specs.Search.{IsAmong, places_of, AreServedBy, IsOneMore, AreChosen, IsOpen, IsServed, GoesOnBy, IsRankIn}
+use Rattle.frontier_check.specs.Search.{IsAmong, places_of, AreServedBy, IsOneMore, AreChosen, IsOpen, IsServed, GoesOnBy}
 
 -- a place among the places of some choices, with one more choice inserted
 
@@ -354,39 +350,3 @@ view-of book cut first number found is at r there =
     let made : ℕ → Call = λ n. record { caller = first; number = n } in
     ap (λ (x : Record). x.view)
     (same_Some r found (sym there ∙ (sym (ap (λ (n : ℕ). record_of book (made n)) is) ∙ at)))
-
--- No places that begin with an infeasible call continue an order from a cut and a list that some
--- order reaches.
-pub infeasible-ends : (spec : SeqSpec) (book : List Page) (cut list : List ℕ) (place : Place)
-    (rest : List Place) → IsReached spec book cut list
-    → IsInfeasible spec book cut list (next_call cut place.caller)
-    → Continues book spec.next cut list (place ∷ rest) → ⊥
-infeasible-ends spec book cut list place rest reached infeasible goes =
-    let made : ℕ → Place = λ n. record { caller = place.caller; number = n; reply = place.reply } in
-    infeasible reached.before rest place.reply reached.reaches
-    (subst (λ (n : ℕ). IsLegalOrder spec book (reached.before ++ made n ∷ rest))
-    goes.0.may_come.next (reached.legal (place ∷ rest) goes))
-
--- The places that are chosen stay as they are when a caller is considered whose next call is
--- infeasible, at a cut and a list that some order reaches.
-pub infeasible-skip : (spec : SeqSpec) (book : List Page) (cut list : List ℕ)
-    (marks : MarkedCallers) (places : List Place) (caller : ℕ) → IsReached spec book cut list
-    → AreChosen book spec.next cut list marks caller places
-    → IsInfeasible spec book cut list (next_call cut caller)
-    → AreChosen book spec.next cut list marks (caller + 1) places
-infeasible-skip spec book cut list marks places caller reached h infeasible =
-    chosen-next book spec.next cut list marks caller places places h
-    (more-kept book spec.next cut list caller places h.sound (λ (place : Place) (rest : List Place)
-    (by : place.caller ≡ caller) (goes : Continues book spec.next cut list (place ∷ rest)).
-    absurd (infeasible-ends spec book cut list place rest reached (subst
-    (λ (i : ℕ). IsInfeasible spec book cut list (next_call cut i)) (sym by) infeasible) goes)))
-
--- A list has a word whose rank is at most that of its word at an index.
-pub rank_in : (ranks : List (ℕ × ℕ)) (list words : List ℕ) (i rank : ℕ) → words ≡ list
-    → i < length words → rank_of ranks (get_or words i 0) ≡ Some rank → IsRankIn ranks list rank
-rank_in ranks list words i rank same below known limit low =
-    subst (λ (l : List ℕ). HasEarly ranks l limit) same (
-      get_or words i 0,
-      Contains-get_or words i 0 below,
-      subst (λ (o : Option ℕ). IsSomeAnd o (λ r. r < limit)) (sym known) low,
-    )

@@ -6,7 +6,6 @@ use Rattle.book_base.specs.declared.TheConstants.{MAX_CALLERS}
 use Rattle.book_base.specs.SeqSpec.{SeqSpec}
 use Rattle.book_base.specs.Order.{IsLegalOrder}
 use Rattle.book_base.specs.Book.{Page}
-use Rattle.search_hints.specs.PruningRules.{HasEarly}
 use Rattle.search_hints.specs.declared.marked_callers.MarkedCallers.{MarkedCallers}
 use Rattle.book_base.specs.Pruning.{IsDeadEnd}
 use Rattle.search_hints.specs.Marks.{IsMarked, MarksSuffice}
@@ -50,11 +49,6 @@ pub record IsOpen (book : List Page) (next : List ℕ → ℕ → List ℕ × �
   pub sound : AllByRecursion (MayStandNext book next cut list) places
   pub covered : (rest : List Place) → Continues book next cut list rest
       → GoesOnBy book next cut list places
-
--- A list has a word whose rank is at most `rank`: for each limit above `rank`, the list has a word
--- of a rank below that limit.
-abbrev pub IsRankIn : List (ℕ × ℕ) → List ℕ → ℕ → Type 0
-IsRankIn ranks list rank = (limit : ℕ) → rank < limit → HasEarly ranks list limit
 
 -- From a cut and a list, some places that begin with one of `places` continue an order, or some
 -- list of at most `few` places continues one.

@@ -1,4 +1,4 @@
-ghost use Rattle.std.specs.Prelude.{◌≡◌, ℕ, ◌+◌, ◌<◌, ◌⊎◌, [], ◌∷◌, ◌++◌, List, length, slice_index, IfOk, IfSome, IsTrue, OnOk, Some};
+ghost use Rattle.std.specs.Prelude.{◌≡◌, ℕ, ◌+◌, ◌<◌, ◌⊎◌, [], ◌∷◌, ◌++◌, List, length, slice_index, IfOk, IsTrue, OnOk, Some};
 ghost use Rattle.book_base.specs.declared.call.Record.{Record};
 ghost use Rattle.book_base.specs.Cut.{IsWithin};
 ghost use Rattle.book_base.specs.Book.{answered, record_of};
@@ -38,58 +38,6 @@ impl Prefix {
             cut: Cut::zero(book.callers()),
             here,
         })
-    }
-
-    /// A prefix of the first places of `places`. It ends before the first place that isn't next, as
-    /// `IsNext` says, after the ones that precede it, and before the first place whose call is
-    /// preceded by an answered call that is at none of the places.
-    ///
-    /// `None` comes where the object gives another reply than a place has, or where an answered
-    /// call is its caller's next after the prefix and has a view that doesn't hold the prefix's
-    /// cut. No clause says how many places are taken: the number only decides how long a search
-    /// takes.
-    pub fn following<S: SeqObject>(
-        alloc: Global,
-        object: &S,
-        book: &Book,
-        places: &[Place],
-    ) -> Result<Option<Prefix>, NoMemory>
-        ensures { IfOk result (λ found. IfSome found (IsPrefix (S.spec object.now) book.now)) }
-    {
-        let limit = limit_of(book, &Cut::zero(book.callers()), places);
-        let mut prefix = Prefix::new(alloc, object, book)?;
-        if prefix.put_all(object, book, &limit, places)? && leaves_open(book, &prefix.cut) {
-            Ok(Some(prefix))
-        } else {
-            Ok(None)
-        }
-    }
-
-    // Puts `places` after the prefix's own places, up to the first one that isn't next after those
-    // before it, or whose call the cut `limit` lacks. Answers whether the object gave the reply of
-    // each place that was put.
-    fn put_all<S: SeqObject>(
-        &mut self,
-        object: &S,
-        book: &Book,
-        limit: &Cut,
-        places: &[Place],
-    ) -> Result<bool, NoMemory>
-        requires limit { length limit.now ≡ length book.now }
-        requires put { IsPut (S.spec object.now) book.now self.old }
-        requires room { IsBookCapacity (S.spec object.now) self.old.here.room }
-        ensures { IfOk result
-            (λ given. IsTrue given → IsPut (S.spec object.now) book.now self.new) }
-    {
-        for place in places {
-            if !self.may_take(book, limit, *place) {
-                return Ok(true);
-            }
-            if !self.put(object, book, *place)? {
-                return Ok(false);
-            }
-        }
-        Ok(true)
     }
 
     /// Puts `places` after the prefix's own places, up to the first one that isn't next after those

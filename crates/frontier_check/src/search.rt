@@ -4,14 +4,12 @@ ghost use Rattle.book_base.specs.declared.call.Place.{Place};
 ghost use Rattle.book_base.specs.declared.call.Record.{Record};
 ghost use Rattle.book_base.specs.Book.{IsCall, IsAnswered, IsValid, record_of};
 ghost use Rattle.book_base.specs.Order.{IsLegalOrder};
-ghost use Rattle.book_base.specs.Reaching.{IsInfeasible};
-ghost use Rattle.search_hints.specs.PruningRules.{ArePruningRules};
 ghost use Rattle.book_base.specs.declared.TheConstants.{MAX_CALLERS, MAX_CALLS};
 ghost use Rattle.book_base.specs.Next.{next_call, raised, list_after, HoldsAnswered, MayComeNext, MayStandNext};
 ghost use Rattle.frontier_check.specs.Prefix.{IsBookCapacity, IsPrefix};
 ghost use Rattle.book_base.specs.Pruning.{HasOneOpen, IsLeast, IsDeadEnd, ViewsAreWithin, IsReached, StandsAtOnce};
 ghost use Rattle.search_hints.specs.Marks.{MarksAllNext};
-ghost use Rattle.frontier_check.specs.Search.{places_of, AreToTry, IsOneMore, IsOpen, IsWalk, IsRightOutcome, IsRankIn, MayGrow, weigh, weight};
+ghost use Rattle.frontier_check.specs.Search.{places_of, AreToTry, IsOneMore, IsOpen, IsWalk, IsRightOutcome, MayGrow, weigh, weight};
 
 use crate::call_turns::CallTurns;
 use crate::choice::Choice;
@@ -20,9 +18,7 @@ use crate::prefix::Prefix;
 use crate::twins::choose;
 use crate::walk::{MOST_CALLS, StepOutcome, Walk, WalkFrame, empty_state, load, places, set_count};
 use book_base::{Book, Call, Cut, NoMemory, Place, State};
-use search_hints::{
-    MarkedCallers, PruningRules, SearchHints, Sight, all_next, cut_of, first_view, least_open,
-};
+use search_hints::{MarkedCallers, SearchHints, Sight, all_next, cut_of, first_view, least_open};
 use std::alloc::Global;
 use std::mem;
 
@@ -32,8 +28,6 @@ pub struct Search<'a, S> {
     pub alloc: Global,
     pub object: &'a S,
     pub book: &'a Book,
-    pub known: &'a PruningRules,
-    pub limited: bool,
     pub one_open: bool,
     pub sight: &'a Option<Sight>,
     pub call_turns: &'a CallTurns,
@@ -46,8 +40,6 @@ impl<S> Drop for Search<'_, S> {
             alloc: _,
             object: _,
             book: _,
-            known: _,
-            limited: _,
             one_open: _,
             sight: _,
             call_turns: _,
@@ -59,8 +51,6 @@ impl<S> Drop for Search<'_, S> {
 impl<S: SearchHints> Search<'_, S> {
     /// Finds places that make a legal order after those of the prefix, if there are any.
     pub fn run(&self) -> Result<Option<Vec<Place>>, NoMemory>
-        requires pruning_rules { ArePruningRules (S.spec self.now.object.now) self.now.book.now
-            self.now.known.now }
         requires open { IsTrue self.now.one_open → HasOneOpen self.now.book.now }
         requires sight { IfSome self.now.sight.now (λ sight. HasOneOpen self.now.book.now
             × S.sees self.now.object.now self.now.book.now sight) }
@@ -84,8 +74,6 @@ impl<S: SearchHints> Search<'_, S> {
     /// steps. `None` says nothing of the book: it may have a legal order, and no clause says how
     /// far the search looks.
     pub fn run_few(&self, steps: u64) -> Result<Option<Vec<Place>>, NoMemory>
-        requires pruning_rules { ArePruningRules (S.spec self.now.object.now) self.now.book.now
-            self.now.known.now }
         requires open { IsTrue self.now.one_open → HasOneOpen self.now.book.now }
         requires sight { IfSome self.now.sight.now (λ sight. HasOneOpen self.now.book.now
             × S.sees self.now.object.now self.now.book.now sight) }
@@ -105,8 +93,6 @@ impl<S: SearchHints> Search<'_, S> {
     // The walk without frames, at the cut and the list of the prefix. `None` comes where that cut
     // holds all answered calls.
     fn begin(&self, spare: &mut State) -> Result<Option<Walk>, NoMemory>
-        requires pruning_rules { ArePruningRules (S.spec self.now.object.now) self.now.book.now
-            self.now.known.now }
         requires open { IsTrue self.now.one_open → HasOneOpen self.now.book.now }
         requires sight { IfSome self.now.sight.now (λ sight. HasOneOpen self.now.book.now
             × S.sees self.now.object.now self.now.book.now sight) }
@@ -139,8 +125,6 @@ impl<S: SearchHints> Search<'_, S> {
     // Makes steps of a walk until a legal order is found or nothing is left to try. `None` comes
     // where no places continue an order from the end of the prefix.
     fn go_on(&self, walk: &mut Walk, spare: &mut State) -> Result<Option<Vec<Place>>, NoMemory>
-        requires pruning_rules { ArePruningRules (S.spec self.now.object.now) self.now.book.now
-            self.now.known.now }
         requires open { IsTrue self.now.one_open → HasOneOpen self.now.book.now }
         requires sight { IfSome self.now.sight.now (λ sight. HasOneOpen self.now.book.now
             × S.sees self.now.object.now self.now.book.now sight) }
@@ -171,8 +155,6 @@ impl<S: SearchHints> Search<'_, S> {
         spare: &mut State,
         steps: u64,
     ) -> Result<Option<Vec<Place>>, NoMemory>
-        requires pruning_rules { ArePruningRules (S.spec self.now.object.now) self.now.book.now
-            self.now.known.now }
         requires open { IsTrue self.now.one_open → HasOneOpen self.now.book.now }
         requires sight { IfSome self.now.sight.now (λ sight. HasOneOpen self.now.book.now
             × S.sees self.now.object.now self.now.book.now sight) }
@@ -196,8 +178,6 @@ impl<S: SearchHints> Search<'_, S> {
     // Makes one step of a walk: it tries the last choice, which is the best one; where no choice is
     // left, it remembers the cut and the list as a dead end and goes back by one frame.
     fn advance(&self, walk: &mut Walk, spare: &mut State) -> Result<StepOutcome, NoMemory>
-        requires pruning_rules { ArePruningRules (S.spec self.now.object.now) self.now.book.now
-            self.now.known.now }
         requires open { IsTrue self.now.one_open → HasOneOpen self.now.book.now }
         requires sight { IfSome self.now.sight.now (λ sight. HasOneOpen self.now.book.now
             × S.sees self.now.object.now self.now.book.now sight) }
@@ -226,8 +206,6 @@ impl<S: SearchHints> Search<'_, S> {
         spare: &mut State,
         place: Place,
     ) -> Result<StepOutcome, NoMemory>
-        requires pruning_rules { ArePruningRules (S.spec self.now.object.now) self.now.book.now
-            self.now.known.now }
         requires open { IsTrue self.now.one_open → HasOneOpen self.now.book.now }
         requires sight { IfSome self.now.sight.now (λ sight. HasOneOpen self.now.book.now
             × S.sees self.now.object.now self.now.book.now sight) }
@@ -320,8 +298,8 @@ impl<S: SearchHints> Search<'_, S> {
     // The choices that are to be tried after a cut and at a list of the object, the best one last.
     // Where an answered call may be put at once, as `at_once` says, its place is the only choice.
     // Else there is a choice for the next call of each caller that is to be tried, if its place may
-    // come next, the call isn't known to be infeasible, and no other choice serves for it; in a
-    // book with one open an unanswered call that leaves the list as it is gets no choice.
+    // come next and no other choice serves for it; in a book with one open an unanswered call that
+    // leaves the list as it is gets no choice.
     //
     // The next call of the caller `first` is answered and has the least view of all answered next
     // calls, so that a next call may come next exactly where this view holds it.
@@ -332,8 +310,6 @@ impl<S: SearchHints> Search<'_, S> {
         spare: &mut State,
         first: u32,
     ) -> Result<Vec<Choice>, NoMemory>
-        requires pruning_rules { ArePruningRules (S.spec self.now.object.now) self.now.book.now
-            self.now.known.now }
         requires open { IsTrue self.now.one_open → HasOneOpen self.now.book.now }
         requires sight { IfSome self.now.sight.now (λ sight. HasOneOpen self.now.book.now
             × S.sees self.now.object.now self.now.book.now sight) }
@@ -356,9 +332,8 @@ impl<S: SearchHints> Search<'_, S> {
         }
         let cut = cut_of(counts);
         let marks = self.to_try(&cut, view, here, first);
-        let earliest = self.earliest(here);
         for caller in 0..self.book.callers() {
-            if marks.has(caller) && !self.is_infeasible(&cut, here, earliest, caller) {
+            if marks.has(caller) {
                 self.consider(counts, caller, here, spare, &mut choices)?;
             }
         }
@@ -457,52 +432,6 @@ impl<S: SearchHints> Search<'_, S> {
             number,
             reply,
         })
-    }
-
-    // The least rank of the words of a list. `None` comes where no word has a rank, and where the
-    // search isn't limited, as no call of the book has a limit. No clause says that a rank is
-    // found: to find none only costs time.
-    fn earliest(&self, here: &State) -> Option<u64>
-        ensures { IfSome result (IsRankIn self.now.known.now.ranks here.now.words) }
-    {
-        if !self.limited {
-            return None;
-        }
-        let mut least: Option<u64> = None;
-        for word in here.words() {
-            if let Some(rank) = self.known.rank(*word) {
-                least = match least {
-                    Some(other) if other <= rank => least,
-                    _ => Some(rank),
-                };
-            }
-        }
-        least
-    }
-
-    // Whether the pruning rules say that a caller's next call is infeasible after a cut and at a
-    // list. They say so where the cut lacks a call of the next call's predecessor bound, or where
-    // the list has a word of a rank below the next call's limit; `earliest` is the least rank of
-    // the list's words.
-    fn is_infeasible(&self, cut: &Cut, here: &State, earliest: Option<u64>, caller: u32) -> bool
-        requires caller { caller < length cut.now }
-        requires earliest { IfSome earliest (IsRankIn self.now.known.now.ranks here.now.words) }
-        requires pruning_rules { ArePruningRules (S.spec self.now.object.now) self.now.book.now
-            self.now.known.now }
-        ensures { IsTrue result → IsInfeasible (S.spec self.now.object.now) self.now.book.now
-            cut.now here.now.words (next_call cut.now caller) }
-    {
-        let call = Call {
-            caller,
-            number: cut.get(caller),
-        };
-        if self.known.lacks(cut.counts(), call) {
-            return true;
-        }
-        match earliest {
-            Some(rank) => rank < self.known.limit(call),
-            None => false,
-        }
     }
 
     // Adds a choice for a caller's next call, which may come next, if the call is unanswered or the

@@ -1,5 +1,4 @@
 ghost use Rattle.std.specs.Prelude.{◌≡◌, ◌++◌, IfOk, IfSome, IfNone, IsTrue};
-ghost use Rattle.search_hints.specs.PruningRules.{ArePruningRules};
 ghost use Rattle.book_base.specs.Order.{IsLegalOrder, HasLegalOrder};
 ghost use Rattle.book_base.specs.Pruning.{HasOneOpen};
 ghost use Rattle.frontier_check.specs.Prefix.{IsBookCapacity, IsPut, IsPrefix};
@@ -16,7 +15,7 @@ use crate::remaining::decided_after;
 use crate::resume::resume;
 use crate::search::Search;
 use book_base::{Book, Call, Cut, NoMemory, Place};
-use search_hints::{Decision, PruningRules, SearchHints, Sight, has_one_open};
+use search_hints::{Decision, SearchHints, Sight, has_one_open};
 use std::alloc::Global;
 
 /// Whether a book has a legal order.
@@ -46,9 +45,9 @@ pub fn check<S: SearchHints>(alloc: Global, object: &S, book: &Book) -> Result<V
 /// Looks for a legal order as `check` does, but first for one that begins with the guide's places.
 ///
 /// The guide keeps the order that is found, for the next book: a book with a few more calls than
-/// the last one mostly has an order that begins like the last one's. Those places are put one by
-/// one, and a search looks only among the calls after them. Where it finds no order soon, a search
-/// begins after fewer of those places, and at last one looks everywhere.
+/// the last one mostly has an order that begins like the last one's. The search is that of
+/// `check_after`, which is given the guide's places as an order without marks, so that all of them
+/// are put one by one.
 pub fn check_from<S: SearchHints>(
     alloc: Global,
     object: &S,
@@ -61,13 +60,13 @@ pub fn check_from<S: SearchHints>(
     // had.
     ensures guide { IfOk result (KeepsLastOrder guide.old guide.new) }
 {
-    let order = match order_near(alloc, object, book, guide.places())? {
-        Some(order) => Some(order),
-        None => order_anywhere(alloc, object, book, guide.places())?,
+    let places = KeptOrder {
+        order: Vec::from_slice(alloc, guide.places())?,
+        marks: Vec::new(alloc),
     };
-    match order {
+    match check_on(alloc, object, book, places)? {
         None => Ok(Verdict::Illegal),
-        Some(order) => {
+        Some(KeptOrder { order, marks: _ }) => {
             guide.keep(alloc, &order)?;
             Ok(Verdict::Legal(order))
         }
@@ -418,13 +417,8 @@ fn rest_after<S: SearchHints>(
     if holds_answered(book, &prefix.cut) {
         return Ok(Some(Vec::new(alloc)));
     }
-    let known = PruningRules::none(alloc);
-    places_after(alloc, object, book, &known, later, prefix, more)
+    places_after(alloc, object, book, later, prefix, more)
 }
-
-// How many times `order_near` begins after places of a guide. After each time it leaves out more of
-// them: first as many as there are callers, and then each time twice as many as the time before.
-const ATTEMPTS: u32 = 9;
 
 // How many steps a search after given places may make beyond one for each call that remains.
 const STEPS: u64 = 1000;
@@ -433,84 +427,26 @@ const STEPS: u64 = 1000;
 // mostly it needs few, and where these don't suffice, a search begins at a mark.
 const FIRST_STEPS: u64 = 100;
 
-// A legal order that begins with places of a guide, if one is found soon: first after all of them
-// that still follow one another, and then after ever fewer.
-fn order_near<S: SearchHints>(
-    alloc: Global,
-    object: &S,
-    book: &Book,
-    guide: &[Place],
-) -> Result<Option<Vec<Place>>, NoMemory>
-    ensures { IfOk result
-        (λ found. IfSome found (λ order. IsLegalOrder (S.spec object.now) book.now order.items)) }
-{
-    let mut taken = guide.len();
-    let mut fewer = book.callers() as usize;
-    for _ in 0..ATTEMPTS {
-        if taken == 0 {
-            return Ok(None);
-        }
-        let Some(prefix) = Prefix::following(alloc, object, book, &guide[..taken])? else {
-            return Ok(None);
-        };
-        taken = prefix.places.len().min(taken).saturating_sub(fewer);
-        fewer = fewer.saturating_mul(2);
-        if let Some(order) = order_after(alloc, object, book, guide, prefix)? {
-            return Ok(Some(order));
-        }
-    }
-    Ok(None)
-}
-
-// A legal order that begins with the places of a prefix, if one is found soon.
-fn order_after<S: SearchHints>(
-    alloc: Global,
-    object: &S,
-    book: &Book,
-    guide: &[Place],
-    prefix: Prefix,
-) -> Result<Option<Vec<Place>>, NoMemory>
-    requires { IsPrefix (S.spec object.now) book.now prefix }
-    ensures { IfOk result
-        (λ found. IfSome found (λ order. IsLegalOrder (S.spec object.now) book.now order.items)) }
-{
-    let known = PruningRules::none(alloc);
-    let later = later_of(guide, prefix.places.len());
-    let Some(rest) = places_after(alloc, object, book, &known, later, &prefix, STEPS)? else {
-        return Ok(None);
-    };
-    let Prefix {
-        mut places,
-        cut: _,
-        here: _,
-    } = prefix;
-    places.extend_from_slice(&rest)?;
-    Ok(Some(places))
-}
-
-// The places of a guide after its first `taken` ones; none where it has no more.
-fn later_of(guide: &[Place], taken: usize) -> &[Place] {
-    if taken < guide.len() {
-        &guide[taken..]
+// The places of a list after its first `taken` ones; none where it has no more.
+fn later_of(places: &[Place], taken: usize) -> &[Place] {
+    if taken < places.len() {
+        &places[taken..]
     } else {
         &[]
     }
 }
 
 // Places that make a legal order after those of a prefix, if some are found in `more` steps more
-// than calls remain, with the places `later` tried first and the pruning rules `known`. `None` says
-// nothing of the book.
+// than calls remain, with the places `later` tried first. `None` says nothing of the book.
 fn places_after<S: SearchHints>(
     alloc: Global,
     object: &S,
     book: &Book,
-    known: &PruningRules,
     later: &[Place],
     prefix: &Prefix,
     more: u64,
 ) -> Result<Option<Vec<Place>>, NoMemory>
-    requires pruning_rules { ArePruningRules (S.spec object.now) book.now known.now }
-    requires prefix { IsPrefix (S.spec object.now) book.now prefix.now }
+    requires { IsPrefix (S.spec object.now) book.now prefix.now }
     ensures { IfOk result (λ found. IfSome found (λ rest.
         IsLegalOrder (S.spec object.now) book.now (prefix.now.places.items ++ rest.items))) }
 {
@@ -520,8 +456,6 @@ fn places_after<S: SearchHints>(
         alloc,
         object,
         book,
-        known,
-        limited: false,
         one_open: has_one_open(book),
         sight: &sight,
         call_turns: &call_turns,
@@ -568,15 +502,12 @@ fn order_searched<S: SearchHints>(
 {
     let one_open = has_one_open(book);
     let sight = sight_of(alloc, object, book, one_open)?;
-    let known = object.find_pruning_rules(alloc, book)?;
     let prefix = Prefix::new(alloc, object, book)?;
     let call_turns = CallTurns::new(alloc, book, guide, &prefix)?;
     let search = Search {
         alloc,
         object,
         book,
-        known: &known,
-        limited: has_limits(book, &known),
         one_open,
         sight: &sight,
         call_turns: &call_turns,
@@ -602,17 +533,4 @@ fn sight_of<S: SearchHints>(
     } else {
         Ok(None)
     }
-}
-
-// Whether a call of a book has a limit above 0. No clause says so: the answer only decides how long
-// a search takes.
-fn has_limits(book: &Book, known: &PruningRules) -> bool {
-    for caller in 0..book.callers() {
-        for number in 0..book.calls(caller) {
-            if known.limit(Call { caller, number }) > 0 {
-                return true;
-            }
-        }
-    }
-    false
 }

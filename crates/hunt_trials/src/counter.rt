@@ -3,8 +3,8 @@
 use book_base::{BAD, NoMemory, OpWord};
 use client_scripts::Script;
 use drv_wrapper::{Announced, BlackBox};
-use hunts::{CounterCall, CountingPass, Maker, Noise, NoisyCell};
-use seq_objects::wrapping_value_reply;
+use hunts::{CountingPass, Maker, Noise, NoisyCell};
+use seq_objects::{CounterOperation, wrapping_value_reply};
 use std::alloc::Global;
 
 /// A counter: an increment is one addition, or, where the counter is torn, a load and then a store
@@ -26,8 +26,8 @@ impl Counter {
     }
 
     fn answer(&self, op: OpWord) -> u64 {
-        match CounterCall::from_word(op) {
-            Some(CounterCall::Increment) => wrapping_value_reply(u64::from(self.increment())),
+        match CounterOperation::from_word(op) {
+            Some(CounterOperation::Increment) => wrapping_value_reply(u64::from(self.increment())),
             None => BAD,
         }
     }

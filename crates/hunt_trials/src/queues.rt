@@ -3,8 +3,8 @@
 use book_base::{BAD, NoMemory, OpWord};
 use client_scripts::Script;
 use drv_wrapper::{Announced, BlackBox};
-use hunts::{CountingPass, Maker, Noise, NoisyLock, QueueCall};
-use seq_objects::{DONE, NONE, wrapping_value_reply};
+use hunts::{CountingPass, Maker, Noise, NoisyLock};
+use seq_objects::{DONE, NONE, QueueOperation, wrapping_value_reply};
 use std::alloc::Global;
 use std::collections::VecDeque;
 
@@ -28,12 +28,12 @@ impl TwoQueues {
             &self.even
         };
         let mut items = items.lock()?;
-        match QueueCall::from_word(op)? {
-            QueueCall::Enqueue(value) => match items.push_back(value) {
+        match QueueOperation::from_word(op)? {
+            QueueOperation::Enqueue(value) => match items.push_back(value) {
                 Ok(()) => Some(DONE),
                 Err(_) => None,
             },
-            QueueCall::Dequeue => match items.pop_front() {
+            QueueOperation::Dequeue => match items.pop_front() {
                 Some(value) => Some(wrapping_value_reply(u64::from(value))),
                 None => Some(NONE),
             },

@@ -4,8 +4,8 @@ use crate::trial::calls_of_script;
 use book_base::{BAD, NoMemory, OpWord};
 use client_scripts::Script;
 use drv_wrapper::{Announced, BlackBox};
-use hunts::{CountingPass, Maker, Noise, NoisyCell, NoisyLock, QueueCall};
-use seq_objects::{DONE, NONE, wrapping_value_reply};
+use hunts::{CountingPass, Maker, Noise, NoisyCell, NoisyLock};
+use seq_objects::{DONE, NONE, QueueOperation, wrapping_value_reply};
 use std::alloc::Global;
 
 /// A queue over places: an enqueue fills the place at the tail and moves the tail forward, a
@@ -45,9 +45,9 @@ impl Ring {
     }
 
     fn steps(&self, op: OpWord) -> Option<u64> {
-        match QueueCall::from_word(op)? {
-            QueueCall::Enqueue(value) => self.enqueue(value),
-            QueueCall::Dequeue => self.dequeue(),
+        match QueueOperation::from_word(op)? {
+            QueueOperation::Enqueue(value) => self.enqueue(value),
+            QueueOperation::Dequeue => self.dequeue(),
         }
     }
 

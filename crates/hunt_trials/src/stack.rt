@@ -4,8 +4,8 @@ use crate::trial::calls_of_script;
 use book_base::{BAD, NoMemory, OpWord};
 use client_scripts::Script;
 use drv_wrapper::{Announced, BlackBox};
-use hunts::{CountingPass, Maker, Noise, NoisyCell, StackCall};
-use seq_objects::{DONE, NONE, wrapping_value_reply};
+use hunts::{CountingPass, Maker, Noise, NoisyCell};
+use seq_objects::{DONE, NONE, StackOperation, wrapping_value_reply};
 use std::alloc::Global;
 
 // How often a call tries to change the top. Each failure is another call's success, so no call
@@ -75,9 +75,9 @@ impl Stack {
     }
 
     fn answer(&self, op: OpWord) -> Option<u64> {
-        match StackCall::from_word(op)? {
-            StackCall::Push(value) => self.push(value),
-            StackCall::Pop => self.pop(),
+        match StackOperation::from_word(op)? {
+            StackOperation::Push(value) => self.push(value),
+            StackOperation::Pop => self.pop(),
         }
     }
 }

@@ -1,4 +1,3 @@
-pub mod Calling
 pub mod Listings
 pub mod Made
 pub mod Heard

@@ -1,6 +1,5 @@
 pub mod Passes
 pub mod Silence
-pub mod Calls
 pub mod Listing
 pub mod Hunting
 pub mod Watching

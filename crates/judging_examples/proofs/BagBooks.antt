@@ -12,7 +12,7 @@ use Rattle.book_base.specs.Next.{MayComeNext, MayStandNext}
 use Rattle.judging_examples.specs.Books.{answer, stand}
 use Rattle.legal_orders.proofs.LegalOrder.{legal_order_from_continues}
 use Rattle.legal_orders.specs.Container.{Effect, times, GivesOne, IsContainer}
-use Rattle.container_pruning.specs.declared.deal.Deal.TheVariants as deals
+use Rattle.legal_orders.specs.Deals as deals
 use Rattle.queue_pairs.specs.declared.table.QueueDeal.{QueueDeal}
 use Rattle.queue_pairs.specs.declared.table.QueueDeal.TheVariants as did
 use Rattle.queue_pairs.specs.declared.table.Table.{Table}

@@ -1,5 +1,4 @@
 pub mod LegalBooks
-pub mod SmallObjects
 pub mod BagBooks
 pub mod ClosedTables
 pub mod EvidenceBooks

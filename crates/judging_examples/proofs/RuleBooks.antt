@@ -4,7 +4,7 @@ use Rattle.std.proofs.lemmas.Bool.{true≢false}
 use Rattle.book_base.specs.declared.call.Call.{Call}
 use Rattle.book_base.specs.Book.{Page, calls_of, IsCall}
 use Rattle.book_base.proofs.PageLemmas.{caller_from_call}
-use Rattle.container_pruning.specs.declared.deal.Deal.TheVariants as deals
+use Rattle.legal_orders.specs.Deals as deals
 use Rattle.seq_objects.specs.declared.kind.Kind.{Kind}
 use Rattle.broken_rules.specs.Deeds.{did, value_by, is_put, is_take, is_nothing}
 use Rattle.broken_rules.specs.Demands.{MayTake}

@@ -1,7 +1,7 @@
 //! Worked cases: what calls of sets and maps did with their keys, and how many calls a view holds.
 
 ghost use Rattle.std.specs.Prelude.{◌≡◌};
-ghost use Rattle.container_pruning.specs.declared.deal.Deal.TheVariants as deals;
+ghost use Rattle.legal_orders.specs.Deals as deals;
 ghost use Rattle.seq_objects.specs.declared.kind.Kind.TheVariants as kinds;
 ghost use Rattle.broken_rules.specs.Deeds.{did};
 ghost use Rattle.broken_rules.specs.Rules.{SeesAtMost};

@@ -10,7 +10,6 @@ pub mod keyed_calls;
 pub mod piles;
 pub mod rules;
 pub mod runs;
-pub mod small_objects;
 pub mod smaller_books;
 pub mod standings;
 pub mod steps;

@@ -8,7 +8,6 @@ use Rattle.std.proofs.lemmas.List.Elements.{Contains-get_or}
 use Rattle.std.proofs.lemmas.List.Sorted.{Contains-permutation, IsPermutation-reverse}
 use Rattle.list_laws.proofs.Options.{if_some}
 use Rattle.legal_orders.specs.Container.{Puts, Takes, Neither, GivesFirst, IsQueue, IsStack}
-use Rattle.container_pruning.specs.FoundRules.{HoldsItsWords}
 use Rattle.seq_objects.specs.declared.queue.QueueOperation.{QueueOperation}
 use Rattle.seq_objects.specs.declared.queue.QueueOperation.TheVariants.{Enqueue, Dequeue}
 use Rattle.seq_objects.specs.declared.stack.StackOperation.{StackOperation}
@@ -27,12 +26,6 @@ shown_item item =
     cond-true (is_value (reply_value item)) (Some (value_of (reply_value item))) None
     (eq-eqb (reply_value item / 2 ^ 32) 2 (omega arith))
     ∙ ap Some (omega arith)
-
--- a value that a reply shows is below 2^32
-shown_small : (reply v : ℕ) → shown_value reply ≡ Some v → v < 2 ^ 32
-shown_small reply v e =
-    let parts = if_some (is_value reply) (Some (value_of reply)) v e in
-    omega (arith, same_Some (value_of reply) v parts.1)
 
 -- ---- queues
 
@@ -147,20 +140,3 @@ stack_is_read = record {
   take = λ list op e. stack_take list (stack_operation op) e;
   neither = λ list op e. stack_neither list (stack_operation op) e;
 }
-
--- a word of a list that is below 2^32 is one of the values of the list
-Contains-value : (list : List ℕ) (v : ℕ) → v < 2 ^ 32 → Contains list v
-    → Contains (map value_of list) v
-Contains-value list v small inside =
-    let k : ℕ = inside.0 in
-    let there : k < length list = inside.1 in
-    let value : get_or (map value_of list) k v ≡ v =
-    get_or-map value_of list k v v there ∙ omega (arith, small, inside.2) in
-    subst (λ (x : ℕ). Contains (map value_of list) x) value
-    (Contains-get_or (map value_of list) k v (omega (arith, there, length-map list value_of)))
-
-pub stack_holds_its_words : HoldsItsWords stack_reading
-stack_holds_its_words list v reply inside shows =
-    Contains-permutation (map value_of list) (reverse (map value_of list)) v
-    (IsPermutation-reverse (map value_of list))
-    (Contains-value list v (shown_small reply v shows) inside)

@@ -5,7 +5,7 @@ ghost use Rattle.kind_search.specs.PqueueReading.{pqueue_reading};
 ghost use Rattle.kind_search.specs.RegisterReading.{register_reading};
 
 use book_base::OpWord;
-use container_pruning::{Reader, Role};
+use legal_orders::{Reader, Role};
 use seq_objects::{
     PqueueOperation, QueueOperation, RegisterOperation, StackOperation, shown_value,
 };

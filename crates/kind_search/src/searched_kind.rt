@@ -9,10 +9,9 @@ ghost use Rattle.kind_search.specs.Seen.{kind_sees, IsNarrowedByKind};
 use crate::keyed::{MapKeys, SetKeys, empty_sight, narrow_to_key};
 use crate::readers::{PqueueReader, QueueReader, RegisterReader, StackReader};
 use book_base::{Book, Cut, NoMemory, OpWord, SeqObject, State};
-use container_pruning::{queue_pruning_rules, stack_pruning_rules};
 use list_pruning::{narrow_holds_last, narrow_last_first, narrow_least_first, sight_of_values};
 use queue_refutation::decide_queue;
-use search_hints::{Decision, MarkedCallers, PruningRules, SearchHints, Sight};
+use search_hints::{Decision, MarkedCallers, SearchHints, Sight};
 use seq_objects::Kind;
 use stack_levels::decide_stack;
 use std::alloc::Global;
@@ -60,21 +59,6 @@ impl SeqObject for SearchedKind {
 
 impl SearchHints for SearchedKind {
     ghost sees = { λ object. kind_sees object.kind };
-
-    /// The pruning rules that the kind knows of a book before a search. Only queues and stacks know
-    /// any.
-    fn find_pruning_rules(&self, alloc: Global, book: &Book) -> Result<PruningRules, NoMemory> {
-        match self.kind {
-            Kind::Queue => queue_pruning_rules(alloc, &QueueReader, book),
-            Kind::Stack => stack_pruning_rules(alloc, &StackReader, book),
-            Kind::Register
-            | Kind::Counter
-            | Kind::IntSet
-            | Kind::Pqueue
-            | Kind::CasRegister
-            | Kind::Map => Ok(PruningRules::none(alloc)),
-        }
-    }
 
     fn prepare(&self, alloc: Global, book: &Book) -> Result<Option<Sight>, NoMemory> {
         match self.kind {

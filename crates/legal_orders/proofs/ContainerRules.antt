@@ -1,5 +1,5 @@
 -- The rules of any container.
-use Rattle.std.proofs.Common.{◌≡◌, ℕ, suc, ◌+◌, ◌<◌, ◌≤◌, ◌∙◌, List, [], take, Option, Some, None, sym, ap, subst, inl, inr, slice_get, arith}
+use Rattle.std.proofs.Common.{◌≡◌, ◌≢◌, ℕ, suc, ◌+◌, ◌<◌, ◌≤◌, ◌∙◌, List, [], take, Option, Some, None, sym, ap, subst, inl, inr, slice_get, arith}
 use Rattle.std.proofs.lemmas.Bool.{cases_lt}
 use Rattle.std.proofs.lemmas.Option.{same_Some, none-some}
 use Rattle.book_base.specs.declared.call.Call.{Call}
@@ -7,12 +7,11 @@ use Rattle.book_base.specs.declared.call.Place.{Place}
 use Rattle.book_base.specs.SeqSpec.{SeqSpec}
 use Rattle.book_base.specs.Book.{Page}
 use Rattle.book_base.specs.Sequential.{IsRunFrom}
-use Rattle.book_base.specs.Order.{call_at, StandsAt, IsLegalOrder}
+use Rattle.book_base.specs.Order.{call_at, StandsAt, IsLegalOrder, HasLegalOrder}
 use Rattle.legal_orders.proofs.Final.{IsRunFrom-take}
 use Rattle.book_base.specs.Reaching.{list_after_run}
 use Rattle.legal_orders.specs.Container.{Effect, Puts, Takes, Reading, value_put, value_taken, put_by, taken_by, times, GivesOne, IsContainer}
-use Rattle.legal_orders.specs.Calls.{PutsInAlone}
-use Rattle.legal_orders.specs.Rules.{EmptyBeforePut, TakenOnce}
+use Rattle.legal_orders.specs.Calls.{PutsInAlone, TakesOut}
 use Rattle.legal_orders.proofs.Counting.{how_often, how_often-grows, how_often-more, how_often-found, how_often-once}
 use Rattle.legal_orders.proofs.Runs.{step_of_run, holds_what_was_put}
 use Rattle.legal_orders.proofs.Orders.{steps_of, answered_step, putting_step, put_alone, put_at_one_place}
@@ -56,36 +55,8 @@ pub takes_by : (reading : Reading) (step : ℕ × ℕ) (v : ℕ) → reading.dee
 takes_by reading step v deed shows =
     ap (λ (d : Effect). value_taken d (reading.shown step.1)) deed ∙ shows
 
--- no step both puts in and takes
-pub deeds_apart : (reading : Reading) (steps : List (ℕ × ℕ)) (j k : ℕ) (a b : ℕ × ℕ) (v : ℕ)
-    → slice_get steps j ≡ Some a → slice_get steps k ≡ Some b
-    → reading.deed a.0 ≡ Puts v → reading.deed b.0 ≡ Takes → j ≡ k → ⊥
-deeds_apart reading steps j k a b v at_a at_b puts takes same =
-    let one : a ≡ b = same_Some a b (sym at_a ∙ (ap (slice_get steps) same ∙ at_b)) in
-    let deed : Puts v ≡ Takes = sym puts ∙ (ap (λ (s : ℕ × ℕ). reading.deed s.0) one ∙ takes) in
-    none-some v (sym (ap value_put deed))
-
--- A container holds nothing where a take found nothing, so that a value that was put in before was
--- taken out before.
-taken_before_empty : (reading : Reading) (next : List ℕ → ℕ → List ℕ × ℕ) → IsContainer reading next
-    → (list : List ℕ) (steps : List (ℕ × ℕ)) → IsRunFrom next list steps → reading.values list ≡ []
-    → (v q e : ℕ) (step_q step_e : ℕ × ℕ) → slice_get steps q ≡ Some step_q
-    → reading.deed step_q.0 ≡ Puts v
-    → slice_get steps e ≡ Some step_e → reading.deed step_e.0 ≡ Takes
-    → reading.shown step_e.1 ≡ None → q < e
-    → 1 ≤ how_often (taken_by reading) v (take e steps)
-taken_before_empty reading next is list steps run empty v q e step_q step_e at_q puts at_e
-    takes shows lt =
-    let nothing = (take_at reading next is list steps run e step_e None at_e takes shows).0 in
-    omega (
-      arith,
-      held_after reading next is v list steps run empty e,
-      ap (times v) nothing,
-      how_often-more (put_by reading) v steps q e step_q at_q (puts_by reading step_q v puts) lt,
-    )
-
 -- a value that one call alone puts in is put in at most once
-pub puts_at_most_one : (reading : Reading) (spec : SeqSpec) (book : List Page) (order : List Place)
+puts_at_most_one : (reading : Reading) (spec : SeqSpec) (book : List Page) (order : List Place)
     → IsLegalOrder spec book order → (call : Call) (v : ℕ) → PutsInAlone reading book call v
     → (n : ℕ) → how_often (put_by reading) v (take n (steps_of book order)) ≤ 1
 puts_at_most_one reading spec book order legal call v alone n =
@@ -100,41 +71,8 @@ puts_at_most_one reading spec book order legal call v alone n =
           (put_at_one_place reading spec book order legal call v found.0 alone stands)
     ]
 
-pub empty_before_put : EmptyBeforePut
-empty_before_put reading spec book is none v empty take_v put_v finds takes precedes alone
-    order legal q stands =
-    let steps = steps_of book order in
-    let e = answered_step reading spec book order legal empty None finds in
-    let m = answered_step reading spec book order legal take_v (Some v) takes in
-    let put = putting_step reading book order put_v v q alone.0 stands in
-    let lt : e.0 < m.0 = legal.precedence e.0 m.0 empty take_v e.2 m.2 precedes in
-    elim (cases_lt e.0 q) [
-      | inl before ↦ (e.0, before, e.2)
-      | inr le ↦ elim (cases_lt q e.0) [
-        | inl after ↦
-            let once =
-            puts_at_most_one reading spec book order legal put_v v alone (suc m.0) in
-            let early =
-            taken_before_empty reading spec.next is spec.init steps legal.run none v q e.0 put.0
-            e.1 put.1 put.2 e.3 e.4 e.5 after in
-            let grows = how_often-grows (taken_by reading) v steps e.0 m.0 (omega arith) in
-            let more = how_often-more (taken_by reading) v steps m.0 (suc m.0) m.1 m.3
-            (takes_by reading m.1 v m.4 m.5) (omega arith) in
-            absurd (omega (
-              arith,
-              once,
-              early,
-              grows,
-              more,
-              held_after reading spec.next is v spec.init steps legal.run none (suc m.0),
-            ))
-        | inr ge ↦
-            absurd (deeds_apart reading steps q e.0 put.0 e.1 v put.1 e.3 put.2 e.4 (omega arith))
-      ]
-    ]
-
 -- a value that is put in once is taken out once
-pub taken_at_one_place : (reading : Reading) (spec : SeqSpec) (book : List Page)
+taken_at_one_place : (reading : Reading) (spec : SeqSpec) (book : List Page)
     (order : List Place) → IsContainer reading spec.next
     → reading.values spec.init ≡ [] → IsLegalOrder spec book order → (v : ℕ) (put_v : Call)
     → PutsInAlone reading book put_v v → (j k : ℕ) (a b : ℕ × ℕ)
@@ -154,7 +92,13 @@ taken_at_one_place reading spec book order is none legal v put_v alone j k a b a
       puts_at_most_one reading spec book order legal put_v v alone (suc k),
     ))
 
-pub taken_once : TakenOnce
+-- In any container that begins empty, a book where a value is put in by one call alone and taken
+-- out by two answered calls has no legal order.
+pub taken_once : (reading : Reading) (spec : SeqSpec) (book : List Page)
+    → IsContainer reading spec.next → reading.values spec.init ≡ []
+    → (v : ℕ) (one other put_v : Call) → one ≢ other → TakesOut reading book one v
+    → TakesOut reading book other v → PutsInAlone reading book put_v v
+    → ¬ HasLegalOrder spec book
 taken_once reading spec book is none v one other put_v apart takes_one takes_other alone h =
     let order = h.0 in
     let legal = h.1 in

@@ -140,16 +140,6 @@ pub times-shown : {X : Type 0} (f : X → Option ℕ) (v : ℕ) (xs : List X)
 times-shown f v [] = refl
 times-shown f v (x ∷ xs) = omega (arith, times-option v (f x) (filter_map f xs), times-shown f v xs)
 
--- a value that no item shows is shown zero times
-pub how_often-none : {X : Type 0} (f : X → Option ℕ) (v : ℕ) (xs : List X) (n : ℕ)
-    → ((k : ℕ) (x : X) → slice_get xs k ≡ Some x → f x ≡ Some v → ⊥) → how_often f v (take n xs) ≡ 0
-how_often-none f v xs n never =
-    elim (cases_lt (how_often f v (take n xs)) 1) [
-      | inl none ↦ omega arith
-      | inr some ↦ let found = how_often-found f v xs n some in
-          absurd (never found.0 found.1 found.3 found.4)
-    ]
-
 -- a value is in two lists joined as often as in the one and the other together
 pub times-append : (v : ℕ) (xs ys : List ℕ) → times v (xs ++ ys) ≡ times v xs + times v ys
 times-append v [] ys = omega arith
@@ -169,9 +159,6 @@ times-found v (x ∷ xs) some = elim (cases_eq x v) [
   | inr apart ↦ let found = times-found v xs (omega (arith, ap one_if (ne_eqb x v apart))) in
       (suc found.0, found.1)
 ]
-
-pub times-first : (v : ℕ) (xs : List ℕ) → times v (v ∷ xs) ≡ 1 + times v xs
-times-first v xs = omega (arith, ap one_if (eq-eqb v v refl))
 
 pub times-apart : (v w : ℕ) (xs : List ℕ) → (w ≡ v → ⊥) → times v (w ∷ xs) ≡ times v xs
 times-apart v w xs apart = omega (arith, ap one_if (ne_eqb w v apart))

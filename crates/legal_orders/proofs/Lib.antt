@@ -11,9 +11,7 @@ pub mod Ranks
 pub mod QueueRuns
 pub mod Orders
 pub mod ContainerRules
-pub mod MoreTaken
-pub mod QueueRules
-pub mod StackRules
+pub mod Dealing
 pub mod Exchange
 pub mod Replied
 pub mod Opening

@@ -36,12 +36,6 @@ put_from_value (Puts w) v e = ap Puts (same_Some w v e)
 put_from_value Takes v e = absurd (none-some v e)
 put_from_value Neither v e = absurd (none-some v e)
 
-take_from_value : (deed : Effect) (shown : Option ℕ) (v : ℕ) → value_taken deed shown ≡ Some v
-    → (deed ≡ Takes) × (shown ≡ Some v)
-take_from_value (Puts w) shown v e = absurd (none-some v e)
-take_from_value Takes shown v e = (refl, e)
-take_from_value Neither shown v e = absurd (none-some v e)
-
 -- a call of the book has an operation
 pub has_operation : (book : List Page) (call : Call) → IsCall book call
     → operation_of book call ≡ Some (unwrap_or (operation_of book call) 0)

@@ -3,7 +3,7 @@ pub mod Finality
 pub mod Greatest
 pub mod Container
 pub mod Calls
-pub mod Rules
+pub mod Deals
 pub mod Standing
 pub mod Twins
 pub mod Idle

@@ -1,6 +1,7 @@
 //! Laws of pruning, each the contract of a function with nothing in it. The law of keys holds for
 //! every object of keys, the other laws for every object.
 
+ghost use Rattle.legal_orders.specs.Standing.{GoesOnWithIt};
 ghost use Rattle.legal_orders.specs.Twins.{TwinServes};
 ghost use Rattle.legal_orders.specs.Idle.{IdleMayBeLeftOut};
 ghost use Rattle.legal_orders.specs.Keys.{ForcedKeyGoesFirst};
@@ -25,4 +26,10 @@ pub fn idle_calls_may_be_left_out()
 /// be tried, where the forced call has a key.
 pub fn the_forced_key_goes_first()
     ensures { ForcedKeyGoesFirst }
+{}
+
+/// Whatever the object, an answered call that may come next may be taken at once, where the object
+/// gives its recorded reply and its operation is read-only with this reply.
+pub fn read_only_calls_stand_at_once()
+    ensures { GoesOnWithIt }
 {}

@@ -13,12 +13,11 @@ use Rattle.book_base.proofs.PageLemmas.{caller_from_call}
 use Rattle.book_base.proofs.ViewLemmas.{same_call}
 use Rattle.legal_orders.specs.Container.{Puts, Takes, Reading}
 use Rattle.legal_orders.specs.Calls.{PutsIn, TakesOut}
-use Rattle.container_pruning.specs.Uses.{IsReadTo}
 use Rattle.book_base.specs.Next.{next_call}
 use Rattle.search_hints.specs.Marks.{IsMarked, MarksAllNext}
 use Rattle.list_laws.proofs.Places.{slice_get-push_old, slice_get-push_last}
 use Rattle.list_pruning.specs.LeastFirst.{IsBelowFirst, IsLeastTake, PutsLeast}
-use Rattle.list_pruning.specs.Sights.{place_of, puts_at, shows_at, puts_of, shows_of, IsListed, HasItsPlaces, HasPlace, HasPut, HasTake, ListsRead, ListsValues}
+use Rattle.list_pruning.specs.Sights.{place_of, puts_at, shows_at, puts_of, shows_of, IsListed, IsReadTo, HasItsPlaces, HasPlace, HasPut, HasTake, ListsRead, ListsValues}
 
 -- a caller's call by number
 abbrev call_of : ℕ → ℕ → Call

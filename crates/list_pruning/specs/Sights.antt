@@ -1,5 +1,5 @@
 -- Sights that list, for each value, the calls of a book that put it in or show it.
-use Rattle.std.specs.Prelude.{◌≡◌, ℕ, ◌<◌, List, [], length, map, Option, Some, None, slice_get, slice_index_or}
+use Rattle.std.specs.Prelude.{◌≡◌, ℕ, ◌<◌, ◌⊎◌, List, [], length, map, Option, Some, None, slice_get, slice_index_or}
 use Rattle.std.specs.Ordering.{nat_cmp}
 use Rattle.std.specs.BTreeMap.{is_at}
 use Rattle.std.specs.Map.{lookup}
@@ -8,7 +8,6 @@ use Rattle.search_hints.specs.declared.sight.Sight.{Sight}
 use Rattle.book_base.specs.Book.{Page}
 use Rattle.legal_orders.specs.Container.{Reading}
 use Rattle.legal_orders.specs.Calls.{PutsIn, TakesOut}
-use Rattle.container_pruning.specs.Uses.{IsReadTo}
 
 -- the place of a value's calls in a sight, where it has one
 abbrev pub place_of : Sight → ℕ → Option ℕ
@@ -66,6 +65,12 @@ pub record HasTake (old new : Sight) (v : ℕ) (call : Call) : Type 0 where
   pub places : HasItsPlaces new
   pub more : ListsMore old new
   pub listed : IsListed (shows_of new v) call
+
+-- a call is among those read so far: it is a call of a caller before `caller`, or one of `caller`
+-- with a number below `number`
+abbrev pub IsReadTo : ℕ → ℕ → Call → Type 0
+IsReadTo caller number call = (call.caller < caller)
+    ⊎ ((call.caller ≡ caller) × (call.number < number))
 
 -- A sight lists the calls of a book that were read so far, those before the call `number` of
 -- `caller`: the puts of each value, and the answered takes that show it.

@@ -7,7 +7,7 @@ ghost use Rattle.list_pruning.specs.LastFirst.{PutsAreNextOrLater};
 
 use crate::value_put;
 use book_base::{Book, Call, Cut};
-use container_pruning::Reader;
+use legal_orders::Reader;
 use search_hints::MarkedCallers;
 
 /// Whether each call outside the cut that puts in the value `value` is a marked caller's next call,

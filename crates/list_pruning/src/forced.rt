@@ -9,7 +9,7 @@ ghost use Rattle.list_pruning.specs.LastFirst.{EndsWith, PutsNeedless};
 use crate::value_put;
 use crate::words::last_word;
 use book_base::{Book, Call, Cut};
-use container_pruning::{Reader, Role};
+use legal_orders::{Reader, Role};
 use search_hints::MarkedCallers;
 
 /// What the forced caller's next call shows, where it is a take: a value, or nothing. No clause

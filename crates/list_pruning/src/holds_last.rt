@@ -9,7 +9,7 @@ ghost use Rattle.list_pruning.specs.HoldsLast.{HoldsLast, IsIrreplaceable, IsNee
 use crate::outside::{is_read, is_written};
 use crate::values::value_put;
 use book_base::{Book, Call, Cut};
-use container_pruning::Reader;
+use legal_orders::Reader;
 use search_hints::{MarkedCallers, Sight};
 
 /// The callers whose next calls a search has to try, in the book of a register that holds a value:

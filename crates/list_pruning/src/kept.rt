@@ -9,7 +9,7 @@ ghost use Rattle.list_pruning.specs.LastFirst.{IsKept, IsKeptPut, IsNeverEmpty, 
 
 use crate::{is_read, value_put};
 use book_base::{Book, Call, Cut};
-use container_pruning::{Reader, Role};
+use legal_orders::{Reader, Role};
 use search_hints::{MarkedCallers, Sight};
 
 /// A marked caller whose next call is answered and puts in a value that no answered call outside

@@ -13,7 +13,7 @@ use crate::top::Top;
 use crate::words::{holds, last_word};
 use crate::{is_put_once, next_least_take, value_put};
 use book_base::{Book, Call, Cut};
-use container_pruning::Reader;
+use legal_orders::Reader;
 use search_hints::{MarkedCallers, Sight};
 
 /// The callers whose next calls a search has to try at a list of a stack: some of the marked

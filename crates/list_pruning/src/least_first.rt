@@ -13,7 +13,7 @@ use crate::sight::is_put_once;
 use crate::takes::next_least_take;
 use crate::values::{value_put, value_taken};
 use book_base::{Book, Call, Cut};
-use container_pruning::{Reader, Role};
+use legal_orders::{Reader, Role};
 use search_hints::{MarkedCallers, Sight};
 
 /// The callers whose next calls a search has to try, in the book of a priority queue: some of the

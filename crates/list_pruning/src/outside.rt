@@ -6,7 +6,7 @@ ghost use Rattle.list_pruning.specs.HoldsLast.{IsRead, IsWritten, ReadsOutside, 
 use crate::sight::{is_outside, labelled_of};
 use crate::values::{value_put, value_taken};
 use book_base::{Book, Call, Cut};
-use container_pruning::Reader;
+use legal_orders::Reader;
 use search_hints::Sight;
 
 /// Whether some answered call outside a cut reads the value `value`.

@@ -5,7 +5,7 @@ ghost use Rattle.list_pruning.specs.Sights.{place_of, HasItsPlaces, HasPlace, Ha
 
 use crate::values::{value_put, value_taken};
 use book_base::{Book, Call, Cut, NoMemory};
-use container_pruning::Reader;
+use legal_orders::Reader;
 use search_hints::{Labelled, Sight};
 use std::alloc::Global;
 use std::collections::BTreeMap;

@@ -11,7 +11,7 @@ ghost use Rattle.list_pruning.specs.LeastFirst.{IsLeastTake};
 
 use crate::values::value_taken;
 use book_base::{Book, Call, Cut};
-use container_pruning::Reader;
+use legal_orders::Reader;
 use search_hints::MarkedCallers;
 
 /// A marked caller whose next call takes out the value `value`, with the least view of all answered

@@ -3,7 +3,7 @@ ghost use Rattle.book_base.specs.Book.{IsCall};
 ghost use Rattle.legal_orders.specs.Calls.{PutsIn, TakesOut};
 
 use book_base::{Book, Call};
-use container_pruning::{Reader, Role};
+use legal_orders::{Reader, Role};
 
 /// The value that a call puts in, if it puts one in.
 pub fn value_put<R: Reader>(reader: &R, book: &Book, call: Call) -> Option<u64>

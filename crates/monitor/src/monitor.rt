@@ -35,7 +35,7 @@ impl<P: Program> Monitor<P> {
     ghost use Rattle.row_table.specs.Callers.{who_of, local_with, stance_of};
     ghost use Rattle.drv_wrapper.specs.Stands.{ready};
     ghost use Rattle.frontier_check.specs.Standing.{IsStandingFor};
-    ghost use Rattle.enforcer.specs.Lines.{OrderStandsIn};
+    ghost use Rattle.enforcer.specs.Verdicts.{OrderStandsIn};
     ghost use Rattle.monitor.specs.Claims.{KnowsOrLacked, Agree};
     ghost use Rattle.monitor.specs.Monitors.{caller_of, local_of, own_of, placed_by, known_by, kept_by, IsOn, AreOfOne, IsMonitorOf, Becomes, IsLater, HasFound, HasScannedSome, HasGathered, IsKeptAfter, TicksForBook, TicksForRound};
 

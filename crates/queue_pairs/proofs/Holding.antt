@@ -5,8 +5,8 @@ use Rattle.std.proofs.lemmas.List.Sums.{sum_by-cons}
 use Rattle.legal_orders.specs.Container.{Reading, IsContainer, one_if, put_by, taken_by, times}
 use Rattle.legal_orders.proofs.Counting.{is_once}
 use Rattle.legal_orders.proofs.Runs.{holds_what_was_put}
-use Rattle.container_pruning.specs.declared.deal.Deal.{Deal as KnownDeal}
-use Rattle.container_pruning.specs.declared.deal.Deal.TheVariants as deals
+use Rattle.legal_orders.specs.Deals.{Deal as KnownDeal}
+use Rattle.legal_orders.specs.Deals as deals
 use Rattle.queue_pairs.specs.declared.table.QueueDeal.{QueueDeal}
 use Rattle.queue_pairs.specs.declared.table.QueueDeal.TheVariants as did
 use Rattle.queue_pairs.specs.Tables.{known_deal}

@@ -14,10 +14,10 @@ use Rattle.book_base.specs.Next.{raised, MayComeNext, MayStandNext, Continues}
 use Rattle.legal_orders.proofs.LegalOrder.{same_call, raised_cases, within_cut, continues_from_legal_order}
 use Rattle.legal_orders.specs.Container.{Effect, Puts, Takes, Neither, Reading, value_put, value_taken, put_by, taken_by, times, GivesOne, IsContainer}
 use Rattle.legal_orders.proofs.Orders.{has_operation}
-use Rattle.container_pruning.specs.declared.deal.Deal.{Deal as KnownDeal}
-use Rattle.container_pruning.specs.declared.deal.Deal.TheVariants as deals
-use Rattle.container_pruning.specs.Deals.{shown_deal, recorded_deal, deal_by_deed, deal_by_operation, deal_of}
-use Rattle.container_pruning.proofs.Dealing.{nothing_by_deal}
+use Rattle.legal_orders.specs.Deals.{Deal as KnownDeal}
+use Rattle.legal_orders.specs.Deals as deals
+use Rattle.legal_orders.specs.Deals.{shown_deal, recorded_deal, deal_by_deed, deal_by_operation, deal_of}
+use Rattle.legal_orders.proofs.Dealing.{nothing_by_deal}
 use Rattle.queue_pairs.specs.declared.TheConstants.{NEVER}
 use Rattle.queue_pairs.specs.declared.table.Table.{Table}
 use Rattle.queue_pairs.specs.declared.table.TimedCall.{TimedCall}

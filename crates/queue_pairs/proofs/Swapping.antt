@@ -8,14 +8,14 @@ use Rattle.book_base.specs.Book.{Page, answers_of, IsValid, record_of}
 use Rattle.book_base.specs.Pruning.{HasOneOpen}
 use Rattle.book_base.proofs.ViewLemmas.{same_call}
 use Rattle.legal_orders.specs.Container.{Reading}
-use Rattle.container_pruning.specs.declared.deal.Deal.TheVariants as deals
-use Rattle.container_pruning.specs.Deals.{deal_of}
+use Rattle.legal_orders.specs.Deals as deals
+use Rattle.legal_orders.specs.Deals.{deal_of}
 use Rattle.queue_pairs.specs.Moments.{moment_of, IsHeldBy}
 use Rattle.queue_pairs.specs.Pairs.{Paired, Pair, PairStep, Pairs, FindNothing, IsPutOf, IsPut, MayTakeOut, IsTake, MayPair, MayFind, after, IsWhole, AreSteps}
 use Rattle.queue_pairs.proofs.Walking.{open_is_unanswered}
 use Rattle.queue_pairs.specs.Serving.{IsDueNoLater, EarlierPutServes, EarlierTakeServes}
 use Rattle.book_base.proofs.PageLemmas.{caller_from_call}
-use Rattle.container_pruning.proofs.Dealing.{call_by_deal}
+use Rattle.legal_orders.proofs.Dealing.{call_by_deal}
 use Rattle.queue_pairs.proofs.Serving.{IsSame, same-refl, same-set, next-at, IsEarlier, held_later, pair-at, find-at, steps-earlier, next-least, next-same, put-due, take-due}
 use Rattle.queue_pairs.proofs.Swapped.{AreSwapped, both-stand, swapped-first, swapped-more, effect-moves, none-after}
 

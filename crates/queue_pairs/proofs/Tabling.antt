@@ -7,9 +7,9 @@ use Rattle.book_base.specs.declared.call.Call.{Call}
 use Rattle.book_base.specs.Book.{Page, calls_of, IsCall}
 use Rattle.book_base.proofs.ViewLemmas.{same_call}
 use Rattle.legal_orders.specs.Container.{Reading}
-use Rattle.container_pruning.specs.declared.deal.Deal.TheVariants as deals
-use Rattle.container_pruning.specs.Deals.{deal_of}
-use Rattle.container_pruning.proofs.Dealing.{call_by_deal}
+use Rattle.legal_orders.specs.Deals as deals
+use Rattle.legal_orders.specs.Deals.{deal_of}
+use Rattle.legal_orders.proofs.Dealing.{call_by_deal}
 use Rattle.queue_pairs.specs.declared.TheConstants.{NEVER}
 use Rattle.queue_pairs.specs.declared.table.QueueDeal.{QueueDeal}
 use Rattle.queue_pairs.specs.declared.table.QueueDeal.TheVariants as did

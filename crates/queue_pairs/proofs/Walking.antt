@@ -19,10 +19,10 @@ use Rattle.book_base.proofs.PageLemmas.{caller_from_call}
 use Rattle.book_base.proofs.ViewLemmas.{answer_stands, same_call}
 use Rattle.legal_orders.proofs.LegalOrder.{raised_same, raised_more, raised_cases, within_cut, continues_from_legal_order, legal_order_from_continues}
 use Rattle.legal_orders.specs.Container.{Effect, Puts, Takes, Neither, Reading, GivesFirst, IsQueue}
-use Rattle.container_pruning.specs.declared.deal.Deal.{Deal}
-use Rattle.container_pruning.specs.declared.deal.Deal.TheVariants as deals
-use Rattle.container_pruning.specs.Deals.{shown_deal, recorded_deal, deal_by_deed, deal_by_operation, deal_of}
-use Rattle.container_pruning.proofs.Dealing.{takes_by_deal, nothing_by_deal}
+use Rattle.legal_orders.specs.Deals.{Deal}
+use Rattle.legal_orders.specs.Deals as deals
+use Rattle.legal_orders.specs.Deals.{shown_deal, recorded_deal, deal_by_deed, deal_by_operation, deal_of}
+use Rattle.legal_orders.proofs.Dealing.{takes_by_deal, nothing_by_deal}
 use Rattle.queue_pairs.specs.Moments.{moment_of, IsHeldBy, MayTakeEffect, HaveMoments, KeepPrecedence, AreHeld}
 use Rattle.queue_pairs.specs.Pairs.{Paired, Pair, PairStep, Pairs, FindNothing, IsPutOf, IsPut, MayTakeOut, IsTake, MayPair, MayFind, after, IsWhole, AreSteps, none_paired}
 use Rattle.queue_pairs.specs.PairLaws.{LegalOrdersHavePairs}

@@ -6,7 +6,7 @@ use Rattle.book_base.specs.declared.call.Record.{Record}
 use Rattle.book_base.specs.Book.{Page, IsValid, record_of}
 use Rattle.book_base.specs.Pruning.{HasOneOpen}
 use Rattle.legal_orders.specs.Container.{Reading}
-use Rattle.container_pruning.specs.Deals.{deal_of}
+use Rattle.legal_orders.specs.Deals.{deal_of}
 use Rattle.queue_pairs.specs.Moments.{moment_of, MayTakeEffect}
 use Rattle.queue_pairs.specs.Pairs.{Paired, Pair, PairStep, Pairs, IsPutOf, IsPut, IsTake, IsNext, AreSteps}
 

@@ -1,14 +1,14 @@
 ghost use Rattle.std.specs.Prelude.{◌≡◌, ℕ, ◌+◌, ◌<◌, ◌∷◌, ◌++◌, [], true, false, IfOk, OnOk, IsTrue, ◌↔◌, length, slice_get, slice_index, slice_index_or, None};
 ghost use Rattle.book_base.specs.declared.TheConstants.{MAX_CALLERS};
 ghost use Rattle.book_base.specs.Book.{IsCall, calls_of};
-ghost use Rattle.container_pruning.specs.Deals.{deal_of, take_of};
+ghost use Rattle.legal_orders.specs.Deals.{deal_of, take_of};
 ghost use Rattle.queue_pairs.specs.Tables.{known_deal, is_find, is_put, is_take, put_at, rows_of, take_at, timed_at, IsTimed, IsRowTo, AreFindsTo, IsTable, IsFirstFrom};
 ghost use Rattle.queue_pairs.specs.NextEntries.{first_after, last_after, IsLeastOf};
 
 use crate::NEVER;
 use crate::spans::{Span, span_of};
 use book_base::{Book, Call, MAX_CALLERS, NoMemory};
-use container_pruning::{Reader, Role};
+use legal_orders::{Reader, Role};
 use std::alloc::Global;
 
 /// What a call did: it put a value in, it took one out or found nothing, it is an unanswered take,

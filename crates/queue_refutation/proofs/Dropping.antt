@@ -10,9 +10,9 @@ use Rattle.book_base.specs.Book.{Page, answers_of, record_of}
 use Rattle.book_base.specs.Pruning.{HasOneOpen}
 use Rattle.book_base.proofs.ViewLemmas.{same_call}
 use Rattle.legal_orders.specs.Container.{Reading}
-use Rattle.container_pruning.specs.declared.deal.Deal.TheVariants as deals
-use Rattle.container_pruning.specs.Deals.{deal_of}
-use Rattle.container_pruning.proofs.Dealing.{takes_by_deal, call_by_deal}
+use Rattle.legal_orders.specs.Deals as deals
+use Rattle.legal_orders.specs.Deals.{deal_of}
+use Rattle.legal_orders.proofs.Dealing.{takes_by_deal, call_by_deal}
 use Rattle.book_base.proofs.PageLemmas.{caller_from_call}
 use Rattle.queue_pairs.specs.Moments.{IsHeldBy, MayTakeEffect}
 use Rattle.queue_pairs.specs.Pairs.{Paired, PairStep, Pairs, FindNothing, IsPut, IsTake, IsNext, after, AreSteps}

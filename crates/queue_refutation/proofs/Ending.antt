@@ -7,7 +7,7 @@ use Rattle.book_base.specs.declared.call.Call.{Call}
 use Rattle.book_base.specs.Book.{Page, answers_of, record_of}
 use Rattle.book_base.specs.Pruning.{HasOneOpen}
 use Rattle.legal_orders.specs.Container.{Reading}
-use Rattle.container_pruning.specs.Deals.{deal_of}
+use Rattle.legal_orders.specs.Deals.{deal_of}
 use Rattle.queue_pairs.specs.declared.TheConstants.{NEVER}
 use Rattle.queue_pairs.specs.declared.next_entries.NextEntries.{NextEntries}
 use Rattle.queue_pairs.specs.declared.next_entries.TimedPair.{TimedPair}

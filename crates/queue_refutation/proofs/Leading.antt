@@ -10,9 +10,9 @@ use Rattle.book_base.specs.Book.{Page, answers_of, IsCall, IsValid, record_of}
 use Rattle.book_base.specs.Pruning.{HasOneOpen}
 use Rattle.book_base.proofs.PageLemmas.{caller_from_call}
 use Rattle.legal_orders.specs.Container.{Reading}
-use Rattle.container_pruning.specs.declared.deal.Deal.TheVariants as deals
-use Rattle.container_pruning.specs.Deals.{deal_of}
-use Rattle.container_pruning.proofs.Dealing.{call_by_deal}
+use Rattle.legal_orders.specs.Deals as deals
+use Rattle.legal_orders.specs.Deals.{deal_of}
+use Rattle.legal_orders.proofs.Dealing.{call_by_deal}
 use Rattle.queue_pairs.specs.Moments.{moment_of, IsHeldBy}
 use Rattle.queue_pairs.specs.Pairs.{Paired, Pair, PairStep, Pairs, FindNothing, IsPutOf, IsPut, IsTake, IsNext, after, AreSteps}
 use Rattle.queue_pairs.specs.Serving.{IsDueNoLater, GoesOnWith}

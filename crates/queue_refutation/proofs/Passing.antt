@@ -12,9 +12,9 @@ use Rattle.book_base.specs.Book.{Page, answers_of, IsCall, record_of}
 use Rattle.book_base.proofs.PageLemmas.{caller_from_call}
 use Rattle.book_base.proofs.ViewLemmas.{answer_stands}
 use Rattle.legal_orders.specs.Container.{Reading}
-use Rattle.container_pruning.specs.declared.deal.Deal.TheVariants as deals
-use Rattle.container_pruning.specs.Deals.{deal_of}
-use Rattle.container_pruning.proofs.Dealing.{call_by_deal}
+use Rattle.legal_orders.specs.Deals as deals
+use Rattle.legal_orders.specs.Deals.{deal_of}
+use Rattle.legal_orders.proofs.Dealing.{call_by_deal}
 use Rattle.queue_pairs.specs.declared.TheConstants.{NEVER}
 use Rattle.queue_pairs.specs.declared.next_entries.NextEntries.{NextEntries}
 use Rattle.queue_pairs.specs.declared.standing.PairState.{PairState}

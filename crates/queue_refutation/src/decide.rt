@@ -6,8 +6,8 @@ ghost use Rattle.queue_refutation.specs.DeadEnds.{QueueHasNoOrder};
 use crate::clashes::refute_by_counts;
 use crate::dead_ends::DeadEnds;
 use book_base::{Book, NoMemory, SeqObject};
-use container_pruning::Reader;
 use indexmap::IndexSet;
+use legal_orders::Reader;
 use order_check::check_order;
 use queue_pairs::{
     PairSearch, PairState, PairWalk, PairsFound, Surplus, Table, calls_in_order, places_of,

@@ -1,4 +1,3 @@
-pub mod PruningRuleLemmas
 pub mod PruningLemmas
 pub mod Least
 pub mod OneOpen

@@ -23,12 +23,3 @@ all_next_suffice book next cut list forced marks is all (place ∷ other) goes =
     let may : MayComeNext book cut (next_call cut place.caller) =
     subst (λ (c : Call). MayComeNext book cut c) same goes.0.may_come in
     (place, other, (all place.caller).1 may, goes, omega arith)
-
--- a caller has the mark that was set for it, and each other caller the mark that it had
-pub marked-set_same : (callers : List Bool) (caller : ℕ) (mark : Bool) → caller < length callers
-    → get_or (set callers caller mark) caller false ≡ mark
-marked-set_same callers caller mark inside = get_or-set_same callers caller mark false inside
-
-pub marked-set_other : (callers : List Bool) (caller i : ℕ) (mark : Bool) → i ≢ caller
-    → get_or (set callers caller mark) i false ≡ get_or callers i false
-marked-set_other callers caller i mark apart = get_or-set_other callers caller i mark false apart

@@ -1,6 +1,6 @@
-//! What a search for a legal order may be told of a book: pruning rules, an index, candidates and
-//! decisions, by a trait above that of sequential objects; which calls may come next after a cut,
-//! and which is forced.
+//! What a search for a legal order may be told of a book: an index, candidates and decisions, by a
+//! trait above that of sequential objects; which calls may come next after a cut, and which is
+//! forced.
 #![tactic(auto)]
 
 mod decision;
@@ -8,7 +8,6 @@ mod marked_callers;
 mod next;
 mod one_open;
 mod plain;
-mod pruning_rules;
 mod search_hints;
 mod sight;
 
@@ -16,6 +15,5 @@ pub use decision::Decision;
 pub use marked_callers::MarkedCallers;
 pub use next::{all_next, cut_of, first_view, least_open};
 pub use one_open::has_one_open;
-pub use pruning_rules::PruningRules;
 pub use search_hints::SearchHints;
 pub use sight::{Labelled, Sight};

@@ -3,12 +3,10 @@ ghost use Rattle.book_base.specs.Book.{Page};
 ghost use Rattle.book_base.specs.Pruning.{HasOneOpen, IsForced, IsReached};
 ghost use Rattle.search_hints.specs.declared.sight.Sight.{Sight};
 ghost use Rattle.search_hints.specs.Decision.{IsRightDecision};
-ghost use Rattle.search_hints.specs.PruningRules.{ArePruningRules};
 ghost use Rattle.search_hints.specs.Marks.{IsMarkedWithin, MarksAllNext, MarksSuffice};
 
 use crate::decision::Decision;
 use crate::marked_callers::MarkedCallers;
-use crate::pruning_rules::PruningRules;
 use crate::sight::Sight;
 use book_base::{Book, Cut, NoMemory, SeqObject};
 use std::alloc::Global;
@@ -18,17 +16,6 @@ use std::alloc::Global;
 pub trait SearchHints: SeqObject {
     /// What the object promises of a sight that it prepares of a book.
     ghost sees: { Self → List Page → Sight → Type 0 } = { λ _ _ _. Unit {0} };
-
-    /// What the object knows of a book before a search, as pruning rules. Each call that they
-    /// forbid next, after a cut and at a list, is next in no legal order that reaches the cut and
-    /// the list. The default forbids nothing.
-    fn find_pruning_rules(&self, alloc: Global, book: &Book) -> Result<PruningRules, NoMemory>
-        // Each call that the rules in the answer forbid next, after a cut and at a list, is
-        // infeasible there.
-        ensures { IfOk result (ArePruningRules (Self.spec self.now) book.now) }
-    {
-        Ok(PruningRules::none(alloc))
-    }
 
     /// What [`SearchHints::narrow`] looks at, made once for each book. The default prepares nothing,
     /// and an object that prepares nothing isn't asked to narrow.

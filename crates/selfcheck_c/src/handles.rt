@@ -9,8 +9,7 @@ use crate::buffer::put;
 use crate::{ILLEGAL, LEGAL, NO_MEMORY, NO_ROOM};
 use book_base::{NoMemory, join};
 use call_handles::{
-    CallAnswer, CallerRole, Judgement, Slot, announce, answered, close, give, judge, open, publish,
-    witness,
+    CallerRole, HandleVerdict, Slot, announce, answered, close, give, judge, open, publish, witness,
 };
 use std::alloc::Global;
 
@@ -135,15 +134,15 @@ pub extern "C" fn selfcheck_answered(alloc: Global, slot: &mut Slot, reply: u64)
     // With `DONE` the call has this reply and is judged: the book at the cut that its caller has
     // seen has a legal order.
     ensures delivered { result ≡ DONE →
-        Ends reply CallAnswer.Delivered (handle_in slot.old) (handle_in slot.new) }
+        Ends reply HandleVerdict.Legal (handle_in slot.old) (handle_in slot.new) }
     // With `ILLEGAL` the call has this reply and is judged: the book at the cut that its caller has
     // seen has no legal order.
     ensures illegal { result ≡ ILLEGAL →
-        Ends reply CallAnswer.Illegal (handle_in slot.old) (handle_in slot.new) }
+        Ends reply HandleVerdict.Illegal (handle_in slot.old) (handle_in slot.new) }
     // With `NO_MEMORY` the call is published with this reply, nobody has judged it, and its caller
     // makes no further call.
     ensures unjudged { result ≡ NO_MEMORY →
-        Ends reply CallAnswer.Unjudged (handle_in slot.old) (handle_in slot.new) }
+        Ends reply HandleVerdict.Unjudged (handle_in slot.old) (handle_in slot.new) }
     // The status is `UNFIT` exactly where the slot has no caller with an announced call whose reply
     // isn't handed in yet.
     ensures unfit { (result ≡ UNFIT) ↔ ¬ IsCallers HasAnnounced (handle_in slot.old) }
@@ -153,9 +152,9 @@ pub extern "C" fn selfcheck_answered(alloc: Global, slot: &mut Slot, reply: u64)
     ensures ends { (result ≡ DONE) ⊎ (result ≡ ILLEGAL) ⊎ (result ≡ NO_MEMORY) ⊎ (result ≡ UNFIT) }
 {
     match answered(alloc, slot, reply) {
-        Some(CallAnswer::Delivered) => DONE,
-        Some(CallAnswer::Illegal) => ILLEGAL,
-        Some(CallAnswer::Unjudged) => NO_MEMORY,
+        Some(HandleVerdict::Legal) => DONE,
+        Some(HandleVerdict::Illegal) => ILLEGAL,
+        Some(HandleVerdict::Unjudged) => NO_MEMORY,
         None => UNFIT,
     }
 }
@@ -187,14 +186,14 @@ pub extern "C" fn selfcheck_publish(alloc: Global, slot: &mut Slot, reply: u64) 
 pub extern "C" fn selfcheck_judge(alloc: Global, slot: &mut Slot) -> u32
     // With `LEGAL` the slot's monitor has made a round, and the book at its cut has a legal order.
     ensures legal { result ≡ LEGAL →
-        Judges Judgement.Legal (handle_in slot.old) (handle_in slot.new) }
+        Judges HandleVerdict.Legal (handle_in slot.old) (handle_in slot.new) }
     // With `ILLEGAL` the slot's monitor has made a round, and the book at its cut has no legal
     // order and is its witness.
     ensures illegal { result ≡ ILLEGAL →
-        Judges Judgement.Illegal (handle_in slot.old) (handle_in slot.new) }
+        Judges HandleVerdict.Illegal (handle_in slot.old) (handle_in slot.new) }
     // With `NO_MEMORY` the slot's monitor has scanned once, judged nothing, and has no witness.
     ensures unjudged { result ≡ NO_MEMORY →
-        Judges Judgement.Unjudged (handle_in slot.old) (handle_in slot.new) }
+        Judges HandleVerdict.Unjudged (handle_in slot.old) (handle_in slot.new) }
     // The status is `UNFIT` exactly where the slot has no monitor, or one that has made an illegal
     // round.
     ensures unfit { (result ≡ UNFIT) ↔ ¬ IsMonitors MayJudge (handle_in slot.old) }
@@ -204,9 +203,9 @@ pub extern "C" fn selfcheck_judge(alloc: Global, slot: &mut Slot) -> u32
     ensures ends { (result ≡ LEGAL) ⊎ (result ≡ ILLEGAL) ⊎ (result ≡ NO_MEMORY) ⊎ (result ≡ UNFIT) }
 {
     match judge(alloc, slot) {
-        Some(Judgement::Legal) => LEGAL,
-        Some(Judgement::Illegal) => ILLEGAL,
-        Some(Judgement::Unjudged) => NO_MEMORY,
+        Some(HandleVerdict::Legal) => LEGAL,
+        Some(HandleVerdict::Illegal) => ILLEGAL,
+        Some(HandleVerdict::Unjudged) => NO_MEMORY,
         None => UNFIT,
     }
 }

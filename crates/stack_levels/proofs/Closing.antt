@@ -14,8 +14,8 @@ use Rattle.book_base.specs.Next.{next_call, raised}
 use Rattle.book_base.specs.Pruning.{HasOneOpen}
 use Rattle.search_hints.specs.Marks.{IsMarked, MarksSuffice}
 use Rattle.legal_orders.specs.Container.{Effect, Reading}
-use Rattle.container_pruning.specs.declared.reader.Role.{Role}
-use Rattle.container_pruning.specs.Deals.{deed_of}
+use Rattle.legal_orders.specs.declared.reader.Role.{Role}
+use Rattle.legal_orders.specs.Deals.{deed_of}
 use Rattle.legal_orders.specs.Calls.{IsNeverTaken}
 use Rattle.list_pruning.specs.HoldsLast.{IsRead}
 use Rattle.list_pruning.specs.LastFirst.{GivesLastFirst, HasTop}

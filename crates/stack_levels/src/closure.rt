@@ -17,7 +17,7 @@ ghost use Rattle.list_pruning.specs.Sights.{ListsValues};
 use crate::stack_book::{NextCallers, StackBook};
 use crate::table::{Beginning, Level, LevelTable, Node, NodeKey, raised};
 use book_base::{Call, MAX_CALLERS};
-use container_pruning::{Reader, Role};
+use legal_orders::{Reader, Role};
 use list_pruning::Top;
 use search_hints::has_one_open;
 

@@ -10,7 +10,7 @@ use crate::search::{LevelSearch, LevelsFound};
 use crate::stack_book::StackBook;
 use crate::table::LevelTable;
 use book_base::{Book, NoMemory, SeqObject};
-use container_pruning::Reader;
+use legal_orders::Reader;
 use list_pruning::sight_of_values;
 use order_check::check_order;
 use queue_pairs::{Table, places_of, refute_by_counts};

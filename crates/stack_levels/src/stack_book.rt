@@ -8,7 +8,7 @@ ghost use Rattle.list_pruning.specs.LastFirst.{GivesLastFirst, HasTop};
 ghost use Rattle.list_pruning.specs.Sights.{ListsValues};
 
 use book_base::{Book, Call, Cut};
-use container_pruning::{Reader, Role};
+use legal_orders::{Reader, Role};
 use list_pruning::{Top, is_read, narrow_by_top, value_taken};
 use search_hints::{MarkedCallers, Sight, all_next, cut_of, first_view, least_open};
 

@@ -1,3 +1,4 @@
+use crate::table::open_rows;
 use crate::two_calls::calls_on;
 use crate::{CallFindings, End, Turns};
 use book_base::NoMemory;
@@ -50,6 +51,18 @@ fn a_call_after_what_stands_is_judged_as_any_other(rt: HostRuntime) -> Result<()
     assert!(rt; first.is_delivered() && second.is_delivered());
     let (first, second) = found_on(&rt, rt.alloc(), Kind::Counter, Turns::AfterWhatStands)?;
     assert!(rt; is_illegal(&first) && is_illegal(&second));
+    Ok(())
+}
+
+// Whether the callers of a new table are idle.
+fn are_idle_at_first(alloc: Global) -> Result<bool, NoMemory> {
+    let (_rows, _bench, a, b, c) = open_rows(alloc)?;
+    Ok(a.idle() && b.idle() && c.idle())
+}
+
+#[test]
+fn new_callers_are_idle(rt: HostRuntime) -> Result<(), Fail> {
+    assert!(rt; are_idle_at_first(rt.alloc())?);
     Ok(())
 }
 

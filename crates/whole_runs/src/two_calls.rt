@@ -5,7 +5,7 @@ ghost use Rattle.whole_runs.specs.Seated.{IsAt, IsNew, IsThere, IsNewAt, IsFor, 
 
 use book_base::{Cut, NoMemory, OpWord, Place};
 use drv_wrapper::ObjectPass;
-use enforcer::{Gathered, Judged, Outcome, Unjudged, enforce, enforce_after};
+use enforcer::{CallVerdict, Gathered, Outcome, Unjudged, call_and_see, enforce, judge_seen};
 use frontier_check::{Guide, KeptOrder};
 use kind_search::SearchedKind;
 use row_table::{Bench, Caller, Rows, Steps};
@@ -106,34 +106,12 @@ fn found_of(outcome: Outcome, live: bool) -> CallFindings {
     }
 }
 
-// The findings of a call that was judged by a kept order, where `standing` is the order that is
-// kept after the judgement, if any.
-fn found_after(
-    alloc: Global,
-    judged: Judged,
-    standing: Option<KeptOrder>,
-    live: bool,
-) -> CallFindings {
-    match judged {
-        Judged::Delivered { reply, view, seen } => CallFindings {
-            end: End::Delivered(order_in(alloc, standing)),
-            live,
-            reply,
-            view: counts(&view),
-            seen: counts(&seen),
-        },
-        Judged::Illegal {
-            reply,
-            view,
-            seen,
-            book: _,
-        } => CallFindings {
-            end: End::Illegal,
-            live,
-            reply,
-            view: counts(&view),
-            seen: counts(&seen),
-        },
+// How a call ended that was judged by a kept order, where `standing` is the order that is kept after
+// the judgement, if any.
+fn end_after(alloc: Global, verdict: CallVerdict, standing: Option<KeptOrder>) -> End {
+    match verdict {
+        CallVerdict::Delivered => End::Delivered(order_in(alloc, standing)),
+        CallVerdict::Illegal(_) => End::Illegal,
     }
 }
 
@@ -263,33 +241,26 @@ fn call_after<M: Machine, L: Ledger>(
         unreachable!()
     };
     let mut standing = None;
-    let (caller, found) = match enforce_after(
+    let seen = call_and_see(caller, rows, op, object, &mut seat.pass, &mut seat.steps);
+    let (reply, view, cut) = (seen.reply(), seen.view(), seen.cut());
+    let (caller, end) = match judge_seen(
         alloc,
-        rows,
-        caller,
-        op,
         &SearchedKind { kind: Kind::Queue },
-        object,
-        &mut seat.pass,
+        rows,
+        seen,
         &mut seat.gathered,
         &mut standing,
         &mut seat.steps,
     ) {
-        Ok((caller, judged)) => {
-            let live = caller.live();
-            (caller, found_after(alloc, judged, standing, live))
-        }
-        Err(
-            Unjudged {
-                caller,
-                reply,
-                view,
-                seen,
-            },
-        ) => {
-            let live = caller.live();
-            (caller, unjudged(live, reply, &view, &seen))
-        }
+        Ok((caller, verdict)) => (caller, end_after(alloc, verdict, standing)),
+        Err(seen) => (seen.stop(), End::Unjudged),
+    };
+    let found = CallFindings {
+        end,
+        live: caller.live(),
+        reply,
+        view: counts(&view),
+        seen: counts(&cut),
     };
     match seat.caller.replace(caller) {
         None => found,

@@ -11,7 +11,7 @@ mod decisions;
 #[cfg(test)]
 mod faults;
 #[cfg(test)]
-mod found_pruning_rules;
+mod heads;
 #[cfg(test)]
 mod impossible_replies;
 #[cfg(test)]

@@ -1,4 +1,4 @@
-//! Worked runs that meet the premises of the laws of `world_books`; and one in which an error would
+//! Worked runs that meet the premises of the laws of `world_laws`; and one in which an error would
 //! be false if calls returned only once they have their views.
 
 ghost use Rattle.std.specs.Prelude.{◌≡◌, [], ◌∷◌, take, map};

@@ -3,8 +3,8 @@ ghost use Rattle.std.specs.Prelude.{◌<◌};
 use book_base::{BAD, NoMemory, OpWord};
 use crossbeam_queue::ArrayQueue;
 use drv_wrapper::{Announced, BlackBox};
-use hunts::{CountingPass, QueueCall};
-use seq_objects::{DONE, NONE, wrapping_value_reply};
+use hunts::CountingPass;
+use seq_objects::{DONE, NONE, QueueOperation, wrapping_value_reply};
 use std::alloc::Global;
 use std::sync::Wait;
 
@@ -18,12 +18,12 @@ pub(crate) struct BoundedQueue<R> {
 // The reply word of a bounded queue to an operation word. A put that finds the queue full gets
 // `BAD`, which a sequential queue gives to no put.
 pub(crate) fn reply_of<R: Wait>(rt: &R, items: &ArrayQueue<u32>, op: OpWord) -> u64 {
-    match QueueCall::from_word(op) {
-        Some(QueueCall::Enqueue(value)) => match items.push(rt, value) {
+    match QueueOperation::from_word(op) {
+        Some(QueueOperation::Enqueue(value)) => match items.push(rt, value) {
             Ok(()) => DONE,
             Err(_) => BAD,
         },
-        Some(QueueCall::Dequeue) => match items.pop(rt) {
+        Some(QueueOperation::Dequeue) => match items.pop(rt) {
             Some(value) => wrapping_value_reply(u64::from(value)),
             None => NONE,
         },

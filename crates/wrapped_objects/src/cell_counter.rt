@@ -1,11 +1,11 @@
 ghost use Rattle.seq_objects.specs.declared.kind.Kind.TheVariants.{Counter};
 ghost use Rattle.wrapped_objects.specs.Replies.{IsPossible};
 
-use book_base::{BAD, OpWord, SeqObject};
+use book_base::{BAD, OpWord};
 use crossbeam_utils::atomic::AtomicCell;
 use drv_wrapper::{Announced, BlackBox};
 use hunts::CountingPass;
-use seq_objects::{Kind, wrapping_value_reply};
+use seq_objects::{CounterOperation, wrapping_value_reply};
 
 /// A counter over crossbeam's `AtomicCell`, with the count 0 at first: an increment is one
 /// addition.
@@ -21,10 +21,12 @@ impl CellCounter {
         // The reply is one that a counter gives to the operation in some state.
         ensures { IsPossible Counter op result }
     {
-        if !Kind::Counter.known(op) {
-            return BAD;
+        match CounterOperation::from_word(op) {
+            Some(CounterOperation::Increment) => {
+                wrapping_value_reply(u64::from(self.count.fetch_add(1)))
+            }
+            None => BAD,
         }
-        wrapping_value_reply(u64::from(self.count.fetch_add(1)))
     }
 }
 

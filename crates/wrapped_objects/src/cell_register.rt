@@ -4,8 +4,8 @@ ghost use Rattle.wrapped_objects.specs.Replies.{IsPossible};
 use book_base::{BAD, OpWord};
 use crossbeam_utils::atomic::AtomicCell;
 use drv_wrapper::{Announced, BlackBox};
-use hunts::{CountingPass, RegisterCall};
-use seq_objects::{DONE, wrapping_value_reply};
+use hunts::CountingPass;
+use seq_objects::{DONE, RegisterOperation, wrapping_value_reply};
 
 /// A register over crossbeam's `AtomicCell`, which holds 0 at first: a write is one store, and a
 /// read one load.
@@ -21,12 +21,12 @@ impl CellRegister {
         // The reply is one that a register gives to the operation in some state.
         ensures { IsPossible Register op result }
     {
-        match RegisterCall::from_word(op) {
-            Some(RegisterCall::Write(value)) => {
+        match RegisterOperation::from_word(op) {
+            Some(RegisterOperation::Write(value)) => {
                 self.value.store(value);
                 DONE
             }
-            Some(RegisterCall::Read) => wrapping_value_reply(u64::from(self.value.load())),
+            Some(RegisterOperation::Read) => wrapping_value_reply(u64::from(self.value.load())),
             None => BAD,
         }
     }

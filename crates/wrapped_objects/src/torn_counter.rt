@@ -1,11 +1,11 @@
 ghost use Rattle.seq_objects.specs.declared.kind.Kind.TheVariants.{Counter};
 ghost use Rattle.wrapped_objects.specs.Replies.{IsPossible};
 
-use book_base::{BAD, OpWord, SeqObject};
+use book_base::{BAD, OpWord};
 use crossbeam_utils::atomic::AtomicCell;
 use drv_wrapper::{Announced, BlackBox};
 use hunts::CountingPass;
-use seq_objects::{Kind, wrapping_value_reply};
+use seq_objects::{CounterOperation, wrapping_value_reply};
 
 /// A counter that uses an atomic cell wrongly, with the count 0 at first: an increment is a load,
 /// and then a store of one more. So some of several increments that overlap may be lost.
@@ -21,12 +21,14 @@ impl TornCounter {
         // The reply is one that a counter gives to the operation in some state.
         ensures { IsPossible Counter op result }
     {
-        if !Kind::Counter.known(op) {
-            return BAD;
+        match CounterOperation::from_word(op) {
+            Some(CounterOperation::Increment) => {
+                let found = self.count.load();
+                self.count.store(found.wrapping_add(1));
+                wrapping_value_reply(u64::from(found))
+            }
+            None => BAD,
         }
-        let found = self.count.load();
-        self.count.store(found.wrapping_add(1));
-        wrapping_value_reply(u64::from(found))
     }
 }
 

@@ -1,5 +1,5 @@
 use Rattle.std.proofs.Common.{◌∙◌, sym, ap}
-use Rattle.container_pruning.specs.Deals.{deed_of, deal_by_deed, deal_by_operation}
+use Rattle.legal_orders.specs.Deals.{deed_of, deal_by_deed, deal_by_operation}
 use Rattle.broken_rules.specs.Deeds.{reading_of}
 use Rattle.broken_rules.proofs.Acts.{same_takes}
 use Rattle.broken_rules.proofs.act.act_by_reading.Goals as goal

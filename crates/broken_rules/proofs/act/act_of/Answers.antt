@@ -1,6 +1,6 @@
 use Rattle.std.proofs.Common.{◌∙◌, sym}
 use Rattle.std.proofs.lemmas.Bool.{cond-true, cond-false}
-use Rattle.container_pruning.specs.Deals.{deal_of}
+use Rattle.legal_orders.specs.Deals.{deal_of}
 use Rattle.broken_rules.specs.Deeds.{is_keyed, reading_of, deal_by_key}
 use Rattle.broken_rules.proofs.act.act_of.Goals as goal
 

@@ -1,6 +1,6 @@
 use Rattle.std.proofs.Common.{◌≡◌, ◌∙◌, sym, ap, subst}
 use Rattle.std.proofs.lemmas.Bool.{false≢true, both_ways, iff_false}
-use Rattle.container_pruning.specs.declared.deal.Deal.{Deal}
+use Rattle.legal_orders.specs.Deals.{Deal}
 use Rattle.broken_rules.specs.declared.demand.Demand.{Demand}
 use Rattle.broken_rules.specs.declared.rule.Relation.{Relation}
 use Rattle.broken_rules.specs.Deeds.{did, deal_of_act}

@@ -2,11 +2,10 @@ use Rattle.std.proofs.Common.{◌∙◌, ap}
 use Rattle.world_core.specs.Local.{Local}
 use Rattle.world_core.specs.Event.{is_unstaged}
 use Rattle.enforcer.specs.Recorded.{is_announcing}
-use Rattle.enforcer.specs.States.{cut_seen}
+use Rattle.enforcer.specs.States.{caller_seen, cut_seen, record_seen}
 use Rattle.enforcer.proofs.Standing.{announcing_is, unstaged_is}
 use Rattle.call_handles.specs.Callers.{every_reply}
-use Rattle.call_handles.specs.Ends.{record_seen}
-use Rattle.call_handles.proofs.Published.{deferred}
+use Rattle.call_handles.proofs.Published.{same_stays}
 use Rattle.call_handles.proofs.publishing.publish_counted.Goals as goal
 
 pub returns-clause-published : goal.returns-clause-published
@@ -14,8 +13,9 @@ returns-clause-published g c =
     let seen = c.publish_reply.result in (
       record_seen seen,
       cut_seen seen,
-      deferred every_reply c.args.rows.now c.args.call c.args.reply seen
-          c.publish_reply.ensures.published c.defer.result c.defer.ensures.caller,
+      same_stays every_reply c.args.rows.now c.args.call c.args.reply (caller_seen seen)
+          c.defer.result (record_seen seen) (cut_seen seen) c.defer.ensures.caller
+          c.publish_reply.ensures.published,
     )
 
 pub returns-clause-free : goal.returns-clause-free

@@ -4,15 +4,15 @@ use Rattle.call_handles.proofs.publishing.publish_reply.Goals as goal
 
 pub view-viewed-requires-clause-rows : goal.view-viewed-requires-clause-rows
 view-viewed-requires-clause-rows g c =
-    c.hand_in-answered.ensures.caller.rows _ c.args.rows.now c.requires.rows
+    c.answer-answered.ensures.caller.rows _ c.args.rows.now c.requires.rows
 
 pub returns : goal.returns
 returns g c =
     let course : Course every_reply c.args.rows.now c.args.announced c.args.reply
-    c.hand_in-answered.result c.view-viewed.result c.publish-published.result c.seen.result =
+    c.answer-answered.result c.view-viewed.result c.publish-published.result c.seen.result =
     record {
-      same = c.hand_in-answered.ensures.caller;
-      handed = c.hand_in-answered.ensures.reply;
+      same = c.answer-answered.ensures.caller;
+      handed = c.answer-answered.ensures.reply;
       viewed = c.view-viewed.ensures.caller;
       view_reply = c.view-viewed.ensures.call.1;
       view_wide = c.view-viewed.ensures.wide;
@@ -31,6 +31,6 @@ returns g c =
     } in
     record {
       published = is_published every_reply c.args.rows.now c.args.announced c.args.reply
-          c.hand_in-answered.result c.view-viewed.result c.publish-published.result
+          c.answer-answered.result c.view-viewed.result c.publish-published.result
           c.seen.result course;
     }

@@ -4,8 +4,8 @@ use Rattle.book_base.specs.Order.{IsLegalOrder}
 use Rattle.frontier_check.proofs.Following.{prefix-from_put}
 use Rattle.frontier_check.proofs.verdict.rest_after.Goals as goal
 
-pub places_after-requires-clause-prefix : goal.places_after-requires-clause-prefix
-places_after-requires-clause-prefix g c =
+pub places_after-requires : goal.places_after-requires
+places_after-requires g c =
     let object = c.args.object.now in
     prefix-from_put (g.S.SeqObject.spec object) c.args.book.now
     c.args.prefix.now c.requires (c.leaves_open.ensures c.if-not-leaves_open.false)

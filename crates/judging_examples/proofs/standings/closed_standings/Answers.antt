@@ -2,8 +2,8 @@ use Rattle.std.proofs.Common.{◌≡◌, ℕ, zero, suc, ◌<◌, ◌≤◌, [],
 use Rattle.std.proofs.lemmas.Option.{same_Some, none-some}
 use Rattle.book_base.specs.declared.call.Record.{Record}
 use Rattle.book_base.specs.Book.{record_of}
-use Rattle.container_pruning.specs.declared.deal.Deal.TheVariants as deals
-use Rattle.container_pruning.specs.Deals.{deal_of}
+use Rattle.legal_orders.specs.Deals as deals
+use Rattle.legal_orders.specs.Deals.{deal_of}
 use Rattle.queue_pairs.specs.Moments.{moment_of}
 use Rattle.queue_pairs.specs.Pairs.{Paired, Pair, Pairs, IsTake, MayPair, IsWhole, after, none_paired}
 use Rattle.queue_refutation.specs.Closed.{IsClosedAt}

@@ -1,7 +1,7 @@
 use Rattle.std.proofs.Common.{◌≡◌, None}
 use Rattle.row_table.specs.Callers.{who_of}
 use Rattle.monitor.specs.Rounds.{HasMadeRounds}
-use Rattle.enforcer.specs.Lines.{OrderStandsIn}
+use Rattle.enforcer.specs.Verdicts.{OrderStandsIn}
 use Rattle.monitor.specs.Monitors.{caller_of, local_of, kept_by}
 use Rattle.monitor.specs.Watching.{IsFresh}
 use Rattle.monitor.proofs.watch.make_rounds.Given as goal

@@ -1,4 +1,4 @@
-use Rattle.std.proofs.Common.{◌∙◌, ℕ, List, length, sym, ap, subst, arith}
+use Rattle.std.proofs.Common.{◌∙◌, ℕ, List, length, sym, ap, subst}
 use Rattle.book_base.specs.State.{Contents}
 use Rattle.book_base.specs.Pruning.{IsLeast}
 use Rattle.frontier_check.proofs.Following.{stands-fit}

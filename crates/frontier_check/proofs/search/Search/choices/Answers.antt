@@ -1,13 +1,12 @@
 use Rattle.std.proofs.Common.{◌≡◌, ◌∙◌, ℕ, List, [], ◌∷◌, ◌++◌, length, sym, ap, subst, arith}
 use Rattle.book_base.specs.declared.call.Place.{Place}
-use Rattle.book_base.specs.Reaching.{IsInfeasible}
 use Rattle.book_base.specs.Next.{next_call, MayComeNext}
 use Rattle.search_hints.specs.Marks.{IsMarked, MarksSuffice}
 use Rattle.frontier_check.specs.declared.choice.Choice.{Choice}
 use Rattle.frontier_check.specs.Search.{AreChosen, IsOpen, MayGrow, places_of}
-use Rattle.frontier_check.proofs.Choosing.{chosen-next, unmarked-skip, infeasible-skip, open-from_chosen, open-from_once}
+use Rattle.frontier_check.proofs.Choosing.{chosen-next, unmarked-skip, open-from_chosen, open-from_once}
 use Rattle.frontier_check.proofs.search.Search.choices.Goals as goal
-use Rattle.frontier_check.proofs.search.Search.choices.Goals.{then-has+then-not-is_infeasible+in_ok-consider, else-has, else-has-via-then-has+else-not-is_infeasible, else-has-via-else-has}
+use Rattle.frontier_check.proofs.search.Search.choices.Goals.{then-has+in_ok-consider, else-has}
 
 pub returns-in-Some-clause-open : goal.returns-in-Some-clause-open
 returns-in-Some-clause-open g c =
@@ -47,7 +46,7 @@ loop-caller-preserved g c =
     let before = places_of c.loop-caller.choices.items in
     let i = c.loop-caller.invariant in
     elim c.if-has.branch [
-      | then-has+then-not-is_infeasible+in_ok-consider w ↦ record {
+      | then-has+in_ok-consider w ↦ record {
         room = rw w.spare-is (w.consider.ensures.room ∙ i.room);
         chosen = rw w.choices-is (chosen-next book spec.next cut list marks caller before
             (places_of w.consider.new.choices.items) i.chosen w.in_ok-consider.ensures.more);
@@ -55,19 +54,9 @@ loop-caller-preserved g c =
       }
       | else-has w ↦ record {
         room = rw w.spare-is i.room;
-        chosen = rw w.choices-is (elim w.else-has.branch [
-          | else-has-via-then-has+else-not-is_infeasible v ↦
-              let infeasible : IsInfeasible spec book cut list (next_call cut caller) =
-              subst (λ (counts : List ℕ). IsInfeasible spec book counts list
-              (next_call counts caller)) c.cut_of-cut.ensures
-              (v.is_infeasible.ensures v.if-not-is_infeasible.false) in
-              infeasible-skip spec book cut list marks before caller c.requires.reached
-              i.chosen infeasible
-          | else-has-via-else-has v ↦
-              unmarked-skip book spec.next cut list marks before caller i.chosen
-              (λ (marked : IsMarked marks caller).
-              absurd (let yes = c.has.ensures.1 marked in let untrue = v.if-has.false in cc))
-        ]);
+        chosen = rw w.choices-is (unmarked-skip book spec.next cut list marks before caller i.chosen
+            (λ (marked : IsMarked marks caller).
+            absurd (let yes = c.has.ensures.1 marked in let untrue = w.if-has.false in cc)));
         few = rw w.choices-is (omega (arith, i.few));
       }
     ]

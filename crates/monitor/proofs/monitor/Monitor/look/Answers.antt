@@ -4,7 +4,7 @@ use Rattle.row_table.specs.Callers.{shape_of, who_of, local_with}
 use Rattle.row_gather.specs.declared.gathered.Gathered.{Gathered}
 use Rattle.row_gather.specs.Gathered.{IsGatheredBy}
 use Rattle.drv_wrapper.proofs.Locals.{announcing_is_free}
-use Rattle.enforcer.specs.Lines.{IsGatheredWithin}
+use Rattle.enforcer.specs.Verdicts.{IsGatheredWithin}
 use Rattle.enforcer.proofs.Grown.{stands_on}
 use Rattle.monitor.proofs.Resting.{given_once, kept_once, rests_scanned, rests_peeked, ok_gathered, ok_ticks}
 use Rattle.monitor.proofs.monitor.Monitor.look.Goals as goal

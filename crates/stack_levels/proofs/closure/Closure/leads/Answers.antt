@@ -1,6 +1,6 @@
 use Rattle.std.proofs.Common.{ℕ, List, length, get_or, ap, arith}
 use Rattle.std.proofs.lemmas.List.{get_or-take}
-use Rattle.container_pruning.specs.declared.reader.Role.TheVariants as roles
+use Rattle.legal_orders.specs.declared.reader.Role.TheVariants as roles
 use Rattle.stack_levels.specs.Tables.{layer_of, layers_of, nodes_of}
 use Rattle.stack_levels.proofs.Closing.{call_leads}
 use Rattle.stack_levels.proofs.closure.Closure.leads.Goals as goal

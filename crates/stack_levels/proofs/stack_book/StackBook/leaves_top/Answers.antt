@@ -1,5 +1,5 @@
 use Rattle.std.proofs.Common.{◌∙◌, sym, ap, inl, inr, arith}
-use Rattle.container_pruning.specs.Deals.{deed_of}
+use Rattle.legal_orders.specs.Deals.{deed_of}
 use Rattle.stack_levels.proofs.stack_book.StackBook.leaves_top.Goals as goal
 
 pub returns-in-Take : goal.returns-in-Take

@@ -1,6 +1,0 @@
-use Rattle.book_base.specs.Book.{Precedes}
-use Rattle.container_pruning.specs.Pasts.{IsPast}
-use Rattle.container_pruning.proofs.past.Past.pass_preceding.Given as goal
-
-abbrev pub invariant-loop-caller : goal.invariant-loop-caller
-invariant-loop-caller l = IsPast (λ a. Precedes l.book a l.call) l.book l.links l.self
