@@ -16,7 +16,7 @@ use Rattle.row_table.specs.Callers.{shape_of, locals_on}
 use Rattle.core_objects.specs.CoreObjects.{shape_with, AreOpenedWith, ArePassesFor}
 use Rattle.run_report.specs.Returns.{IsBackOn}
 use Rattle.run_report.specs.Starts.{run_allotments}
-use Rattle.run_report.specs.Reporting.{outside_shape, IsReportOf}
+use Rattle.run_report.specs.Reporting.{IsReportOf}
 use Rattle.run_report.proofs.Workers.{the_local}
 use Rattle.test_objects.specs.declared.behaviour.Behaviour.{Behaviour}
 use Rattle.byte_streams.specs.declared.status.Status.{Status}
@@ -27,7 +27,8 @@ use Rattle.core_runs.specs.Inside.{fits_inside}
 use Rattle.core_runs.specs.LoggedReports.{phases_in, calls_of_lines}
 use Rattle.named_runs.specs.NamedObjects.{IsOfBehaviour}
 use Rattle.named_runs.specs.Worlds.{inside_of, world_of}
-use Rattle.named_runs.specs.BehaviourRuns.{IsNamedReport, IsNamedRunReport, IsInsideReport}
+use Rattle.named_runs.specs.Shown.{Ended, Sees, IsShownReport}
+use Rattle.named_runs.specs.BehaviourRuns.{IsInsideReport, IsSeenRunReport, IsSeenOutside}
 use Rattle.named_runs.proofs.FreshRuns.{RunEnds-weaker}
 
 module _ {P : Type 0} (r : Rows P) (n cap : ℕ) (callers : r.callers ≡ n) (most : r.cap ≡ cap) where
@@ -53,19 +54,22 @@ module _ {P : Type 0} (r : Rows P) (n cap : ℕ) (callers : r.callers ≡ n) (mo
   pub inside_report : {T : Type 0} (meaning : P → ℕ → ℕ → Meaning) (program : P)
       → r.program ≡ program → (object : SeqSpec)
       (fits : T → ℕ → ℕ → ℕ → List Object_step → Type 0) (b : Bench P) (passes : List T)
-      (plan : Plan) → length passes ≡ length plan.operations
+      (plan : Plan) (shown shown' : Option (List Ended))
+      → Sees shown (record { shape = shape_of meaning r; locals = locals_on b }) shown'
+      → length passes ≡ length plan.operations
       → ((i : ℕ) → i < length plan.operations → IsBackOn meaning r (fits_inside fits)
       (λ pass. None) plan.operations (run_allotments plan) b passes i) → (findings : Findings)
       → IsCoreReport object meaning r b plan (run_allotments plan) findings
-      → IsInsideReport object (shape_with (meaning program) n cap) fits passes plan findings
-  inside_report meaning program own object fits b passes plan count back findings is =
+      → IsInsideReport object (shape_with (meaning program) n cap) fits passes plan shown shown'
+      findings
+  inside_report meaning program own object fits b passes plan shown shown' seen count back findings
+      is =
       let same : shape_of meaning r ≡ shape_with (meaning program) n cap = λ i.
       record { callers = callers i; cap = most i; program = meaning (own i) (callers i) (most i) }
       in
-      subst (λ (s : Shape). IsInsideReport object s fits passes plan findings) same
+      subst (λ (s : Shape). IsInsideReport object s fits passes plan shown shown' findings) same
       (record {
-        locals = locals_on b;
-        report = is.report;
+        of = record { locals = locals_on b; report = is.report; seen = seen };
         no_error = is.no_error;
         fit = λ i pass there.
             let on = back i (omega (arith, count, slice_get_within passes i pass there)) in
@@ -81,41 +85,60 @@ module _ {P : Type 0} (r : Rows P) (n cap : ℕ) (callers : r.callers ≡ n) (mo
 -- kind
 pub named_inside : {T : Type 0} (behaviour known : Behaviour) → behaviour ≡ known → (plan : Plan)
     (kind : Kind) → kind ≡ plan.kind → (fits : T → ℕ → ℕ → ℕ → List Object_step → Type 0)
-    (passes : List T) → ((locals : List Local) (findings : Findings) → IsReportOf (kind_spec kind)
+    (passes : List T) (shown shown' : Option (List Ended))
+    → ((locals : List Local) (findings : Findings) → IsReportOf (kind_spec kind)
     (world_of known kind (length plan.operations)) locals plan (run_allotments plan) findings
     → IsOfBehaviour known kind (length findings.lines) (phases_in (run_allotments plan) findings)
     (calls_of_lines findings)) → (findings : Findings) → IsInsideReport (kind_spec kind)
-    (world_of known kind (length plan.operations)) fits passes plan findings
-    → IsNamedRunReport behaviour plan findings
-named_inside behaviour known is plan kind same fits passes answered findings of = record {
-  named = record {
-    report = record { kind = of.report.kind; lawful = rw (is, ← same) of.report.lawful };
-    object = rw (is, ← same) (answered of.locals findings of.report);
-  };
-  no_error = λ some. of.no_error;
-}
+    (world_of known kind (length plan.operations)) fits passes plan shown shown' findings
+    → IsSeenRunReport behaviour plan shown shown' findings
+named_inside behaviour known is plan kind same fits passes shown shown' answered findings inside =
+    let IsSeenOf : Behaviour → Kind → Type 0 = λ b k. IsShownReport (kind_spec k)
+    (world_of b k (length plan.operations)) plan (run_allotments plan) shown shown' findings in
+    record {
+      named = record {
+        named = record {
+          report = record {
+            kind = inside.of.report.kind;
+            lawful = rw (is, ← same) inside.of.report.lawful;
+          };
+          object = rw (is, ← same) (answered inside.of.locals findings inside.of.report);
+        };
+        no_error = λ some. inside.no_error;
+      };
+      of = subst (λ (k : Kind). IsSeenOf behaviour k) same
+          (subst (λ (b : Behaviour). IsSeenOf b kind) (sym is) inside.of);
+    }
 
 -- what is written of a run over an object inside the world is written of a run of its behaviour
 pub inside_ends : {T : Type 0} (behaviour known : Behaviour) → behaviour ≡ known → (plan : Plan)
     (kind : Kind) → kind ≡ plan.kind → (fits : T → ℕ → ℕ → ℕ → List Object_step → Type 0)
-    (passes : List T) (form : Form) (result : Status) (taken taken' : Option (List ℕ))
+    (passes : List T) (shown shown' : Option (List Ended)) (form : Form) (result : Status)
+    (taken taken' : Option (List ℕ))
     → ((locals : List Local) (findings : Findings) → IsReportOf (kind_spec kind)
     (world_of known kind (length plan.operations)) locals plan (run_allotments plan) findings
     → IsOfBehaviour known kind (length findings.lines) (phases_in (run_allotments plan) findings)
     (calls_of_lines findings)) → RunEnds (kind_spec kind) (IsInsideReport (kind_spec kind)
-    (world_of known kind (length plan.operations)) fits passes plan) form result taken taken'
-    → RunEnds (kind_spec plan.kind) (IsNamedRunReport behaviour plan) form result taken taken'
-inside_ends behaviour known is plan kind same fits passes form result taken taken' answered ends =
+    (world_of known kind (length plan.operations)) fits passes plan shown shown') form result taken
+    taken' → RunEnds (kind_spec plan.kind) (IsSeenRunReport behaviour plan shown shown') form result
+    taken taken'
+inside_ends behaviour known is plan kind same fits passes shown shown' form result taken taken'
+    answered ends =
     subst (λ (k : Kind).
-    RunEnds (kind_spec k) (IsNamedRunReport behaviour plan) form result taken taken') same
+    RunEnds (kind_spec k) (IsSeenRunReport behaviour plan shown shown') form result taken taken')
+    same
     (RunEnds-weaker _ _ _ _ _ _ _
-    (named_inside behaviour known is plan kind same fits passes answered) ends)
+    (named_inside behaviour known is plan kind same fits passes shown shown' answered) ends)
 
 -- a report of a behaviour whose object is outside the world is one of a run of this behaviour
-pub named_outside : (behaviour : Behaviour) (plan : Plan) → inside_of behaviour plan.kind ≡ None
-    → (findings : Findings) → IsNamedReport (outside_shape (length plan.operations)) behaviour plan
-    (run_allotments plan) findings → IsNamedRunReport behaviour plan findings
-named_outside behaviour plan none findings report = record {
-  named = rw none report;
-  no_error = λ some. absurd (true≢false (sym some ∙ ap is_some none));
+pub named_outside : (behaviour : Behaviour) (plan : Plan) (shown shown' : Option (List Ended))
+    → inside_of behaviour plan.kind ≡ None → (findings : Findings)
+    → IsSeenOutside behaviour plan (run_allotments plan) shown shown' findings
+    → IsSeenRunReport behaviour plan shown shown' findings
+named_outside behaviour plan shown shown' none findings is = record {
+  named = record {
+    named = rw none is.named;
+    no_error = λ some. absurd (true≢false (sym some ∙ ap is_some none));
+  };
+  of = rw none is.of;
 }

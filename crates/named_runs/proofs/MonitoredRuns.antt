@@ -17,6 +17,7 @@ use Rattle.byte_streams.proofs.WritingLemmas.{EndsWriting-weaker}
 use Rattle.monitor.specs.Monitoring.{HaveMadeAll, IsToldAll}
 use Rattle.monitor.specs.MonitorTexts.{IsMonitorText}
 use Rattle.run_report.specs.Reporting.{outside_shape}
+use Rattle.named_runs.specs.Shown.{Ended, Sees}
 use Rattle.named_runs.specs.Monitored.{AreToldMonitored, IsMonitorOutput}
 
 -- what holds of a status and a text, unless memory was wanted, holds of what is written
@@ -58,19 +59,25 @@ module _ {P T : Type 0} (meaning : P → ℕ → ℕ → Meaning) (r : Rows P) (
 
   -- what is written of a bench that was opened for the run is written of locals of one reachable
   -- world
-  pub told_ends : (result : Status) (taken taken' : Option (List ℕ))
+  pub told_ends : (shown shown' : Option (List Ended))
+      → Sees shown (record { shape = shape_of meaning r; locals = locals_on b }) shown'
+      → (result : Status) (taken taken' : Option (List ℕ))
       → (¬ (result ≡ NoMemory) → HaveMadeAll plan (locals_on b))
       → (¬ (result ≡ NoMemory) → AreInOrder (IsToldAll made told plan (locals_on b)) passes)
       → EndsWriting (IsMonitorText plan.kind (locals_on b)) result taken taken' → EndsWriting
-      (IsMonitorOutput (AreToldMonitored told passes plan) plan.kind) result taken taken'
-  told_ends result taken taken' all tells ends =
+      (IsMonitorOutput (AreToldMonitored told passes plan shown shown') plan.kind) result taken
+      taken'
+  told_ends shown shown' seen result taken taken' all tells ends =
       ends_where (IsMonitorText plan.kind (locals_on b))
-      (IsMonitorOutput (AreToldMonitored told passes plan) plan.kind) result taken taken'
+      (IsMonitorOutput (AreToldMonitored told passes plan shown shown') plan.kind) result taken
+      taken'
       (λ some status text output. (
         locals_on b,
         record {
           monitored = record { together = together; made = all some };
           told_in = λ i pass there. (tells some i pass there).told_is;
+          seen = subst (λ (s : Shape).
+              Sees shown (record { shape = s; locals = locals_on b }) shown') shape seen;
         },
         output,
       ))

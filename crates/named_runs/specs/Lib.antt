@@ -2,6 +2,7 @@ pub mod Certificates
 pub mod CertificateLaws
 pub mod Running
 pub mod Runs
+pub mod Shown
 pub mod BehaviourRuns
 pub mod NamedObjects
 pub mod Worlds

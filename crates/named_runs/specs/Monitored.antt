@@ -10,6 +10,7 @@ use Rattle.run_report.specs.Starts.{run_allotments}
 use Rattle.monitor.specs.Monitoring.{HaveMadeAll}
 use Rattle.monitor.specs.MonitorTexts.{IsMonitorText}
 use Rattle.run_report.specs.Reporting.{outside_shape}
+use Rattle.named_runs.specs.Shown.{Ended, Sees}
 use Rattle.named_runs.specs.NamedObjects.{TellOwnCalls, IsOfBehaviour}
 
 -- How many phases caller `i` of a plan makes in a run; 0 for the monitors, which come after the
@@ -28,12 +29,19 @@ pub record AreMonitored (plan : Plan) (locals : List Local) : Type 0 where
   pub together : AreTogether (outside_shape (length plan.operations + 2)) locals
   pub made : HaveMadeAll plan locals
 
--- These locals are those of a monitored run's callers. The told list of each pass, where it has
--- one, is of the calls of the pass's caller; the passes are in the order of the plan's callers.
+-- The table of a monitored run of a plan, whose callers have these locals.
+abbrev pub monitored_table : Plan → List Local → Ended
+monitored_table plan locals =
+    record { shape = outside_shape (length plan.operations + 2); locals = locals }
+
+-- These locals are those of a monitored run's callers, on the one table that an onlooker was shown
+-- between `shown` and `shown'`. The told list of each pass, where it has one, is of the calls of
+-- the pass's caller; the passes are in the order of the plan's callers.
 pub record AreToldMonitored {T : Type 0} (told : T → Option (List (ℕ × ℕ))) (passes : List T)
-    (plan : Plan) (locals : List Local) : Type 0 where
+    (plan : Plan) (shown shown' : Option (List Ended)) (locals : List Local) : Type 0 where
   pub monitored : AreMonitored plan locals
   pub told_in : TellOwnCalls told (phases_in plan) (calls_at locals) passes
+  pub seen : Sees shown (monitored_table plan locals) shown'
 
 -- These locals are those of a monitored run's callers, and the object of a behaviour answered the
 -- calls of the plan's callers. The monitors have made no call.
@@ -42,6 +50,13 @@ pub record AreNamedMonitored (behaviour : Behaviour) (plan : Plan)
   pub monitored : AreMonitored plan locals
   pub object : IsOfBehaviour behaviour plan.kind (length plan.operations) (phases_in plan)
       (calls_at locals)
+
+-- These locals are those of a monitored run's callers over the object of a behaviour, on the one
+-- table that an onlooker was shown between `shown` and `shown'`.
+pub record AreSeenMonitored (behaviour : Behaviour) (plan : Plan)
+    (shown shown' : Option (List Ended)) (locals : List Local) : Type 0 where
+  pub named : AreNamedMonitored behaviour plan locals
+  pub seen : Sees shown (monitored_table plan locals) shown'
 
 -- The output of a monitored run that ends with some locals of which `Are` is true: a status and a
 -- text that are right for the records that the callers with these locals have published.

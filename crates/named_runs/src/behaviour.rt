@@ -6,15 +6,14 @@ ghost use Rattle.seq_objects.specs.Objects.{kind_spec};
 ghost use Rattle.byte_streams.specs.Fault.{LeavesSink};
 ghost use Rattle.byte_streams.specs.Writing.{EndsWriting};
 ghost use Rattle.named_runs.specs.Runs.{RunEnds};
-ghost use Rattle.run_report.specs.Starts.{run_allotments};
-ghost use Rattle.run_report.specs.Reporting.{outside_shape};
+ghost use Rattle.run_report.specs.Starts.{run_allotments, replay_allotments};
 ghost use Rattle.named_runs.specs.Worlds.{inside_of};
-ghost use Rattle.named_runs.specs.BehaviourRuns.{IsNamedReport, IsNamedReplayReport, IsNamedRunReport};
-ghost use Rattle.named_runs.specs.Monitored.{AreNamedMonitored, IsMonitorOutput};
+ghost use Rattle.named_runs.specs.BehaviourRuns.{IsSeenOutside, IsSeenRunReport};
+ghost use Rattle.named_runs.specs.Monitored.{AreSeenMonitored, IsMonitorOutput};
 
-use crate::Form;
 use crate::inside_run::run_inside;
 use crate::named::{monitor_named, replay_named, run_named};
+use crate::{Form, Onlooker};
 use byte_streams::{Sink, Status};
 use client_scripts::Script;
 use seq_objects::Kind;
@@ -42,22 +41,23 @@ macro_rules! over_behaviour {
 }
 
 // Runs a script over the object of a behaviour, as an object outside the world.
-fn run_outside<R: Threads + Sync, K: Sink>(
+fn run_outside<R: Threads + Sync, W: Onlooker, K: Sink>(
     rt: &R,
     alloc: Global,
     behaviour: Behaviour,
     script: &Script,
     form: Form,
+    watch: &mut W,
     sink: &mut K,
 ) -> Status
     ensures ends { RunEnds (kind_spec script.now.kind)
-        (IsNamedReport (outside_shape (length script.now.operations)) behaviour script.now
-        (run_allotments script.now)) form result (K.taken sink.old) (K.taken sink.new) }
+        (IsSeenOutside behaviour script.now (run_allotments script.now)
+        (W.shown watch.old) (W.shown watch.new)) form result (K.taken sink.old) (K.taken sink.new) }
     ensures faults { LeavesSink K.faults result sink.old sink.new }
 {
     over_behaviour!(
         behaviour,
-        run_named::<R, K>(rt, alloc, behaviour, script, form, sink)
+        run_named::<R, W, K>(rt, alloc, behaviour, script, form, watch, sink)
     )
 }
 
@@ -69,19 +69,21 @@ fn run_outside<R: Threads + Sync, K: Sink>(
 /// `cell` for a register's script are inside the world: a run over one of them has no error line.
 /// In every other case the object is outside the world. The table of rows and the object are opened
 /// for the script's callers with the greatest cap, and closed after the run.
-pub fn run_behaviour<R: Threads + Sync, K: Sink>(
+pub fn run_behaviour<R: Threads + Sync, W: Onlooker, K: Sink>(
     rt: &R,
     alloc: Global,
     behaviour: Behaviour,
     script: &Script,
     form: Form,
+    watch: &mut W,
     sink: &mut K,
 ) -> Status
-    // The returned status and the text written are those of a lawful report, whose calls the object
-    // of the behaviour answered. After a failed write only a part of the text is written, and
-    // without memory nothing is.
+    // The returned status and the text written are those of a lawful report of the one table that
+    // the onlooker was shown in this call, and the object of the behaviour answered its calls.
+    // After a failed write only a part of the text is written, and without memory nothing is.
     ensures ends { RunEnds (kind_spec script.now.kind)
-        (IsNamedRunReport behaviour script.now) form result (K.taken sink.old) (K.taken sink.new) }
+        (IsSeenRunReport behaviour script.now (W.shown watch.old) (W.shown watch.new)) form
+        result (K.taken sink.old) (K.taken sink.new) }
 
     // Over an object inside the world the status is `Fine`, `WriteFault` or `NoMemory`.
     ensures fine { IsSome (inside_of behaviour script.now.kind)
@@ -91,9 +93,9 @@ pub fn run_behaviour<R: Threads + Sync, K: Sink>(
     // status the count stayed as it was. With `NoMemory` the whole sink stayed as it was.
     ensures faults { LeavesSink K.faults result sink.old sink.new }
 {
-    match run_inside(rt, alloc, behaviour, script, form, sink) {
+    match run_inside(rt, alloc, behaviour, script, form, watch, sink) {
         Some(status) => status,
-        None => run_outside(rt, alloc, behaviour, script, form, sink),
+        None => run_outside(rt, alloc, behaviour, script, form, watch, sink),
     }
 }
 
@@ -102,18 +104,20 @@ pub fn run_behaviour<R: Threads + Sync, K: Sink>(
 ///
 /// The table of rows and the object are opened for the script's callers with the greatest cap, and
 /// closed after the replay.
-pub fn replay_behaviour<K: Sink>(
+pub fn replay_behaviour<W: Onlooker, K: Sink>(
     alloc: Global,
     behaviour: Behaviour,
     script: &Script,
     form: Form,
+    watch: &mut W,
     sink: &mut K,
 ) -> Status
-    // The returned status and the text written are those of a lawful report, whose calls the object
-    // of the behaviour answered. After a failed write only a part of the text is written, and
-    // without memory nothing is.
-    ensures ends { RunEnds (kind_spec script.now.kind) (IsNamedReplayReport behaviour script.now)
-        form result (K.taken sink.old) (K.taken sink.new) }
+    // The returned status and the text written are those of a lawful report of the one table that
+    // the onlooker was shown in this call, and the object of the behaviour answered its calls.
+    // After a failed write only a part of the text is written, and without memory nothing is.
+    ensures ends { RunEnds (kind_spec script.now.kind)
+        (IsSeenOutside behaviour script.now (replay_allotments script.now)
+        (W.shown watch.old) (W.shown watch.new)) form result (K.taken sink.old) (K.taken sink.new) }
 
     // With the status `WriteFault` the sink's count of faults rose in this call; with any other
     // status the count stayed as it was. With `NoMemory` the whole sink stayed as it was.
@@ -121,7 +125,7 @@ pub fn replay_behaviour<K: Sink>(
 {
     over_behaviour!(
         behaviour,
-        replay_named::<K>(alloc, behaviour, script, form, sink)
+        replay_named::<W, K>(alloc, behaviour, script, form, watch, sink)
     )
 }
 
@@ -131,21 +135,24 @@ pub fn replay_behaviour<K: Sink>(
 ///
 /// The table of rows is opened for two callers more than the script has, and the object for the
 /// script's, with the greatest cap; both are closed after the run.
-pub fn monitor_behaviour<R: Threads + Sync, K: Sink>(
+pub fn monitor_behaviour<R: Threads + Sync, W: Onlooker, K: Sink>(
     rt: &R,
     alloc: Global,
     behaviour: Behaviour,
     script: &Script,
+    watch: &mut W,
     sink: &mut K,
 ) -> Status
     // A table can have two callers more than the script has.
     requires few { length script.now.operations + 2 ≤ MAX_CALLERS }
 
-    // The returned status and the text written are right for the records of callers whose calls the
-    // object of the behaviour answered. After a failed write only a part of the text is written,
-    // and without memory nothing is.
+    // The returned status and the text written are right for the records of callers on the one
+    // table that the onlooker was shown in this call, whose calls the object of the behaviour
+    // answered. After a failed write only a part of the text is written, and without memory nothing
+    // is.
     ensures ends { EndsWriting
-        (IsMonitorOutput (AreNamedMonitored behaviour script.now) script.now.kind)
+        (IsMonitorOutput (AreSeenMonitored behaviour script.now
+        (W.shown watch.old) (W.shown watch.new)) script.now.kind)
         result (K.taken sink.old) (K.taken sink.new) }
 
     // With the status `WriteFault` the sink's count of faults rose in this call; with any other
@@ -154,6 +161,6 @@ pub fn monitor_behaviour<R: Threads + Sync, K: Sink>(
 {
     over_behaviour!(
         behaviour,
-        monitor_named::<R, K>(rt, alloc, behaviour, script, sink)
+        monitor_named::<R, W, K>(rt, alloc, behaviour, script, watch, sink)
     )
 }

@@ -14,6 +14,7 @@ mod laws;
 mod named;
 mod named_machine;
 mod named_object;
+mod onlooker;
 mod report_output;
 mod run;
 
@@ -26,5 +27,6 @@ pub use delivered::{delivered_book, delivered_cut};
 pub use form::Form;
 pub use fresh::{core_fresh, monitor_fresh, replay_fresh, run_fresh};
 pub use laws::{a_report_and_its_counts_have_one_text, certificates_are_legal_and_tell_one_book};
+pub use onlooker::{Onlooker, Unwatched};
 pub use report_output::write_report;
 pub use run::{core_and_write, replay_and_write, run_and_write};

@@ -1,5 +1,6 @@
 -- Lemmas on the outputs of commands and on how the program ends.
-use Rattle.std.proofs.Common.{◌≡◌, ◌⊎◌, ℕ, ◌≤◌, List, [], length, Option, Some, None, String, Global, refl, sym, ap, ◌∙◌, subst, arith, inl, inr, codes}
+use Rattle.std.proofs.Common.{◌≡◌, ◌⊎◌, ℕ, ◌≤◌, List, [], length, Option, Some, None, Result, Ok, Err, String, Global, refl, sym, ap, ◌∙◌, subst, arith, inl, inr, codes}
+use Rattle.std.specs.Prelude.{IfOk, MatchOption}
 use Rattle.std.specs.Io.KnownBytes.{Appends}
 use Rattle.std.proofs.KnownBytes.{Keeps-refl}
 use Rattle.book_base.specs.declared.fault.TextFault.{TextFault}
@@ -26,7 +27,10 @@ use Rattle.named_runs.specs.Runs.{counts_text}
 use Rattle.named_runs.specs.BehaviourRuns.{IsNamedRunReport, IsNamedReplayReport}
 use Rattle.selfcheck.specs.ScriptInput.{soak_plan}
 use Rattle.text_fields.specs.Refusal.{refusal_text}
-use Rattle.selfcheck.specs.Output.{InputForm, BookForm, CertificateForm, OldForm, SetForm, ScriptForm, MonitorForm, NoForm, form_of, IsTextOf, IsFirstFaultOf, IsTaken, IsVerdict, IsSketchText, IsSketchOutput, IsJudgement, IsRewritten, IsSetVerdict, IsAnswerOf, IsRefusal, IsOutputOf, HasOneStatus, RunsInside, SoaksDeliverAll, IsDetermined, RefuseWhatIsNotTaken, IsOutput, ReadsFor, Reads, Ends, IsUnfinished, input_of}
+use Rattle.selfcheck.specs.Output.{InputForm, BookForm, CertificateForm, OldForm, SetForm, ScriptForm, MonitorForm, NoForm, form_of, IsTextOf, IsFirstFaultOf, IsTaken, IsVerdict, IsSketchText, IsSketchOutput, IsJudgement, IsRewritten, IsSetVerdict, IsAnswerOf, IsRefusal, IsOutputOf, HasOneStatus, RunsInside, SoaksDeliverAll, IsDetermined, RefuseWhatIsNotTaken, IsUsage, ReadsFor, Reads, EndsBy, Ends, IsUnfinished, input_of}
+use Rattle.named_runs.specs.Shown.{Ended}
+use Rattle.selfcheck.specs.declared.output.Output.{Output}
+use Rattle.selfcheck.specs.Watched.{IsSeenAnswer, IsSeenOutputOf, IsSeenOutput}
 use Rattle.selfcheck.specs.Orders.{order_fault_text}
 use Rattle.byte_streams.specs.Told.{AppendsPart}
 use Rattle.byte_streams.specs.Writing.{EndsWriting}
@@ -384,40 +388,132 @@ EndsWriting-written IsOne status result taken taken' text is_done one (inl whole
 EndsWriting-written IsOne status result taken taken' text is_done one (inr part) =
     rw part.0 (status, text, one, part.1)
 
--- the output of a command was written whole, or a part of it
-pub EndsWriting-output : {P : Type 0} (command : Command) (bytes : List ℕ) (status result : Status)
-    (taken taken' : Option (List ℕ)) (text : List ℕ)
+-- ---- what an onlooker was shown beside
+
+-- an answer of which an onlooker was shown the table is an answer: one case a command
+plain_answer : (command : Command) (shown shown' : Option (List Ended)) (bytes : List ℕ)
+    (status : Status) (text : List ℕ) → IsSeenAnswer command shown shown' bytes status text
+    → IsAnswerOf command bytes status text
+plain_answer Verify shown shown' bytes status text answer = answer.1
+plain_answer Sketch shown shown' bytes status text answer = answer.1
+plain_answer Order shown shown' bytes status text answer = answer.1
+plain_answer Upgrade shown shown' bytes status text answer = answer.1
+plain_answer Sets shown shown' bytes status text answer = answer.1
+plain_answer (Run behaviour) shown shown' bytes status text answer =
+    (answer.0, answer.1, (answer.2.0, answer.2.1.named, answer.2.2, answer.2.3))
+plain_answer (Replay behaviour) shown shown' bytes status text answer =
+    (answer.0, answer.1, (answer.2.0, answer.2.1.named, answer.2.2, answer.2.3))
+plain_answer (Certify behaviour) shown shown' bytes status text answer =
+    (answer.0, answer.1, (answer.2.0, answer.2.1.named, answer.2.2, answer.2.3))
+plain_answer (Monitor behaviour) shown shown' bytes status text answer =
+    (answer.0, answer.1, answer.2, (answer.3.0, answer.3.1.named, answer.3.2))
+plain_answer (Soak number) shown shown' bytes status text answer =
+    (answer.0, (answer.1.0, answer.1.1.named, answer.1.2, answer.1.3))
+
+plain_output : (command : Command) (shown shown' : Option (List Ended)) (bytes : List ℕ)
+    (status : Status) (text : List ℕ) → IsSeenOutputOf command shown shown' bytes status text
     → IsOutputOf command bytes status text
+plain_output command shown shown' bytes Refused text output = output.1
+plain_output command shown shown' bytes _ text output =
+    (output.0, plain_answer command shown shown' bytes _ text output.1)
+
+-- what is written of a command's output is written of it whatever an onlooker was shown
+pub EndsWriting-plain : (command : Command) (shown shown' : Option (List Ended)) (bytes : List ℕ)
+    (result : Status) (taken taken' : Option (List ℕ))
+    → EndsWriting (IsSeenOutputOf command shown shown' bytes) result taken taken'
+    → EndsWriting (IsOutputOf command bytes) result taken taken'
+EndsWriting-plain command shown shown' bytes result taken taken' ends =
+    EndsWriting-weaker (IsSeenOutputOf command shown shown' bytes) (IsOutputOf command bytes) result
+    taken taken' (plain_output command shown shown' bytes) ends
+
+-- The command makes no run.
+abbrev pub MakesNoRun : Command → Type 0
+MakesNoRun (Run behaviour) = ⊥
+MakesNoRun (Replay behaviour) = ⊥
+MakesNoRun (Certify behaviour) = ⊥
+MakesNoRun (Monitor behaviour) = ⊥
+MakesNoRun (Soak number) = ⊥
+MakesNoRun command = Unit {0}
+
+-- a command that makes no run has an answer though an onlooker was shown nothing
+seen_answer : (command : Command) (shown : Option (List Ended)) (bytes : List ℕ) (status : Status)
+    (text : List ℕ) → MakesNoRun command → IsAnswerOf command bytes status text
+    → IsSeenAnswer command shown shown bytes status text
+seen_answer Verify shown bytes status text none answer = (refl, answer)
+seen_answer Sketch shown bytes status text none answer = (refl, answer)
+seen_answer Order shown bytes status text none answer = (refl, answer)
+seen_answer Upgrade shown bytes status text none answer = (refl, answer)
+seen_answer Sets shown bytes status text none answer = (refl, answer)
+seen_answer (Run behaviour) shown bytes status text none answer = absurd none
+seen_answer (Replay behaviour) shown bytes status text none answer = absurd none
+seen_answer (Certify behaviour) shown bytes status text none answer = absurd none
+seen_answer (Monitor behaviour) shown bytes status text none answer = absurd none
+seen_answer (Soak number) shown bytes status text none answer = absurd none
+
+seen_output : (command : Command) (shown : Option (List Ended)) (bytes : List ℕ) (status : Status)
+    (text : List ℕ) → MakesNoRun command → IsOutputOf command bytes status text
+    → IsSeenOutputOf command shown shown bytes status text
+seen_output command shown bytes Refused text none output = (refl, output)
+seen_output command shown bytes _ text none output =
+    (output.0, seen_answer command shown bytes _ text none output.1)
+
+-- an output that is made of a command without a run is one where an onlooker was shown nothing
+pub if_seen : {E : Type 0} (command : Command) (shown : Option (List Ended)) (bytes : List ℕ)
+    (made : Result Output E) → MakesNoRun command
+    → IfOk made (λ output. IsOutputOf command bytes output.status output.text.items)
+    → IfOk made (λ output. IsSeenOutputOf command shown shown bytes output.status output.text.items)
+if_seen command shown bytes (Ok output) none is =
+    seen_output command shown bytes output.status output.text.items none is
+if_seen command shown bytes (Err fault) none is = tt
+
+-- what is written of a command is written of it under another name
+pub EndsWriting-named : (command known : Command) (shown shown' : Option (List Ended))
+    (bytes : List ℕ) (result : Status) (taken taken' : Option (List ℕ)) → command ≡ known
+    → EndsWriting (IsSeenOutputOf known shown shown' bytes) result taken taken'
+    → EndsWriting (IsSeenOutputOf command shown shown' bytes) result taken taken'
+EndsWriting-named command known shown shown' bytes result taken taken' is ends =
+    subst (λ (c : Command). EndsWriting (IsSeenOutputOf c shown shown' bytes) result taken taken')
+    (sym is) ends
+
+-- the output of a command was written whole, or a part of it
+pub EndsWriting-output : {P : Type 0} (command : Command) (shown shown' : Option (List Ended))
+    (bytes : List ℕ) (status result : Status)
+    (taken taken' : Option (List ℕ)) (text : List ℕ)
+    → IsSeenOutputOf command shown shown' bytes status text
     → ((result ≡ status) × Appends taken taken' text)
     ⊎ ((result ≡ WriteFault) × AppendsPart taken taken' text × P)
-    → EndsWriting (IsOutputOf command bytes) result taken taken'
-EndsWriting-output command bytes status result taken taken' text output written =
-    EndsWriting-written (IsOutputOf command bytes) status result taken taken' text
-    (finished command bytes status text output) output written
+    → EndsWriting (IsSeenOutputOf command shown shown' bytes) result taken taken'
+EndsWriting-output command shown shown' bytes status result taken taken' text output written =
+    EndsWriting-written (IsSeenOutputOf command shown shown' bytes) status result taken taken' text
+    (finished command bytes status text (plain_output command shown shown' bytes status text output))
+    output written
 
 -- an answer to an input that isn't too long is an output
-IsOutputOf-from_answer : (command : Command) (bytes : List ℕ) (status : Status) (text : List ℕ)
-    → length bytes ≤ INPUT_LIMIT → IsAnswerOf command bytes status text
-    → IsOutputOf command bytes status text
-IsOutputOf-from_answer command bytes Refused text short answer =
-    absurd (elim (answer_statuses command bytes Refused text answer) [
+IsSeenOutputOf-from_answer : (command : Command) (shown shown' : Option (List Ended))
+    (bytes : List ℕ) (status : Status) (text : List ℕ)
+    → length bytes ≤ INPUT_LIMIT → IsSeenAnswer command shown shown' bytes status text
+    → IsSeenOutputOf command shown shown' bytes status text
+IsSeenOutputOf-from_answer command shown shown' bytes Refused text short answer =
+    absurd (elim (answer_statuses command bytes Refused text
+    (plain_answer command shown shown' bytes Refused text answer)) [
       | inl e ↦ cc e
       | inr e ↦ cc e
     ])
-IsOutputOf-from_answer command bytes _ text short answer = (short, answer)
+IsSeenOutputOf-from_answer command shown shown' bytes _ text short answer = (short, answer)
 
 -- a call that wrote one of a command's answers, or a part of it, has written an output of the
 -- command
-pub EndsWriting-answer : (command : Command) (bytes : List ℕ) (IsOne : Status → List ℕ → Type 0)
-    (result : Status) (taken taken' : Option (List ℕ))
+pub EndsWriting-answer : (command : Command) (shown shown' : Option (List Ended)) (bytes : List ℕ)
+    (IsOne : Status → List ℕ → Type 0) (result : Status) (taken taken' : Option (List ℕ))
     → length bytes ≤ INPUT_LIMIT
-    → ((status : Status) (text : List ℕ) → IsOne status text → IsAnswerOf command bytes status text)
+    → ((status : Status) (text : List ℕ) → IsOne status text
+    → IsSeenAnswer command shown shown' bytes status text)
     → EndsWriting IsOne result taken taken'
-    → EndsWriting (IsOutputOf command bytes) result taken taken'
-EndsWriting-answer command bytes IsOne result taken taken' short answers ends =
-    EndsWriting-weaker IsOne (IsOutputOf command bytes) result taken taken'
-    (λ status text one.
-    IsOutputOf-from_answer command bytes status text short (answers status text one)) ends
+    → EndsWriting (IsSeenOutputOf command shown shown' bytes) result taken taken'
+EndsWriting-answer command shown shown' bytes IsOne result taken taken' short answers ends =
+    EndsWriting-weaker IsOne (IsSeenOutputOf command shown shown' bytes) result taken taken'
+    (λ status text one. IsSeenOutputOf-from_answer command shown shown' bytes status text short
+    (answers status text one)) ends
 
 -- ---- how the program ends
 
@@ -426,11 +522,11 @@ Reads-named : (words : List (String Global)) (command : Command) (old new : Opti
     → command_of words ≡ Some command → ReadsFor command old new bytes → Reads words old new bytes
 Reads-named words command old new bytes named reads = rw named reads
 
-IsOutput-named : (words : List (String Global)) (command : Command) (bytes : List ℕ)
-    (status : Status) (text : List ℕ)
-    → command_of words ≡ Some command → IsOutputOf command bytes status text
-    → IsOutput words bytes status text
-IsOutput-named words command bytes status text named output = rw named output
+IsOutput-named : (words : List (String Global)) (command : Command)
+    (shown shown' : Option (List Ended)) (bytes : List ℕ) (status : Status) (text : List ℕ)
+    → command_of words ≡ Some command → IsSeenOutputOf command shown shown' bytes status text
+    → IsSeenOutput words shown shown' bytes status text
+IsOutput-named words command shown shown' bytes status text named output = rw named output
 
 -- words name one command
 pub one_named : (words : List (String Global)) (a b : Command) → command_of words ≡ Some a
@@ -441,74 +537,132 @@ one_named words a b named also = same (sym named ∙ also)
     same e = cc
 
 -- the program has ended as the command that its words name has
-pub Ends-answered : (words : List (String Global)) (command : Command) (result : Status)
+pub Ends-answered : (words : List (String Global)) (command : Command)
+    (shown shown' : Option (List Ended)) (result : Status)
     (left left' taken taken' : Option (List ℕ)) (bytes : List ℕ)
     → command_of words ≡ Some command → ReadsFor command left left' bytes
-    → EndsWriting (IsOutputOf command bytes) result taken taken'
-    → Ends words result left left' taken taken'
-Ends-answered words command ReadFault left left' taken taken' bytes named reads ends = absurd ends
-Ends-answered words command NoMemory left left' taken taken' bytes named reads ends = ends
-Ends-answered words command WriteFault left left' taken taken' bytes named reads ends = (
+    → EndsWriting (IsSeenOutputOf command shown shown' bytes) result taken taken'
+    → EndsBy (IsSeenOutput words shown shown') words result left left' taken taken'
+Ends-answered words command shown shown' ReadFault left left' taken taken' bytes named reads ends =
+    absurd ends
+Ends-answered words command shown shown' NoMemory left left' taken taken' bytes named reads ends =
+    ends
+Ends-answered words command shown shown' WriteFault left left' taken taken' bytes named reads
+    ends = (
+      bytes,
+      ends.0,
+      ends.1,
+      Reads-named words command left left' bytes named reads,
+      IsOutput-named words command shown shown' bytes ends.0 ends.1 named ends.2,
+      ends.3,
+    )
+Ends-answered words command shown shown' Fine left left' taken taken' bytes named reads ends = (
   bytes,
   ends.0,
-  ends.1,
   Reads-named words command left left' bytes named reads,
-  IsOutput-named words command bytes ends.0 ends.1 named ends.2,
-  ends.3,
-)
-Ends-answered words command Fine left left' taken taken' bytes named reads ends = (
-  bytes,
-  ends.0,
-  Reads-named words command left left' bytes named reads,
-  IsOutput-named words command bytes Fine ends.0 named ends.1,
+  IsOutput-named words command shown shown' bytes Fine ends.0 named ends.1,
   ends.2,
 )
-Ends-answered words command Found left left' taken taken' bytes named reads ends = (
+Ends-answered words command shown shown' Found left left' taken taken' bytes named reads ends = (
   bytes,
   ends.0,
   Reads-named words command left left' bytes named reads,
-  IsOutput-named words command bytes Found ends.0 named ends.1,
+  IsOutput-named words command shown shown' bytes Found ends.0 named ends.1,
   ends.2,
 )
-Ends-answered words command Usage left left' taken taken' bytes named reads ends = (
+Ends-answered words command shown shown' Usage left left' taken taken' bytes named reads ends = (
   bytes,
   ends.0,
   Reads-named words command left left' bytes named reads,
-  IsOutput-named words command bytes Usage ends.0 named ends.1,
+  IsOutput-named words command shown shown' bytes Usage ends.0 named ends.1,
   ends.2,
 )
-Ends-answered words command Refused left left' taken taken' bytes named reads ends = (
+Ends-answered words command shown shown' Refused left left' taken taken' bytes named reads ends = (
   bytes,
   ends.0,
   Reads-named words command left left' bytes named reads,
-  IsOutput-named words command bytes Refused ends.0 named ends.1,
+  IsOutput-named words command shown shown' bytes Refused ends.0 named ends.1,
   ends.2,
 )
 
 -- the program has ended with the usage line, which was written whole, or a part of it
-pub Ends-usage : {P : Type 0} (words : List (String Global)) (result : Status)
-    (left taken taken' : Option (List ℕ))
+pub Ends-usage : {P : Type 0} (words : List (String Global)) (shown : Option (List Ended))
+    (result : Status) (left taken taken' : Option (List ℕ))
     → command_of words ≡ None
     → ((result ≡ Usage) × Appends taken taken' (codes "usage: selfcheck COMMAND\n"))
     ⊎ ((result ≡ WriteFault) × AppendsPart taken taken' (codes "usage: selfcheck COMMAND\n") × P)
-    → Ends words result left left taken taken'
-Ends-usage words result left taken taken' unnamed (inl whole) =
+    → EndsBy (IsSeenOutput words shown shown) words result left left taken taken'
+Ends-usage words shown result left taken taken' unnamed (inl whole) =
     rw whole.0 (
       [],
       codes "usage: selfcheck COMMAND\n",
       rw unnamed (Keeps-refl left),
-      rw unnamed (refl, refl),
+      rw unnamed (refl, (refl, refl)),
       whole.1,
     )
-Ends-usage words result left taken taken' unnamed (inr part) =
+Ends-usage words shown result left taken taken' unnamed (inr part) =
     rw part.0 (
       [],
       Usage,
       codes "usage: selfcheck COMMAND\n",
       rw unnamed (Keeps-refl left),
-      rw unnamed (refl, refl),
+      rw unnamed (refl, (refl, refl)),
       part.1,
     )
+
+-- an output of the program is one whatever an onlooker was shown
+plain_named : (named : Option Command) (shown shown' : Option (List Ended)) (bytes : List ℕ)
+    (status : Status) (text : List ℕ)
+    → MatchOption named ((shown' ≡ shown) × IsUsage status text)
+    (λ command. IsSeenOutputOf command shown shown' bytes status text)
+    → MatchOption named (IsUsage status text) (λ command. IsOutputOf command bytes status text)
+plain_named None shown shown' bytes status text output = output.1
+plain_named (Some command) shown shown' bytes status text output =
+    plain_output command shown shown' bytes status text output
+
+-- the program has ended with an output whatever an onlooker was shown
+pub Ends-plain : (words : List (String Global)) (shown shown' : Option (List Ended))
+    (result : Status) (left left' taken taken' : Option (List ℕ))
+    → EndsBy (IsSeenOutput words shown shown') words result left left' taken taken'
+    → Ends words result left left' taken taken'
+Ends-plain words shown shown' ReadFault left left' taken taken' ends = ends
+Ends-plain words shown shown' NoMemory left left' taken taken' ends = ends
+Ends-plain words shown shown' WriteFault left left' taken taken' ends = (
+  ends.0,
+  ends.1,
+  ends.2,
+  ends.3,
+  plain_named (command_of words) shown shown' ends.0 ends.1 ends.2 ends.4,
+  ends.5,
+)
+Ends-plain words shown shown' Fine left left' taken taken' ends = (
+  ends.0,
+  ends.1,
+  ends.2,
+  plain_named (command_of words) shown shown' ends.0 Fine ends.1 ends.3,
+  ends.4,
+)
+Ends-plain words shown shown' Found left left' taken taken' ends = (
+  ends.0,
+  ends.1,
+  ends.2,
+  plain_named (command_of words) shown shown' ends.0 Found ends.1 ends.3,
+  ends.4,
+)
+Ends-plain words shown shown' Usage left left' taken taken' ends = (
+  ends.0,
+  ends.1,
+  ends.2,
+  plain_named (command_of words) shown shown' ends.0 Usage ends.1 ends.3,
+  ends.4,
+)
+Ends-plain words shown shown' Refused left left' taken taken' ends = (
+  ends.0,
+  ends.1,
+  ends.2,
+  plain_named (command_of words) shown shown' ends.0 Refused ends.1 ends.3,
+  ends.4,
+)
 
 -- ---- what the bytes of a source that tells them decide
 

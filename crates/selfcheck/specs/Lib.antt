@@ -11,3 +11,4 @@ pub mod ScriptTasks
 pub mod SetInput
 pub mod Upgrade
 pub mod UpgradeLaws
+pub mod Watched

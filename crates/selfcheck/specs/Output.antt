@@ -214,22 +214,28 @@ abbrev pub Reads : List (String Global) → Option (List ℕ) → Option (List �
 Reads words old new bytes =
     MatchOption (command_of words) (Keeps old new) (λ command. ReadsFor command old new bytes)
 
--- What the program has read and written when it ends with a status. `left` and `left'` are the
--- bytes that the source had left before and afterwards, and `taken` and `taken'` those that the
--- sink had taken.
+-- What the program has read and written when it ends with a status, where `IsOne` says which status
+-- and text are an output for the bytes read. `left` and `left'` are the bytes that the source had
+-- left before and afterwards, and `taken` and `taken'` those that the sink had taken.
+abbrev pub EndsBy : (List ℕ → Status → List ℕ → Type 0) → List (String Global) → Status
+    → Option (List ℕ) → Option (List ℕ) → Option (List ℕ) → Option (List ℕ) → Type 0
+-- where a read failed or memory was lacking, nothing is written
+EndsBy IsOne words ReadFault left left' taken taken' = Keeps taken taken'
+EndsBy IsOne words NoMemory left left' taken taken' = Keeps taken taken'
+-- where a write failed, a prefix of the output is written, and not all of it
+EndsBy IsOne words WriteFault left left' taken taken' =
+    (bytes : List ℕ) × (status : Status) × (text : List ℕ) × Reads words left left' bytes
+    × IsOne bytes status text × AppendsPart taken taken' text
+-- with any other status the output with this status is written whole
+EndsBy IsOne words status left left' taken taken' =
+    (bytes : List ℕ) × (text : List ℕ) × Reads words left left' bytes
+    × IsOne bytes status text × Appends taken taken' text
+
+-- What the program has read and written when it ends with a status.
 abbrev pub Ends : List (String Global) → Status → Option (List ℕ) → Option (List ℕ)
     → Option (List ℕ) → Option (List ℕ) → Type 0
--- where a read failed or memory was lacking, nothing is written
-Ends words ReadFault left left' taken taken' = Keeps taken taken'
-Ends words NoMemory left left' taken taken' = Keeps taken taken'
--- where a write failed, a prefix of the output is written, and not all of it
-Ends words WriteFault left left' taken taken' =
-    (bytes : List ℕ) × (status : Status) × (text : List ℕ) × Reads words left left' bytes
-    × IsOutput words bytes status text × AppendsPart taken taken' text
--- with any other status the output with this status is written whole
 Ends words status left left' taken taken' =
-    (bytes : List ℕ) × (text : List ℕ) × Reads words left left' bytes
-    × IsOutput words bytes status text × Appends taken taken' text
+    EndsBy (IsOutput words) words status left left' taken taken'
 
 -- A status that says that the output was not written whole.
 abbrev pub IsUnfinished : Status → Type 0

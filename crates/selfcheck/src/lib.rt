@@ -33,8 +33,9 @@ pub use laws::{
 };
 pub use monitor::monitor_and_write;
 pub use named_runs::{
-    Form, a_report_and_its_counts_have_one_text, certificates_are_legal_and_tell_one_book,
-    core_and_write, core_fresh, monitor_behaviour, monitor_fresh, replay_and_write,
-    replay_behaviour, replay_fresh, run_and_write, run_behaviour, run_fresh, write_report,
+    Form, Onlooker, Unwatched, a_report_and_its_counts_have_one_text,
+    certificates_are_legal_and_tell_one_book, core_and_write, core_fresh, monitor_behaviour,
+    monitor_fresh, replay_and_write, replay_behaviour, replay_fresh, run_and_write, run_behaviour,
+    run_fresh, write_report,
 };
-pub use top::selfcheck;
+pub use top::{selfcheck, selfcheck_watched};

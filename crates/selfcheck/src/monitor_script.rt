@@ -8,7 +8,7 @@ ghost use Rattle.byte_streams.specs.declared.TheConstants.{INPUT_LIMIT};
 ghost use Rattle.byte_streams.specs.Fault.{LeavesSink};
 ghost use Rattle.byte_streams.specs.Writing.{EndsWriting};
 ghost use Rattle.selfcheck.specs.MonitorInput.{LeavesTwo, IsOpening, IsCrowded, IsFirstMonitorFault};
-ghost use Rattle.selfcheck.specs.Output.{IsOutputOf};
+ghost use Rattle.selfcheck.specs.Watched.{IsSeenOutputOf};
 ghost use Rattle.selfcheck.specs.Refusal.{IsReadFault};
 
 use crate::command::Command;
@@ -18,7 +18,7 @@ use crate::write_output::write_told;
 use book_base::{MAX_CALLERS, ReadFault, TextFault, What};
 use byte_streams::{Sink, Status};
 use client_scripts::{Script, read_script};
-use named_runs::monitor_behaviour;
+use named_runs::{Onlooker, monitor_behaviour};
 use seq_objects::Kind;
 use std::alloc::Global;
 use std::thread::Threads;
@@ -27,19 +27,21 @@ use text_fields::{Lines, Version, Words, are_words, callers_of};
 
 /// Reads a script from bytes, runs it over the object of a behaviour while two monitors watch, and
 /// writes what the monitors found, or the first fault of the bytes.
-pub(crate) fn monitor_script<R: Threads + Sync, K: Sink>(
+pub(crate) fn monitor_script<R: Threads + Sync, W: Onlooker, K: Sink>(
     rt: &R,
     alloc: Global,
     behaviour: Behaviour,
     bytes: &[u8],
+    watch: &mut W,
     sink: &mut K,
 ) -> Status
-    ensures ends { EndsWriting (IsOutputOf (Command.Monitor behaviour) bytes.now)
+    ensures ends { EndsWriting (IsSeenOutputOf (Command.Monitor behaviour)
+        (W.shown watch.old) (W.shown watch.new) bytes.now)
         result (K.taken sink.old) (K.taken sink.new) }
     ensures faults { LeavesSink K.faults result sink.old sink.new }
 {
     match read_monitored(alloc, bytes) {
-        Ok(script) => monitor_behaviour(rt, alloc, behaviour, &script, sink),
+        Ok(script) => monitor_behaviour(rt, alloc, behaviour, &script, watch, sink),
         Err(ReadFault::Text(fault)) => write_told(Output::refusal(alloc, fault), sink),
         Err(ReadFault::NoMemory) => Status::NoMemory,
     }

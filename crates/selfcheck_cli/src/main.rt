@@ -1,7 +1,7 @@
 //! The program: it hands the command words, standard input and standard output to the top call.
 #![tactic(auto)]
 
-use selfcheck::{Status, StdSink, StdSource};
+use selfcheck::{Status, StdSink, StdSource, Unwatched, selfcheck_watched};
 use std::env;
 use std::io::ErrorKind;
 use std::process::ExitCode;
@@ -29,7 +29,15 @@ fn run<R: Env + Input + Print + AllocGlobal + Threads + Sync>(rt: &R) -> u8 {
         Ok(words) => {
             let mut source = StdSource::new(rt);
             let mut sink = StdSink::new(rt);
-            selfcheck::selfcheck(rt, rt.alloc(), &words, &mut source, &mut sink).code()
+            selfcheck_watched(
+                rt,
+                rt.alloc(),
+                &words,
+                &mut source,
+                &mut Unwatched,
+                &mut sink,
+            )
+            .code()
         }
         Err(code) => code,
     }

@@ -10,7 +10,7 @@ use byte_streams::{MemorySink, Status};
 use client_scripts::make_script;
 use core_objects::{CoreCell, CoreLog, CoreObject, CoreTally};
 use kind_search::SearchedKind;
-use named_runs::{Form, core_fresh};
+use named_runs::{Form, Unwatched, core_fresh};
 use report_lines::LineEnd;
 use report_text::read_report;
 use reports::Report;
@@ -132,6 +132,7 @@ where
         passes,
         size.cap,
         Form::Report,
+        &mut Unwatched,
         &mut sink,
     );
     match read_report(alloc, sink.bytes()) {

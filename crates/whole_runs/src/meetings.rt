@@ -8,7 +8,7 @@ use book_base::{MAX_CALLS, NoMemory};
 use byte_streams::{MemorySink, Status};
 use client_scripts::{Script, read_script};
 use drv_wrapper::{BlackBox, ObjectPass};
-use named_runs::{Form, replay_fresh, run_and_write, run_fresh};
+use named_runs::{Form, Unwatched, replay_fresh, run_and_write, run_fresh};
 use row_table::Rows;
 use std::alloc::Global;
 use std::test::Fail;
@@ -45,7 +45,16 @@ fn run_meeting<R: Threads + Sync>(
     requires { length script.now.operations ≡ 2 }
 {
     let (object, mut passes) = Meeting::open(alloc, script.callers(), MAX_CALLS)?;
-    let status = run_fresh(rt, alloc, script, &object, &mut passes, Form::Report, sink);
+    let status = run_fresh(
+        rt,
+        alloc,
+        script,
+        &object,
+        &mut passes,
+        Form::Report,
+        &mut Unwatched,
+        sink,
+    );
     Ok(status)
 }
 
@@ -55,7 +64,15 @@ fn replay_meeting(alloc: Global, script: &Script, sink: &mut MemorySink) -> Resu
     requires { length script.now.operations ≡ 2 }
 {
     let (object, mut passes) = Meeting::open(alloc, script.callers(), MAX_CALLS)?;
-    let status = replay_fresh(alloc, script, &object, &mut passes, Form::Report, sink);
+    let status = replay_fresh(
+        alloc,
+        script,
+        &object,
+        &mut passes,
+        Form::Report,
+        &mut Unwatched,
+        sink,
+    );
     Ok(status)
 }
 

@@ -8,7 +8,7 @@ use byte_streams::{MemorySink, Status};
 use client_scripts::{Script, make_script, read_script};
 use drv_wrapper::{BlackBox, ObjectPass};
 use hunts::CountingPass;
-use named_runs::{Form, replay_fresh, run_fresh};
+use named_runs::{Form, Unwatched, replay_fresh, run_fresh};
 use seq_objects::{Kind, wrapping_value_reply};
 use std::alloc::Global;
 use std::sync::Wait;
@@ -37,6 +37,7 @@ fn run<R: Threads + Sync, B: BlackBox<Pass = CountingPass> + Sync>(
         object,
         &mut passes,
         Form::Counts,
+        &mut Unwatched,
         &mut sink,
     );
     Ok(status)
@@ -76,7 +77,15 @@ fn replay_twins<R: Wait + Copy>(
     let object = TwinQueues::new(*rt, alloc, 64)?;
     let mut passes = CountingPass::for_script(alloc, script)?;
     let mut sink = MemorySink::new(alloc, 1_000, Vec::new(alloc), 1_000)?;
-    let status = replay_fresh(alloc, script, &object, &mut passes, Form::Report, &mut sink);
+    let status = replay_fresh(
+        alloc,
+        script,
+        &object,
+        &mut passes,
+        Form::Report,
+        &mut Unwatched,
+        &mut sink,
+    );
     Ok((status, sink))
 }
 

@@ -3,7 +3,7 @@ use book_base::{BAD, Call, MAX_CALLS, NoMemory};
 use byte_streams::{MemorySink, Status};
 use client_scripts::{Script, make_script, read_script};
 use core_objects::OneWordPass;
-use named_runs::{Form, core_fresh};
+use named_runs::{Form, Unwatched, core_fresh};
 use report_lines::LineEnd;
 use report_text::read_report;
 use reports::Report;
@@ -35,6 +35,7 @@ fn take_tickets<R: Threads + Sync>(
         &mut passes,
         MAX_CALLS,
         Form::Report,
+        &mut Unwatched,
         &mut sink,
     );
     match read_report(alloc, sink.bytes()) {

@@ -30,6 +30,6 @@ returns-clause-ends g c =
     RunEnds-weaker _ _ _ _ _ _ _
     (inside_report c.in-Ok.rows _ _ (opened.0 ∙ c.callers.ensures.count) opened.1 g.O.P.Program.meaning _
     (opened.2 ∙ c.program.ensures) _ (g.O.CoreObject.fits c.args.object.now) _ _
-    c.args.script.now
+    c.args.script.now _ _ c.close_shown.ensures
     (omega (arith, done.all_passes, c.core_and_write-status.new.passes.ok.0)) done.back)
     done.ends

@@ -20,4 +20,4 @@ returns-clause-ends g c =
     let done = c.monitor_and_write-status.ensures in
     told_ends _ _ _ _ _ _ c.args.script.now (outside_shapes _ _ _
     (omega (arith, c.in-Ok.ensures.rows.0, c.callers.ensures.count)) c.in-Ok.ensures.rows.1)
-    done.bench.0 done.bench.1 _ _ _ done.made done.told done.ends
+    done.bench.0 done.bench.1 _ _ c.close_shown.ensures _ _ _ done.made done.told done.ends

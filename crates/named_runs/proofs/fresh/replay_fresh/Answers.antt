@@ -18,6 +18,7 @@ replay_and_write-status-requires-clause-begins g c =
 pub returns-clause-ends : goal.returns-clause-ends
 returns-clause-ends g c =
     RunEnds-weaker _ _ _ _ _ _ _
-    (fresh_report _ _ _ _ _ _ c.args.script.now _ (outside_shapes _ _ _
-    (c.in-Ok.ensures.rows.0 ∙ c.callers.ensures.count) c.in-Ok.ensures.rows.1))
+    (fresh_report _ _ _ _ _ _ c.args.script.now _ _ _ (outside_shapes _ _ _
+    (c.in-Ok.ensures.rows.0 ∙ c.callers.ensures.count) c.in-Ok.ensures.rows.1)
+    c.close_shown.ensures)
     c.replay_and_write-status.ensures.ends

@@ -29,9 +29,12 @@ returns-clause-ends g c =
     after.ensures.passes in
     monitored-weaker _ _ _ _ _ _
     (λ locals is. record {
-      monitored = is.monitored;
-      object = answered_as _ _ _ c.kind.result _ c.callers.result _ _ c.requires.named
-          c.kind.ensures c.callers.ensures.count
-          (c.close_with.ensures _ _ _ _ c.in-Ok.ensures.opened own is.told_in);
+      named = record {
+        monitored = is.monitored;
+        object = answered_as _ _ _ c.kind.result _ c.callers.result _ _ c.requires.named
+            c.kind.ensures c.callers.ensures.count
+            (c.close_with.ensures _ _ _ _ c.in-Ok.ensures.opened own is.told_in);
+      };
+      seen = is.seen;
     })
     after.ensures.ends

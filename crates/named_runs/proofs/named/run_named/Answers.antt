@@ -27,7 +27,7 @@ returns-clause-ends g c =
     (omega (arith, after.all_passes, c.callers.ensures.count, c.run_fresh-status.new.passes.ok.0))
     after.passes in
     RunEnds-weaker _ _ _ _ _ _ _
-    (named_report _ _ _ c.args._behaviour c.args.script.now _
+    (named_report _ _ _ c.args._behaviour c.args.script.now _ _ _
     (λ phases calls told. answered_as _ _ _ c.kind.result _ c.callers.result phases calls
     c.requires.named c.kind.ensures c.callers.ensures.count
     (c.close_with.ensures _ _ phases calls c.in-Ok.ensures.opened own told)))
