@@ -4,7 +4,7 @@
 mod common;
 
 use common::show;
-use selfcheck::{Queue, Recorder, TooManyCallers};
+use selfcheck::{Queue, Recorder};
 use std::error::Error;
 use std::sync::{Mutex, mpsc};
 use std::thread;
@@ -15,7 +15,7 @@ fn main() -> Result<(), Box<dyn Error>> {
     let recorder = Recorder::<Queue>::new();
     thread::scope(|scope| {
         for t in 0..3 {
-            let (sender, receiver, mut me) = (sender.clone(), &receiver, recorder.caller()?);
+            let (sender, receiver, mut me) = (sender.clone(), &receiver, recorder.caller());
             scope.spawn(move || {
                 for i in 0..2 {
                     me.enq(10 * t + i, || sender.send(10 * t + i).unwrap());
@@ -23,7 +23,6 @@ fn main() -> Result<(), Box<dyn Error>> {
                 }
             });
         }
-        Ok::<_, TooManyCallers>(())
-    })?;
+    });
     show(&recorder.book()?)
 }

@@ -1,5 +1,6 @@
-//! What a call of a counter costs bare, recorded, where it is published for monitors, and where it checks itself, with 1, 2
-//! and 4 threads, and what a verdict costs: `cargo run --release --example cost BOOK..`.
+//! What a call of a counter costs bare, recorded by a caller that stays with the thread and without one, where it is
+//! published for monitors, and where it checks itself, with 1, 2 and 4 threads, and what a verdict costs:
+//! `cargo run --release --example cost BOOK..`.
 
 use selfcheck::{Counter, CounterObject, Enforced, Monitored, Recorder, verify};
 use std::error::Error;
@@ -58,7 +59,19 @@ fn recorded(threads: usize, calls: u32) -> f64 {
     timed(
         threads,
         calls,
-        || recorder.caller().unwrap(),
+        || recorder.caller(),
+        |me| me.inc(|| word.inc()),
+    )
+}
+
+// By calls that any thread may make.
+fn recorded_by_any(threads: usize, calls: u32) -> f64 {
+    let word = Word::default();
+    let recorder = Recorder::<Counter>::new();
+    timed(
+        threads,
+        calls,
+        || recorder.clone(),
         |me| me.inc(|| word.inc()),
     )
 }
@@ -85,19 +98,23 @@ fn enforced(threads: usize, calls: u32) -> f64 {
     )
 }
 
-fn write_cost(what: &str, threads: usize, calls: u32, run: fn(usize, u32) -> f64) {
+/// Nanoseconds a call at best.
+fn write_cost(what: &str, threads: usize, calls: u32, run: fn(usize, u32) -> f64) -> f64 {
     let mut runs: Vec<_> = (0..200).map(|_| run(threads, calls)).collect();
     runs.sort_by(f64::total_cmp);
     println!(
         "{what}, {threads} threads, {calls} calls each: {:.0} ns a call at best, {:.0} ns in the median of 200 runs",
         runs[0], runs[100]
     );
+    runs[0]
 }
 
 fn main() -> Result<(), Box<dyn Error>> {
     for threads in [1, 2, 4] {
         write_cost("bare", threads, 256, bare);
-        write_cost("recorded", threads, 256, recorded);
+        let by_caller = write_cost("recorded", threads, 256, recorded);
+        let by_any = write_cost("recorded by any thread", threads, 256, recorded_by_any);
+        println!("  {:.1} times as much without a caller", by_any / by_caller);
         for calls in [16, 64, 256] {
             write_cost("published", threads, calls, published);
             write_cost("checking itself", threads, calls, enforced);

@@ -4,7 +4,7 @@
 mod common;
 
 use common::show;
-use selfcheck::{Queue, Recorder, TooManyCallers, Verdict};
+use selfcheck::{Queue, Recorder, Verdict};
 use std::collections::VecDeque;
 use std::error::Error;
 use std::sync::Mutex;
@@ -16,7 +16,7 @@ fn main() -> Result<(), Box<dyn Error>> {
         let recorder = Recorder::<Queue>::new();
         thread::scope(|scope| {
             for t in 0..2 {
-                let (queue, mut me) = (&queue, recorder.caller()?);
+                let (queue, mut me) = (&queue, recorder.caller());
                 scope.spawn(move || {
                     me.enq(t, || queue.lock().unwrap().push_back(t));
                     me.deq(|| {
@@ -27,8 +27,7 @@ fn main() -> Result<(), Box<dyn Error>> {
                     });
                 });
             }
-            Ok::<_, TooManyCallers>(())
-        })?;
+        });
         let book = recorder.book()?;
         if book.verify()? == Verdict::Illegal {
             return show(&book);

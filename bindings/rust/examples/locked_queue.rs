@@ -3,7 +3,7 @@
 mod common;
 
 use common::show;
-use selfcheck::{Queue, Recorder, TooManyCallers};
+use selfcheck::{Queue, Recorder};
 use std::collections::VecDeque;
 use std::error::Error;
 use std::sync::Mutex;
@@ -14,14 +14,13 @@ fn main() -> Result<(), Box<dyn Error>> {
     let recorder = Recorder::<Queue>::new();
     thread::scope(|scope| {
         for t in 0..2 {
-            let (queue, mut me) = (&queue, recorder.caller()?);
+            let (queue, mut me) = (&queue, recorder.caller());
             scope.spawn(move || {
                 me.enq(t, || queue.lock().unwrap().push_back(t));
                 me.deq(|| queue.lock().unwrap().pop_front());
             });
         }
-        Ok::<_, TooManyCallers>(())
-    })?;
+    });
     let book = recorder.book()?;
     show(&book)?;
     if let Some(certificate) = book.certify()? {

@@ -3,7 +3,7 @@
 mod common;
 
 use common::show;
-use selfcheck::{Counter, Recorder, TooManyCallers};
+use selfcheck::{Counter, Recorder};
 use std::error::Error;
 use std::sync::Barrier;
 use std::sync::atomic::{AtomicU32, Ordering::SeqCst};
@@ -15,7 +15,7 @@ fn main() -> Result<(), Box<dyn Error>> {
     let recorder = Recorder::<Counter>::new();
     thread::scope(|scope| {
         for _ in 0..2 {
-            let (counter, between, mut me) = (&counter, &between, recorder.caller()?);
+            let (counter, between, mut me) = (&counter, &between, recorder.caller());
             scope.spawn(move || {
                 me.inc(|| {
                     let number = counter.load(SeqCst);
@@ -26,7 +26,6 @@ fn main() -> Result<(), Box<dyn Error>> {
                 });
             });
         }
-        Ok::<_, TooManyCallers>(())
-    })?;
+    });
     show(&recorder.book()?)
 }

@@ -4,7 +4,7 @@
 mod common;
 
 use common::show;
-use selfcheck::{Recorder, Stack, TooManyCallers, Verdict};
+use selfcheck::{Recorder, Stack, Verdict};
 use std::error::Error;
 use std::sync::atomic::{AtomicU32, AtomicUsize, Ordering::SeqCst};
 use std::thread;
@@ -62,14 +62,13 @@ fn main() -> Result<(), Box<dyn Error>> {
         let recorder = Recorder::<Stack>::new();
         thread::scope(|scope| {
             for t in 0..2 {
-                let (stack, mut me) = (&stack, recorder.caller()?);
+                let (stack, mut me) = (&stack, recorder.caller());
                 scope.spawn(move || {
                     me.push(t, || stack.push(t));
                     me.pop(|| stack.pop());
                 });
             }
-            Ok::<_, TooManyCallers>(())
-        })?;
+        });
         let book = recorder.book()?;
         if book.verify()? == Verdict::Illegal {
             println!("run {round}:");

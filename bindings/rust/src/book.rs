@@ -1,7 +1,7 @@
 //! Books: what callers did, as a value and as a text.
 
 use crate::fault::{Fault, Verdict};
-use crate::kind::Kind;
+use crate::kind::{Kind, Operation};
 use crate::library::{certify, explain, picture, smaller, verify};
 use crate::reply::Reply;
 use std::fmt;
@@ -23,16 +23,26 @@ pub(crate) struct Call<K: Kind> {
     pub answer: Option<(u64, Reply)>,
 }
 
+impl<K: Kind> Call<K> {
+    // What is known of it at a moment: nothing where it was invoked later, and where it only reads
+    // and has no reply by then. Such a call changes no verdict: an order that has it is one without
+    // it too.
+    pub(crate) fn at(mut self, moment: u64) -> Option<Call<K>> {
+        self.answer = self.answer.filter(|(returned, _)| *returned < moment);
+        let is_known = self.invoked < moment && (self.answer.is_some() || !self.op.is_read_only());
+        is_known.then_some(self)
+    }
+
+    pub(crate) fn precedes(&self, other: &Call<K>) -> bool {
+        (self.answer).is_some_and(|(returned, _)| returned < other.invoked)
+    }
+}
+
 impl<K: Kind> Book<K> {
-    // Each caller's calls in their order; the moments of all are different.
-    pub(crate) fn of_calls(callers: &[&[Call<K>]]) -> Book<K> {
-        // a book has at least one caller
-        let callers = if callers.is_empty() {
-            &[&[][..]]
-        } else {
-            callers
-        };
-        Book::of_text(Recorded { callers }.to_string())
+    // The calls of each of its callers, at least one; the moments of all are different, and the
+    // calls of a caller are one after another.
+    pub(crate) fn of_calls(callers: &[Vec<Call<K>>]) -> Book<K> {
+        Book::of_text(Pages { callers }.to_string())
     }
 
     // The text is that of a book of this kind.
@@ -125,12 +135,11 @@ impl<K: Kind> fmt::Display for Book<K> {
     }
 }
 
-// What a recorder has of each caller.
-struct Recorded<'a, K: Kind> {
-    callers: &'a [&'a [Call<K>]],
+struct Pages<'a, K: Kind> {
+    callers: &'a [Vec<Call<K>>],
 }
 
-impl<K: Kind> Recorded<'_, K> {
+impl<K: Kind> Pages<'_, K> {
     // The view of a call that returned at a moment: for each caller, how many of its calls were invoked before.
     //
     // Any two views are comparable, since one of the moments is first. That of call k of a caller counts k + 1 of this
@@ -143,7 +152,7 @@ impl<K: Kind> Recorded<'_, K> {
     }
 }
 
-impl<K: Kind> fmt::Display for Recorded<'_, K> {
+impl<K: Kind> fmt::Display for Pages<'_, K> {
     fn fmt(&self, f: &mut fmt::Formatter<'_>) -> fmt::Result {
         writeln!(f, "book 2")?;
         writeln!(f, "object {}", K::NAME)?;

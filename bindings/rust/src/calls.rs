@@ -1,113 +1,138 @@
-//! A caller's calls, by the kind of its object: each makes the call that it is given, and records it.
+//! The calls of each kind of object: of a recorder and of its callers, which make the call that they are given, and of an
+//! object that checks itself or that monitors judge, which ask the object by its method of the same name.
 
+use crate::enforced::{CallError, Enforced, EnforcedCaller};
 use crate::kind::{
     CasRegister, CasRegisterOp, Counter, CounterOp, Map, MapOp, PriorityQueue, PriorityQueueOp,
     Queue, QueueOp, Register, RegisterOp, Set, SetOp, Stack, StackOp,
 };
-use crate::recorder::Caller;
+use crate::monitored::{Monitored, MonitoredCaller};
+use crate::objects::{
+    CasRegisterObject, CounterObject, MapObject, PriorityQueueObject, QueueObject, RegisterObject,
+    SetObject, StackObject,
+};
+use crate::places::NotMade;
+use crate::recorder::{Caller, Recorder};
 
-impl Caller<Queue> {
-    /// Puts a value at the end.
-    pub fn enq(&mut self, value: u32, call: impl FnOnce()) {
-        self.call(QueueOp::Enq(value), call)
-    }
+macro_rules! calls {
+    ($($kind:ident $object:ident $operations:ident {
+        $($(#[$does:meta])* $op:ident $call:ident($($argument:ident),*) $(-> $reply:ty)?;)+
+    })+) => {$(
+        impl Recorder<$kind> {$(
+            $(#[$does])*
+            pub fn $call(&self, $($argument: u32,)* call: impl FnOnce() $(-> $reply)?) $(-> $reply)? {
+                self.call(calls!(@op $operations $op $($argument)*), call)
+            }
+        )+}
 
-    /// Takes the first value.
-    pub fn deq(&mut self, call: impl FnOnce() -> Option<u32>) -> Option<u32> {
-        self.call(QueueOp::Deq, call)
-    }
+        impl Caller<$kind> {$(
+            $(#[$does])*
+            pub fn $call(&mut self, $($argument: u32,)* call: impl FnOnce() $(-> $reply)?) $(-> $reply)? {
+                self.call(calls!(@op $operations $op $($argument)*), call)
+            }
+        )+}
+
+        impl<O: $object> Enforced<$kind, O> {$(
+            $(#[$does])*
+            ///
+            /// # Errors
+            ///
+            /// See [`CallError`].
+            pub fn $call(&self, $($argument: u32),*) -> Result<calls!(@reply $($reply)?), CallError<$kind>> {
+                self.call(calls!(@op $operations $op $($argument)*), |object| object.$call($($argument),*))
+            }
+        )+}
+
+        impl<O: $object> EnforcedCaller<$kind, O> {$(
+            $(#[$does])*
+            ///
+            /// # Errors
+            ///
+            /// See [`CallError`].
+            pub fn $call(&mut self, $($argument: u32),*) -> Result<calls!(@reply $($reply)?), CallError<$kind>> {
+                self.call(calls!(@op $operations $op $($argument)*), |object| object.$call($($argument),*))
+            }
+        )+}
+
+        impl<O: $object> Monitored<$kind, O> {$(
+            $(#[$does])*
+            ///
+            /// # Errors
+            ///
+            /// See [`NotMade`].
+            pub fn $call(&self, $($argument: u32),*) -> Result<calls!(@reply $($reply)?), NotMade> {
+                self.call(calls!(@op $operations $op $($argument)*), |object| object.$call($($argument),*))
+            }
+        )+}
+
+        impl<O: $object> MonitoredCaller<$kind, O> {$(
+            $(#[$does])*
+            ///
+            /// # Errors
+            ///
+            /// See [`NotMade`].
+            pub fn $call(&mut self, $($argument: u32),*) -> Result<calls!(@reply $($reply)?), NotMade> {
+                self.call(calls!(@op $operations $op $($argument)*), |object| object.$call($($argument),*))
+            }
+        )+}
+    )+};
+    (@reply) => { () };
+    (@reply $reply:ty) => { $reply };
+    (@op $operations:ident $op:ident) => { $operations::$op };
+    (@op $operations:ident $op:ident $($argument:ident)+) => { $operations::$op($($argument),+) };
 }
 
-impl Caller<Stack> {
-    /// Puts a value on top.
-    pub fn push(&mut self, value: u32, call: impl FnOnce()) {
-        self.call(StackOp::Push(value), call)
+calls! {
+    Queue QueueObject QueueOp {
+        /// Puts a value at the end.
+        Enq enq(value);
+        /// Takes the first value.
+        Deq deq() -> Option<u32>;
     }
-
-    /// Takes the top value.
-    pub fn pop(&mut self, call: impl FnOnce() -> Option<u32>) -> Option<u32> {
-        self.call(StackOp::Pop, call)
+    Stack StackObject StackOp {
+        /// Puts a value on top.
+        Push push(value);
+        /// Takes the top value.
+        Pop pop() -> Option<u32>;
     }
-}
-
-impl Caller<Register> {
-    /// Sets the value.
-    pub fn write(&mut self, value: u32, call: impl FnOnce()) {
-        self.call(RegisterOp::Write(value), call)
+    Register RegisterObject RegisterOp {
+        /// Sets the value.
+        Write write(value);
+        /// Reads the value.
+        Read read() -> u32;
     }
-
-    /// Reads the value.
-    pub fn read(&mut self, call: impl FnOnce() -> u32) -> u32 {
-        self.call(RegisterOp::Read, call)
+    Counter CounterObject CounterOp {
+        /// Adds 1, and gives the number before.
+        Inc inc() -> u32;
     }
-}
-
-impl Caller<Counter> {
-    /// Adds 1; the call gives the number before.
-    pub fn inc(&mut self, call: impl FnOnce() -> u32) -> u32 {
-        self.call(CounterOp::Inc, call)
+    Set SetObject SetOp {
+        /// Puts a value in: whether it wasn't in the set.
+        Add add(value) -> bool;
+        /// Takes a value out: whether it was in the set.
+        Remove remove(value) -> bool;
+        /// Whether a value is in the set.
+        Has has(value) -> bool;
     }
-}
-
-impl Caller<Set> {
-    /// Puts a value in; the call says whether it wasn't in the set.
-    pub fn add(&mut self, value: u32, call: impl FnOnce() -> bool) -> bool {
-        self.call(SetOp::Add(value), call)
+    PriorityQueue PriorityQueueObject PriorityQueueOp {
+        /// Puts a value in.
+        Insert insert(value);
+        /// Takes the least value.
+        Min min() -> Option<u32>;
     }
-
-    /// Takes a value out; the call says whether it was in the set.
-    pub fn remove(&mut self, value: u32, call: impl FnOnce() -> bool) -> bool {
-        self.call(SetOp::Remove(value), call)
+    CasRegister CasRegisterObject CasRegisterOp {
+        /// Sets the value.
+        Write write(value);
+        /// Reads the value.
+        Read read() -> u32;
+        /// Sets the value to `to` where it is `from`: whether it was.
+        Cas cas(from, to) -> bool;
     }
-
-    /// Whether a value is in the set.
-    pub fn has(&mut self, value: u32, call: impl FnOnce() -> bool) -> bool {
-        self.call(SetOp::Has(value), call)
-    }
-}
-
-impl Caller<PriorityQueue> {
-    /// Puts a value in.
-    pub fn insert(&mut self, value: u32, call: impl FnOnce()) {
-        self.call(PriorityQueueOp::Insert(value), call)
-    }
-
-    /// Takes the least value.
-    pub fn min(&mut self, call: impl FnOnce() -> Option<u32>) -> Option<u32> {
-        self.call(PriorityQueueOp::Min, call)
-    }
-}
-
-impl Caller<CasRegister> {
-    /// Sets the value.
-    pub fn write(&mut self, value: u32, call: impl FnOnce()) {
-        self.call(CasRegisterOp::Write(value), call)
-    }
-
-    /// Reads the value.
-    pub fn read(&mut self, call: impl FnOnce() -> u32) -> u32 {
-        self.call(CasRegisterOp::Read, call)
-    }
-
-    /// Sets the value to `to` where it is `from`; the call says whether it was.
-    pub fn cas(&mut self, from: u32, to: u32, call: impl FnOnce() -> bool) -> bool {
-        self.call(CasRegisterOp::Cas(from, to), call)
-    }
-}
-
-impl Caller<Map> {
-    /// Sets a key's value; the call gives the old one.
-    pub fn put(&mut self, key: u32, value: u32, call: impl FnOnce() -> Option<u32>) -> Option<u32> {
-        self.call(MapOp::Put(key, value), call)
-    }
-
-    /// A key's value.
-    pub fn get(&mut self, key: u32, call: impl FnOnce() -> Option<u32>) -> Option<u32> {
-        self.call(MapOp::Get(key), call)
-    }
-
-    /// Takes a key out; the call gives its value.
-    pub fn del(&mut self, key: u32, call: impl FnOnce() -> Option<u32>) -> Option<u32> {
-        self.call(MapOp::Del(key), call)
+    Map MapObject MapOp {
+        /// Sets a key's value, and gives the old one.
+        Put put(key, value) -> Option<u32>;
+        /// A key's value.
+        Get get(key) -> Option<u32>;
+        /// Takes a key out, and gives its value.
+        Del del(key) -> Option<u32>;
     }
 }

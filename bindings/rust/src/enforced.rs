@@ -4,12 +4,13 @@ use crate::asked::Asked;
 use crate::book::Book;
 use crate::kind::{Kind, Operation};
 use crate::library::{Announced, Answer, Idle, Lack, Table};
+use crate::places::{CallerError, NotMade, Places, announce};
 use crate::reply::Reply;
+use std::convert::Infallible;
 use std::error::Error;
 use std::fmt;
 use std::marker::PhantomData;
 use std::mem::discriminant;
-use std::sync::{Mutex, PoisonError};
 
 /// An object whose calls check themselves.
 ///
@@ -64,7 +65,7 @@ use std::sync::{Mutex, PoisonError};
 /// them.
 pub struct Enforced<K: Kind, O> {
     object: Asked<O>,
-    table: Mutex<Table>,
+    places: Places,
     kind: PhantomData<K>,
 }
 
@@ -109,27 +110,6 @@ impl fmt::Display for OpenError {
 
 impl Error for OpenError {}
 
-/// Why there is no further caller.
-#[derive(Clone, Copy, Debug, PartialEq, Eq)]
-#[non_exhaustive]
-pub enum CallerError {
-    /// The table has given all its callers.
-    NoneLeft,
-    /// Want of memory.
-    NoMemory,
-}
-
-impl fmt::Display for CallerError {
-    fn fmt(&self, f: &mut fmt::Formatter<'_>) -> fmt::Result {
-        f.write_str(match self {
-            CallerError::NoneLeft => "the table has given all its callers",
-            CallerError::NoMemory => "out of memory",
-        })
-    }
-}
-
-impl Error for CallerError {}
-
 /// Why a call gave no reply.
 #[derive(Clone, Debug)]
 #[non_exhaustive]
@@ -142,10 +122,12 @@ pub enum CallError<K: Kind> {
     /// Memory was refused for the judgement: this is the object's reply, which nobody has checked. The caller makes no
     /// further call; others go on, and judge this reply with theirs.
     Unjudged(Reply),
-    /// The caller has made all the calls that its table has for it. The object wasn't asked.
+    /// See [`NotMade::NoCallLeft`].
     NoCallLeft,
-    /// An earlier call of the caller was an error, or panicked. The object wasn't asked.
+    /// See [`NotMade::Halted`].
     Halted,
+    /// See [`NotMade::NoMemory`].
+    NoMemory,
 }
 
 impl<K: Kind> fmt::Display for CallError<K> {
@@ -156,6 +138,7 @@ impl<K: Kind> fmt::Display for CallError<K> {
             CallError::Unjudged(reply) => write!(f, "out of memory: {reply} isn't checked"),
             CallError::NoCallLeft => NotMade::NoCallLeft.fmt(f),
             CallError::Halted => NotMade::Halted.fmt(f),
+            CallError::NoMemory => NotMade::NoMemory.fmt(f),
         }
     }
 }
@@ -175,32 +158,12 @@ impl<K: Kind> PartialEq for CallError<K> {
 
 impl<K: Kind> Eq for CallError<K> {}
 
-/// Why a call wasn't made: the object wasn't asked.
-#[derive(Clone, Copy, Debug, PartialEq, Eq)]
-#[non_exhaustive]
-pub enum NotMade {
-    /// The caller has made all the calls that its table has for it.
-    NoCallLeft,
-    /// An earlier call of the caller was an error, or panicked.
-    Halted,
-}
-
-impl fmt::Display for NotMade {
-    fn fmt(&self, f: &mut fmt::Formatter<'_>) -> fmt::Result {
-        f.write_str(match self {
-            NotMade::NoCallLeft => "the caller has made all its calls",
-            NotMade::Halted => "the caller is halted",
-        })
-    }
-}
-
-impl Error for NotMade {}
-
 impl<K: Kind> From<NotMade> for CallError<K> {
     fn from(not_made: NotMade) -> CallError<K> {
         match not_made {
             NotMade::NoCallLeft => CallError::NoCallLeft,
             NotMade::Halted => CallError::Halted,
+            NotMade::NoMemory => CallError::NoMemory,
         }
     }
 }
@@ -214,30 +177,12 @@ impl From<Lack> for OpenError {
     }
 }
 
-impl From<Lack> for CallerError {
-    fn from(lack: Lack) -> CallerError {
-        match lack {
-            Lack::Unfit => CallerError::NoneLeft,
-            Lack::Memory => CallerError::NoMemory,
-        }
-    }
-}
-
 // A table for so many callers, with so many calls each.
 pub(crate) fn open<K: Kind>(callers: usize, calls: usize) -> Result<Table, OpenError> {
     let (Ok(callers), Ok(calls)) = (u32::try_from(callers), u64::try_from(calls)) else {
         return Err(OpenError::NoSuchTable);
     };
     Ok(Table::open(K::NAME, callers, calls)?)
-}
-
-// The announced call of a caller. There is no caller where it makes no further call.
-pub(crate) fn announce(caller: &mut Option<Idle>, op: u128) -> Result<Announced, NotMade> {
-    let idle = caller.take().ok_or(NotMade::Halted)?;
-    idle.announce(op).map_err(|idle| {
-        *caller = Some(idle);
-        NotMade::NoCallLeft
-    })
 }
 
 impl<K: Kind, O> Enforced<K, O> {
@@ -250,25 +195,61 @@ impl<K: Kind, O> Enforced<K, O> {
         let table = open::<K>(callers, calls)?;
         Ok(Enforced {
             object: Asked::new(object),
-            table: Mutex::new(table),
+            places: Places::of(table, callers, 0),
             kind: PhantomData,
         })
     }
 
-    /// The next caller.
+    /// The next caller, which stays with a thread. The calls of others don't take it.
     ///
     /// # Errors
     ///
     /// Where the table has given all its callers, and for want of memory.
     pub fn caller(&self) -> Result<EnforcedCaller<K, O>, CallerError> {
-        // a caller that panics leaves the table whole
-        let mut table = self.table.lock().unwrap_or_else(PoisonError::into_inner);
-        let idle = table.caller()?;
         Ok(EnforcedCaller {
             object: self.object.share(),
-            idle: Some(idle),
+            idle: Some(self.places.caller()?),
             kind: PhantomData,
         })
+    }
+
+    /// Makes a call of any caller of the table that is in none: asks the object by this closure, and
+    /// gives its reply where the call is delivered. The calls of each kind, below, are made of it.
+    ///
+    /// Waits while all callers are in calls. So a call that is made amid another of the same thread
+    /// may wait for itself. Where a caller has made all its calls, another takes its place.
+    /// Where the closure panics, the call stays unanswered, and its caller makes no further call.
+    ///
+    /// # Errors
+    ///
+    /// See [`CallError`].
+    pub fn call<R: Copy + Into<Reply>>(
+        &self,
+        op: K::Op,
+        ask: impl FnOnce(&O) -> R,
+    ) -> Result<R, CallError<K>> {
+        let Ok(reply) = self.try_call(op, |object| Ok::<_, Infallible>(ask(object)))?;
+        Ok(reply)
+    }
+
+    /// Makes a call of which it may stay unknown whether it had its effect, as after a timeout: as
+    /// [`call`](Enforced::call), but that with an error of the closure the call stays unanswered, and
+    /// its caller makes no further call.
+    ///
+    /// # Errors
+    ///
+    /// See [`CallError`]; within, those of the closure.
+    pub fn try_call<R: Copy + Into<Reply>, E>(
+        &self,
+        op: K::Op,
+        ask: impl FnOnce(&O) -> Result<R, E>,
+    ) -> Result<Result<R, E>, CallError<K>> {
+        let (borrowed, announced) = self.places.announce(op.word())?;
+        let reply = self.object.ask(ask);
+        if let Ok(reply) = reply {
+            borrowed.hand_back(answered(announced, reply.into())?);
+        }
+        Ok(reply)
     }
 }
 
@@ -288,17 +269,20 @@ impl<K: Kind, O> EnforcedCaller<K, O> {
     ) -> Result<R, CallError<K>> {
         let announced = announce(&mut self.idle, op.word())?;
         let reply = self.object.ask(ask);
-        match announced.answered(reply.into().word()) {
-            Answer::Delivered(idle) => {
-                self.idle = Some(idle);
-                Ok(reply)
-            }
-            Answer::Illegal(mut wrong) => Err(match wrong.witness() {
-                Some(text) => CallError::Illegal(Book::of_text(text)),
-                None => CallError::IllegalUntold,
-            }),
-            Answer::Unjudged => Err(CallError::Unjudged(reply.into())),
-        }
+        self.idle = Some(answered(announced, reply.into())?);
+        Ok(reply)
+    }
+}
+
+// The caller whose call is delivered.
+fn answered<K: Kind>(announced: Announced, reply: Reply) -> Result<Idle, CallError<K>> {
+    match announced.answered(reply.word()) {
+        Answer::Delivered(idle) => Ok(idle),
+        Answer::Illegal(mut wrong) => Err(match wrong.witness() {
+            Some(text) => CallError::Illegal(Book::of_text(text)),
+            None => CallError::IllegalUntold,
+        }),
+        Answer::Unjudged => Err(CallError::Unjudged(reply)),
     }
 }
 

@@ -29,6 +29,28 @@ pub trait Kind: sealed::Sealed + Copy + fmt::Debug + 'static {
     type Op: Operation;
 }
 
+/// A kind that is made of one object for each key: a call sees and changes that of its key alone.
+pub trait Keyed: Kind {
+    /// The key of a call with this operation.
+    fn key(op: Self::Op) -> u32;
+}
+
+impl Keyed for Set {
+    fn key(op: SetOp) -> u32 {
+        match op {
+            SetOp::Add(value) | SetOp::Remove(value) | SetOp::Has(value) => value,
+        }
+    }
+}
+
+impl Keyed for Map {
+    fn key(op: MapOp) -> u32 {
+        match op {
+            MapOp::Put(key, _) | MapOp::Get(key) | MapOp::Del(key) => key,
+        }
+    }
+}
+
 /// An operation of a kind. It is displayed as a book has it.
 ///
 /// ```compile_fail,E0277
@@ -45,12 +67,19 @@ pub trait Kind: sealed::Sealed + Copy + fmt::Debug + 'static {
 ///     fn word(self) -> u128 {
 ///         1 << 32
 ///     }
+///
+///     fn is_read_only(self) -> bool {
+///         true
+///     }
 /// }
 /// ```
 pub trait Operation: sealed::Sealed + Copy + fmt::Debug + fmt::Display + Send {
     /// The word that stands for it in a table of callers: its code, the first argument and the second, 32 bits each
     /// from bit 32, 0 and 64 on.
     fn word(self) -> u128;
+
+    /// Whether it changes no object of its kind, whatever its reply is.
+    fn is_read_only(self) -> bool;
 }
 
 // The word of a code and of an operation's arguments.
@@ -59,12 +88,13 @@ fn word<const N: usize>(code: u128, arguments: [u32; N]) -> u128 {
     (code << 32) + argument(0) + (argument(1) << 64)
 }
 
-// A kind with its operations: for each its code, its text, and its arguments.
+// A kind with its operations: for each its code, its text, its arguments, and whether it only reads.
 macro_rules! kinds {
     ($(
         $(#[$about:meta])*
         $kind:ident $name:literal $operations:ident {
-            $($(#[$does:meta])* $op:ident $code:literal $text:literal $(($($argument:ident),+))?;)+
+            $($(#[$does:meta])*
+            $op:ident $code:literal $text:literal $(($($argument:ident),+))? $(: $reads:ident)?;)+
         }
     )+) => {$(
         $(#[$about])*
@@ -93,6 +123,12 @@ macro_rules! kinds {
                     $($operations::$op $(($($argument),+))? => word($code, [$($($argument),+)?]),)+
                 }
             }
+
+            fn is_read_only(self) -> bool {
+                match self {
+                    $($operations::$op { .. } => kinds!(@is_read_only $($reads)?),)+
+                }
+            }
         }
 
         impl fmt::Display for $operations {
@@ -108,6 +144,8 @@ macro_rules! kinds {
         }
     )+};
     (@value $argument:ident) => { u32 };
+    (@is_read_only) => { false };
+    (@is_read_only reads) => { true };
 }
 
 kinds! {
@@ -130,7 +168,7 @@ kinds! {
         /// Sets the value; replies `Done`.
         Write 1 "write" (value);
         /// Replies the value.
-        Read 2 "read";
+        Read 2 "read": reads;
     }
     /// A number modulo 2^32, 0 at first.
     Counter "counter" CounterOp {
@@ -144,7 +182,7 @@ kinds! {
         /// Takes a value out; replies `Yes` where it was in the set.
         Remove 2 "remove" (value);
         /// Replies `Yes` where the value is in the set.
-        Has 3 "has" (value);
+        Has 3 "has" (value): reads;
     }
     /// The least value first; empty at first.
     PriorityQueue "pqueue" PriorityQueueOp {
@@ -158,7 +196,7 @@ kinds! {
         /// Sets the value; replies `Done`.
         Write 1 "write" (value);
         /// Replies the value.
-        Read 2 "read";
+        Read 2 "read": reads;
         /// Sets the value to the second where it is the first; replies `Yes` where it was.
         Cas 3 "cas" (from, to);
     }
@@ -167,7 +205,7 @@ kinds! {
         /// Sets a key's value; replies the old one, or `None`.
         Put 1 "put" (key, value);
         /// Replies a key's value, or `None`.
-        Get 2 "get" (key);
+        Get 2 "get" (key): reads;
         /// Takes a key out; replies its value, or `None`.
         Del 3 "del" (key);
     }

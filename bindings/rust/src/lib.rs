@@ -1,9 +1,10 @@
 //! Records what threads do to a concurrent object, and judges by a proved check whether it is linearizable
 //! (Herlihy and Wing 1990).
 //!
-//! A [`Recorder`] has a [`Caller`] for each thread, which makes the object's calls in your closures and writes
-//! them down. The [`Book`] of all calls is then judged: [`Book::verify`] says whether the calls have a legal
-//! order, and [`Book::certify`] gives one, in a text that anyone can check again.
+//! A [`Recorder`] makes the object's calls in your closures, on any threads and tasks, and writes them down. The
+//! [`Book`] of all calls is then judged: [`Book::verify`] says whether the calls have a legal order, and
+//! [`Book::certify`] gives one, in a text that anyone can check again. A [`Caller`] of a recorder stays with one
+//! thread, whose calls it shows as those of one caller.
 //!
 //! ```
 //! use selfcheck::{Queue, Recorder, Verdict};
@@ -13,14 +14,13 @@
 //! let recorder = Recorder::<Queue>::new();
 //! thread::scope(|scope| {
 //!     for t in 0..4 {
-//!         let (queue, mut me) = (&queue, recorder.caller()?);
+//!         let (queue, recorder) = (&queue, &recorder);
 //!         scope.spawn(move || {
-//!             me.enq(t, || queue.lock().unwrap().push_back(t));
-//!             me.deq(|| queue.lock().unwrap().pop_front());
+//!             recorder.enq(t, || queue.lock().unwrap().push_back(t));
+//!             recorder.deq(|| queue.lock().unwrap().pop_front());
 //!         });
 //!     }
-//!     Ok::<_, selfcheck::TooManyCallers>(())
-//! })?;
+//! });
 //! assert_eq!(recorder.book()?.verify()?, Verdict::Legal);
 //! # Ok::<_, Box<dyn std::error::Error>>(())
 //! ```
@@ -51,6 +51,8 @@ mod enforced;
 #[forbid(unsafe_code)]
 mod fault;
 #[forbid(unsafe_code)]
+mod history;
+#[forbid(unsafe_code)]
 pub mod hunt;
 #[forbid(unsafe_code)]
 mod kind;
@@ -59,9 +61,9 @@ mod library;
 #[forbid(unsafe_code)]
 mod monitored;
 #[forbid(unsafe_code)]
-mod object_calls;
-#[forbid(unsafe_code)]
 mod objects;
+#[forbid(unsafe_code)]
+mod places;
 #[forbid(unsafe_code)]
 mod recorder;
 #[forbid(unsafe_code)]
@@ -70,12 +72,14 @@ mod reply;
 pub mod schedule;
 
 pub use book::Book;
-pub use enforced::{CallError, CallerError, Enforced, EnforcedCaller, NotMade, OpenError};
+pub use enforced::{CallError, Enforced, EnforcedCaller, OpenError};
 pub use fault::{Fault, Verdict, What};
+pub use history::Prefix;
 pub use hunt::hunt;
 pub use kind::{
-    CasRegister, CasRegisterOp, Counter, CounterOp, Kind, Map, MapOp, Operation, PriorityQueue,
-    PriorityQueueOp, Queue, QueueOp, Register, RegisterOp, Set, SetOp, Stack, StackOp,
+    CasRegister, CasRegisterOp, Counter, CounterOp, Keyed, Kind, Map, MapOp, Operation,
+    PriorityQueue, PriorityQueueOp, Queue, QueueOp, Register, RegisterOp, Set, SetOp, Stack,
+    StackOp,
 };
 pub use library::{certify, explain, order, picture, smaller, verify};
 pub use monitored::{JudgeError, Monitor, Monitored, MonitoredCaller};
@@ -83,5 +87,6 @@ pub use objects::{
     CasRegisterObject, CounterObject, MapObject, PriorityQueueObject, QueueObject, RegisterObject,
     SetObject, StackObject,
 };
-pub use recorder::{Caller, Incomplete, MAX_CALLERS, MAX_CALLS, Pending, Recorder, TooManyCallers};
+pub use places::{CallerError, NotMade};
+pub use recorder::{Caller, Incomplete, MAX_CALLERS, MAX_CALLS, Pending, PendingCall, Recorder};
 pub use reply::Reply;

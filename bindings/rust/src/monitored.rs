@@ -2,15 +2,16 @@
 
 use crate::asked::Asked;
 use crate::book::Book;
-use crate::enforced::{CallerError, NotMade, OpenError, announce, open};
+use crate::enforced::{OpenError, open};
 use crate::kind::{Kind, Operation};
-use crate::library::{Idle, Judged, Table, Watching, Wrong};
+use crate::library::{Idle, Judged, Watching, Wrong};
+use crate::places::{CallerError, NotMade, Places, announce};
 use crate::reply::Reply;
+use std::convert::Infallible;
 use std::error::Error;
 use std::fmt;
 use std::marker::PhantomData;
 use std::mem::discriminant;
-use std::sync::{Mutex, MutexGuard, PoisonError};
 
 /// An object whose calls are published, and that monitors judge.
 ///
@@ -59,16 +60,8 @@ use std::sync::{Mutex, MutexGuard, PoisonError};
 /// is promised of when a monitor makes its rounds: a last one after all callers have ended judges every call.
 pub struct Monitored<K: Kind, O> {
     object: Asked<O>,
-    places: Mutex<Places>,
+    places: Places,
     kind: PhantomData<K>,
-}
-
-/// A table, and how many callers and monitors are left to give.
-#[derive(Debug)]
-struct Places {
-    table: Table,
-    callers: usize,
-    monitors: usize,
 }
 
 /// One caller of an object that monitors judge, for one thread at a time. Its place in the table isn't given again where
@@ -148,33 +141,20 @@ impl<K: Kind, O> Monitored<K, O> {
         let table = open::<K>(all, calls)?;
         Ok(Monitored {
             object: Asked::new(object),
-            places: Mutex::new(Places {
-                table,
-                callers,
-                monitors,
-            }),
+            places: Places::of(table, callers, monitors),
             kind: PhantomData,
         })
     }
 
-    fn places(&self) -> MutexGuard<'_, Places> {
-        // a caller that panics leaves the table whole
-        self.places.lock().unwrap_or_else(PoisonError::into_inner)
-    }
-
-    /// The next caller.
+    /// The next caller, which stays with a thread. The calls of others don't take it.
     ///
     /// # Errors
     ///
     /// Where the table has given all its callers, and for want of memory.
     pub fn caller(&self) -> Result<MonitoredCaller<K, O>, CallerError> {
-        let mut places = self.places();
-        let left = places.callers.checked_sub(1).ok_or(CallerError::NoneLeft)?;
-        let idle = places.table.caller()?;
-        places.callers = left;
         Ok(MonitoredCaller {
             object: self.object.share(),
-            idle: Some(idle),
+            idle: Some(self.places.caller()?),
             kind: PhantomData,
         })
     }
@@ -185,17 +165,49 @@ impl<K: Kind, O> Monitored<K, O> {
     ///
     /// Where the table has given all its monitors, and for want of memory.
     pub fn monitor(&self) -> Result<Monitor<K>, CallerError> {
-        let mut places = self.places();
-        let left = places
-            .monitors
-            .checked_sub(1)
-            .ok_or(CallerError::NoneLeft)?;
-        let watching = places.table.monitor()?;
-        places.monitors = left;
         Ok(Monitor {
-            stage: Some(Stage::Watching(watching)),
+            stage: Some(Stage::Watching(self.places.monitor()?)),
             kind: PhantomData,
         })
+    }
+
+    /// Makes a call of any caller of the table that is in none: asks the object by this closure, publishes its reply and
+    /// gives it. The calls of each kind, below, are made of it.
+    ///
+    /// Waits while all callers are in calls. So a call that is made amid another of the same thread may wait for itself.
+    /// Where a caller has made all its calls, another takes its place. Where the closure panics, the call stays unanswered,
+    /// and its caller makes no further call.
+    ///
+    /// # Errors
+    ///
+    /// See [`NotMade`].
+    pub fn call<R: Copy + Into<Reply>>(
+        &self,
+        op: K::Op,
+        ask: impl FnOnce(&O) -> R,
+    ) -> Result<R, NotMade> {
+        let Ok(reply) = self.try_call(op, |object| Ok::<_, Infallible>(ask(object)))?;
+        Ok(reply)
+    }
+
+    /// Makes a call of which it may stay unknown whether it had its effect, as after a timeout: as
+    /// [`call`](Monitored::call), but that with an error of the closure the call stays unanswered, and its caller makes no
+    /// further call.
+    ///
+    /// # Errors
+    ///
+    /// See [`NotMade`]; within, those of the closure.
+    pub fn try_call<R: Copy + Into<Reply>, E>(
+        &self,
+        op: K::Op,
+        ask: impl FnOnce(&O) -> Result<R, E>,
+    ) -> Result<Result<R, E>, NotMade> {
+        let (borrowed, announced) = self.places.announce(op.word())?;
+        let reply = self.object.ask(ask);
+        if let Ok(reply) = reply {
+            borrowed.hand_back(announced.publish(reply.into().word()));
+        }
+        Ok(reply)
     }
 }
 

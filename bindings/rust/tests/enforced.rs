@@ -1,8 +1,8 @@
 //! Objects whose calls check themselves: right ones of each kind, wrong ones, and callers at the end of what they may do.
 
 use selfcheck::{
-    CallError, CallerError, CasRegister, CasRegisterObject, Counter, CounterObject, Enforced,
-    EnforcedCaller, Map, MapObject, OpenError, PriorityQueue, PriorityQueueObject, Queue,
+    CallError, CallerError, CasRegister, CasRegisterObject, Counter, CounterObject, CounterOp,
+    Enforced, EnforcedCaller, Map, MapObject, OpenError, PriorityQueue, PriorityQueueObject, Queue,
     QueueObject, QueueOp, Register, RegisterObject, Reply, Set, SetObject, Stack, StackObject,
     Verdict,
 };
@@ -12,6 +12,7 @@ use std::panic::{AssertUnwindSafe, catch_unwind};
 use std::sync::atomic::{AtomicU32, Ordering::SeqCst};
 use std::sync::{Barrier, Mutex, RwLock};
 use std::thread;
+use std::time::Duration;
 
 /// A right object of each kind.
 #[derive(Default)]
@@ -451,4 +452,99 @@ fn callers_go_to_other_threads() {
     drop(counter);
     let last = thread::spawn(move || caller.inc()).join().unwrap();
     assert_eq!(last, Ok(1));
+}
+
+/// Calls on the object itself take any caller that is free, and another where its calls are made.
+#[test]
+fn any_thread_calls() {
+    let queue = Enforced::<Queue, _>::new(Right::<Mutex<VecDeque<u32>>>::default(), 4, 32).unwrap();
+    for _ in 0..4 {
+        thread::scope(|scope| {
+            for t in 0..8 {
+                let queue = &queue;
+                scope.spawn(move || {
+                    queue.enq(t).unwrap();
+                    queue.deq().unwrap();
+                });
+            }
+        });
+    }
+    let counter = Enforced::<Counter, _>::new(Right::<AtomicU32>::default(), 3, 2).unwrap();
+    let mut stays = counter.caller().unwrap();
+    for number in 0..4 {
+        assert_eq!(counter.inc(), Ok(number));
+    }
+    for _ in 0..2 {
+        assert_eq!(counter.inc(), Err(CallError::NoCallLeft));
+    }
+    assert_eq!(counter.caller().unwrap_err(), CallerError::NoneLeft);
+    assert_eq!(stays.inc(), Ok(4));
+}
+
+/// A call waits while the only caller is in another one.
+#[test]
+fn a_call_waits_for_a_caller() {
+    let counter = Enforced::<Counter, _>::new(Right::<AtomicU32>::default(), 1, 2).unwrap();
+    let (begun, has_ended) = (Barrier::new(2), AtomicU32::new(0));
+    thread::scope(|scope| {
+        scope.spawn(|| {
+            let first = counter.call(CounterOp::Inc, |inner| {
+                begun.wait();
+                thread::sleep(Duration::from_millis(20));
+                has_ended.store(1, SeqCst);
+                inner.inc()
+            });
+            assert_eq!(first, Ok(0));
+        });
+        begun.wait();
+        let second = counter.call(CounterOp::Inc, |inner| {
+            assert_eq!(has_ended.load(SeqCst), 1);
+            inner.inc()
+        });
+        assert_eq!(second, Ok(1));
+    });
+}
+
+/// A call that is lost keeps its caller, and so does one that panics; the thread goes on as another.
+#[test]
+fn lost_calls_keep_their_callers() {
+    for panics in [false, true] {
+        let queue =
+            Enforced::<Queue, _>::new(Right::<Mutex<VecDeque<u32>>>::default(), 2, 3).unwrap();
+        if panics {
+            let lost = catch_unwind(AssertUnwindSafe(|| {
+                queue.call(QueueOp::Enq(7), |inner| {
+                    inner.enq(7);
+                    fails();
+                })
+            }));
+            assert!(lost.is_err());
+        } else {
+            let lost = queue.try_call(QueueOp::Enq(7), |inner| {
+                inner.enq(7);
+                Err::<(), _>("timeout")
+            });
+            assert_eq!(lost, Ok(Err("timeout")));
+        }
+        assert_eq!(queue.deq(), Ok(Some(7)));
+        assert_eq!(queue.deq(), Ok(None));
+        assert_eq!(queue.deq(), Ok(None));
+        assert_eq!(queue.deq(), Err(CallError::NoCallLeft));
+    }
+}
+
+/// An error halts the caller that made the call, and the next call finds it again as another.
+#[test]
+fn an_error_is_found_by_each_caller() {
+    let queue = Enforced::<Queue, _>::new(Forgetful::default(), 2, 8).unwrap();
+    queue.enq(5).unwrap();
+    queue.enq(6).unwrap();
+    queue.deq().unwrap();
+    for calls in [4, 5] {
+        let Err(CallError::Illegal(book)) = queue.deq() else {
+            panic!("6 is lost");
+        };
+        assert_eq!(book.calls(), calls);
+    }
+    assert_eq!(queue.deq(), Err(CallError::NoCallLeft));
 }

@@ -2,8 +2,11 @@
 
 use selfcheck::{
     CallError, CallerError, Fault, Incomplete, JudgeError, NotMade, OpenError, Queue, Reply,
-    TooManyCallers, Verdict, What,
+    Verdict, What,
 };
+
+const NONE_LEFT: &str =
+    "the table has no further call: open it for more calls, or for more callers";
 
 type Call = CallError<Queue>;
 type Judge = JudgeError<Queue>;
@@ -47,21 +50,17 @@ fn what_a_caller_is_told() {
             Call::Unjudged(Reply::Value(5)),
             "out of memory: =5 isn't checked",
         ),
-        (Call::NoCallLeft, "the caller has made all its calls"),
-        (Call::Halted, "the caller is halted"),
-        (
-            Call::from(NotMade::NoCallLeft),
-            "the caller has made all its calls",
-        ),
-        (Call::from(NotMade::Halted), "the caller is halted"),
     ] {
         assert_eq!(error.to_string(), text);
     }
-    assert_eq!(
-        NotMade::NoCallLeft.to_string(),
-        "the caller has made all its calls"
-    );
-    assert_eq!(NotMade::Halted.to_string(), "the caller is halted");
+    for (error, text) in [
+        (NotMade::NoCallLeft, NONE_LEFT),
+        (NotMade::Halted, "the caller is halted"),
+        (NotMade::NoMemory, "out of memory: no call is made"),
+    ] {
+        assert_eq!(error.to_string(), text);
+        assert_eq!(Call::from(error).to_string(), text);
+    }
 }
 
 #[test]
@@ -78,22 +77,15 @@ fn what_the_owner_of_a_monitor_is_told() {
 
 #[test]
 fn what_the_owner_of_a_recorder_is_told() {
-    assert_eq!(TooManyCallers.to_string(), "a book has at most 16 callers");
     for (incomplete, text) in [
         (Incomplete::InUse { caller: 3 }, "caller 3 is still in use"),
         (
-            Incomplete::TooManyCalls {
-                caller: 3,
-                missing: 7,
+            Incomplete::TooLong {
+                kept: 4000,
+                left_out: 7,
             },
-            "caller 3 made 7 calls more than the 256 of a book",
-        ),
-        (
-            Incomplete::AfterUnanswered {
-                caller: 3,
-                missing: 7,
-            },
-            "caller 3 made 7 calls after one that stayed unanswered",
+            "a book has 16 callers with 256 calls each: the first 4000 calls fit, whose book `prefix` gives, and 7 don't; \
+             of a set or a map `by_key` gives a book for each key",
         ),
     ] {
         assert_eq!(incomplete.to_string(), text);

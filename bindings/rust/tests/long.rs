@@ -43,7 +43,7 @@ fn record<K: Kind, O: Sync>(
     thread::scope(|scope| {
         for t in 0..threads {
             let (object, step, start) = (&object, &step, &start);
-            let mut me = recorder.caller().unwrap();
+            let mut me = recorder.caller();
             scope.spawn(move || {
                 start.wait();
                 for i in 0..64 / threads {

@@ -261,3 +261,36 @@ fn callers_and_monitors_go_to_other_threads() {
         .join()
         .unwrap();
 }
+
+/// Calls on the object itself take any caller that is free; one that is lost keeps its caller.
+#[test]
+fn any_thread_calls() {
+    let queue =
+        Monitored::<Queue, _>::new(Right::<Mutex<VecDeque<u32>>>::default(), 5, 1, 16).unwrap();
+    let mut monitor = queue.monitor().unwrap();
+    let lost = queue.try_call(QueueOp::Enq(7), |_| Err::<(), _>("timeout"));
+    assert_eq!(lost, Ok(Err("timeout")));
+    for _ in 0..4 {
+        thread::scope(|scope| {
+            for t in 0..8 {
+                let queue = &queue;
+                scope.spawn(move || {
+                    queue.enq(t).unwrap();
+                    queue.deq().unwrap();
+                });
+            }
+        });
+        assert_eq!(monitor.judge(), Ok(()));
+    }
+    assert_eq!(queue.deq(), Err(NotMade::NoCallLeft));
+
+    let queue = Monitored::<Queue, _>::new(Forgetful::default(), 1, 1, 4).unwrap();
+    queue.enq(5).unwrap();
+    queue.enq(6).unwrap();
+    assert_eq!(queue.deq(), Ok(Some(5)));
+    assert_eq!(queue.deq(), Ok(None));
+    assert!(matches!(
+        queue.monitor().unwrap().judge(),
+        Err(JudgeError::Illegal(_))
+    ));
+}

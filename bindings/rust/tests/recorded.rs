@@ -2,7 +2,7 @@
 
 use selfcheck::{
     Book, CallError, CasRegister, Counter, Incomplete, JudgeError, Kind, Map, PriorityQueue, Queue,
-    QueueOp, Recorder, Register, Reply, Set, Stack, TooManyCallers, Verdict, order,
+    QueueOp, Recorder, Register, Reply, Set, Stack, Verdict, order,
 };
 use std::cmp::Reverse;
 use std::collections::{BinaryHeap, HashMap, HashSet, VecDeque};
@@ -16,8 +16,8 @@ use std::thread;
 fn a_lost_value_has_this_book() {
     let mut twins = [VecDeque::new(), VecDeque::new()];
     let recorder = Recorder::<Queue>::new();
-    let mut first = recorder.caller().unwrap();
-    let mut second = recorder.caller().unwrap();
+    let mut first = recorder.caller();
+    let mut second = recorder.caller();
     first.enq(5, || twins[0].push_back(5));
     assert_eq!(second.deq(|| twins[1].pop_front()), None);
     drop((first, second));
@@ -42,8 +42,8 @@ fn a_lost_value_has_this_book() {
 #[test]
 fn calls_that_overlap_may_stand_in_either_order() {
     let recorder = Recorder::<Queue>::new();
-    let mut first = recorder.caller().unwrap();
-    let mut second = recorder.caller().unwrap();
+    let mut first = recorder.caller();
+    let mut second = recorder.caller();
     let enq = first.invoke(QueueOp::Enq(5));
     let deq = second.invoke(QueueOp::Deq);
     enq.ret(());
@@ -60,7 +60,7 @@ fn a_certificate_is_accepted() {
     let recorder = Recorder::<Queue>::new();
     thread::scope(|scope| {
         for t in 0..4 {
-            let (queue, mut me) = (&queue, recorder.caller().unwrap());
+            let (queue, mut me) = (&queue, recorder.caller());
             scope.spawn(move || {
                 for i in 0..60 {
                     me.enq(100 * t + i, || queue.lock().unwrap().push_back(100 * t + i));
@@ -87,7 +87,7 @@ fn a_torn_counter_is_illegal() {
     let recorder = Recorder::<Counter>::new();
     thread::scope(|scope| {
         for _ in 0..2 {
-            let (counter, between, mut me) = (&counter, &between, recorder.caller().unwrap());
+            let (counter, between, mut me) = (&counter, &between, recorder.caller());
             scope.spawn(move || {
                 me.inc(|| {
                     let number = counter.load(SeqCst);
@@ -109,7 +109,7 @@ fn each_kind_has_its_operations() {
         ($kind:ty, |$me:ident, $is:ident| $calls:expr) => {
             for (right, verdict) in [(true, Verdict::Legal), (false, Verdict::Illegal)] {
                 let recorder = Recorder::<$kind>::new();
-                let mut $me = recorder.caller().unwrap();
+                let mut $me = recorder.caller();
                 let $is = |value: u32| if right { value } else { value + 1 };
                 $calls;
                 drop($me);
@@ -183,14 +183,14 @@ fn right_objects_of_all_kinds_are_legal() {
     let maps = Recorder::<Map>::new();
     thread::scope(|scope| {
         for t in 0..3 {
-            let mut q = queues.caller().unwrap();
-            let mut s = stacks.caller().unwrap();
-            let mut r = registers.caller().unwrap();
-            let mut c = counters.caller().unwrap();
-            let mut e = sets.caller().unwrap();
-            let mut h = heaps.caller().unwrap();
-            let mut w = words.caller().unwrap();
-            let mut m = maps.caller().unwrap();
+            let mut q = queues.caller();
+            let mut s = stacks.caller();
+            let mut r = registers.caller();
+            let mut c = counters.caller();
+            let mut e = sets.caller();
+            let mut h = heaps.caller();
+            let mut w = words.caller();
+            let mut m = maps.caller();
             let (queue, stack, register, counter) = (&queue, &stack, &register, &counter);
             let (set, heap, word, map) = (&set, &heap, &word, &map);
             scope.spawn(move || {
@@ -239,8 +239,8 @@ fn right_objects_of_all_kinds_are_legal() {
 fn an_object_with_contents_is_filled_before() {
     let mut queue = VecDeque::from([7]);
     let recorder = Recorder::<Queue>::new();
-    recorder.caller().unwrap().enq(7, || ());
-    recorder.caller().unwrap().deq(|| queue.pop_front());
+    recorder.caller().enq(7, || ());
+    recorder.caller().deq(|| queue.pop_front());
     assert_eq!(recorder.book().unwrap().verify(), Ok(Verdict::Legal));
 }
 
@@ -248,10 +248,10 @@ fn an_object_with_contents_is_filled_before() {
 fn an_unanswered_call_may_stand_or_not() {
     for reply in [Some(7), None] {
         let recorder = Recorder::<Queue>::new();
-        let mut first = recorder.caller().unwrap();
+        let mut first = recorder.caller();
         drop(first.invoke(QueueOp::Enq(7)));
         drop(first);
-        recorder.caller().unwrap().deq(|| reply);
+        recorder.caller().deq(|| reply);
         let book = recorder.book().unwrap();
         assert!(book.to_string().contains("\n0 0 enq 7\n"));
         assert_eq!(book.verify(), Ok(Verdict::Legal));
@@ -261,7 +261,7 @@ fn an_unanswered_call_may_stand_or_not() {
 #[test]
 fn a_call_that_panics_stays_unanswered() {
     let recorder = Recorder::<Queue>::new();
-    let mut me = recorder.caller().unwrap();
+    let mut me = recorder.caller();
     let panics = catch_unwind(AssertUnwindSafe(|| {
         me.enq(7, || panic!("the object fails"))
     }));
@@ -277,9 +277,9 @@ fn a_call_that_panics_stays_unanswered() {
 }
 
 #[test]
-fn no_call_is_left_out_unsaid() {
+fn a_caller_in_use_is_told() {
     let recorder = Recorder::<Counter>::new();
-    let mut me = recorder.caller().unwrap();
+    let mut me = recorder.caller();
     assert_eq!(
         recorder.book().unwrap_err(),
         Incomplete::InUse { caller: 0 }
@@ -289,34 +289,6 @@ fn no_call_is_left_out_unsaid() {
     }
     drop(me);
     assert_eq!(recorder.book().unwrap().verify(), Ok(Verdict::Legal));
-
-    let recorder = Recorder::<Counter>::new();
-    let mut me = recorder.caller().unwrap();
-    for number in 0..259 {
-        me.inc(|| number);
-    }
-    drop(me);
-    let beyond = Incomplete::TooManyCalls {
-        caller: 0,
-        missing: 3,
-    };
-    assert_eq!(recorder.book().unwrap_err(), beyond);
-    assert_eq!(
-        beyond.to_string(),
-        "caller 0 made 3 calls more than the 256 of a book"
-    );
-
-    let recorder = Recorder::<Queue>::new();
-    recorder.caller().unwrap().enq(1, || ());
-    let mut me = recorder.caller().unwrap();
-    drop(me.invoke(QueueOp::Deq));
-    me.deq(|| Some(1));
-    drop(me);
-    let after = Incomplete::AfterUnanswered {
-        caller: 1,
-        missing: 1,
-    };
-    assert_eq!(recorder.book().unwrap_err(), after);
 }
 
 #[test]
@@ -328,18 +300,20 @@ fn a_book_has_one_to_sixteen_callers() {
         "book 2\nobject map\ncallers 1\ncalls 0\nend\n"
     );
     assert_eq!(book.verify(), Ok(Verdict::Legal));
-    for _ in 0..16 {
-        drop(recorder.caller().unwrap());
+    for (callers, shown) in [(16, 16), (17, 1)] {
+        let recorder = Recorder::<Map>::new();
+        (0..callers).for_each(|_| drop(recorder.caller()));
+        let book = recorder.book().unwrap();
+        assert!(book.as_str().contains(&format!("\ncallers {shown}\n")));
+        assert_eq!(book.verify(), Ok(Verdict::Legal));
     }
-    assert_eq!(recorder.caller().unwrap_err(), TooManyCallers);
-    assert_eq!(recorder.book().unwrap().verify(), Ok(Verdict::Legal));
 }
 
 #[test]
 fn a_reply_that_no_object_of_the_kind_gives_is_illegal() {
     for reply in [Reply::Bad, Reply::Yes, Reply::None] {
         let recorder = Recorder::<Queue>::new();
-        let mut me = recorder.caller().unwrap();
+        let mut me = recorder.caller();
         me.invoke(QueueOp::Enq(1)).ret(reply);
         drop(me);
         assert_eq!(recorder.book().unwrap().verify(), Ok(Verdict::Illegal));
@@ -362,7 +336,7 @@ fn are_equal<K: Kind>(one: &Book<K>, other: &Book<K>) -> bool {
 fn books_and_errors_compare() {
     let book_of = |value| {
         let recorder = Recorder::<Queue>::new();
-        recorder.caller().unwrap().enq(value, || ());
+        recorder.caller().enq(value, || ());
         recorder.book().unwrap()
     };
     assert!(are_equal(&book_of(1), &book_of(1)));

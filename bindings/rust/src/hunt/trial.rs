@@ -113,13 +113,7 @@ impl<K: Kind> Trial<K> {
 /// A recorder with a caller for each of the script's.
 pub(crate) fn recorder_of<K: Kind>(script: &Script<K>) -> (Recorder<K>, Vec<Caller<K>>) {
     let recorder = Recorder::new();
-    let callers = (script.callers.iter())
-        .map(|_| {
-            recorder
-                .caller()
-                .expect("a script has no more callers than a book")
-        })
-        .collect();
+    let callers = (script.callers.iter()).map(|_| recorder.caller()).collect();
     (recorder, callers)
 }
 
