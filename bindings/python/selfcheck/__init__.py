@@ -2,30 +2,48 @@
 
     queue, recorder = collections.deque(), selfcheck.Recorder("queue")
 
-    def work(me):
-        me.call("enq", 5, lambda: queue.append(5))
-        me.call("deq", lambda: queue.popleft() if queue else None)
+    def work():
+        recorder.call("enq", 5, lambda: queue.append(5))
+        recorder.call("deq", lambda: queue.popleft() if queue else None)
 
-    threads = [threading.Thread(target=work, args=(recorder.caller(),)) for _ in range(4)]
+    threads = [threading.Thread(target=work) for _ in range(4)]
     ...
     print(selfcheck.verify(recorder.book()))
 
 The verdict on a book is proved; the recorder is tested. docs/FORMATS.md has the kinds, their operations and the texts.
 """
 
-import bisect
+import contextlib
 import ctypes
 import itertools
 import os
 import sys
 import threading
 
-__all__ = ["Caller", "Incomplete", "Recorder", "Refused", "certify", "explain", "order", "picture", "smaller", "verify"]
+from .history import MAX_CALLERS, MAX_CALLS, Known, Prefix, prefix_of
+
+__all__ = [
+    "Caller",
+    "Enforced",
+    "EnforcedCaller",
+    "Illegal",
+    "Incomplete",
+    "NoCallLeft",
+    "Prefix",
+    "Recorder",
+    "Refused",
+    "certify",
+    "explain",
+    "order",
+    "picture",
+    "smaller",
+    "verify",
+]
 
 __version__ = "0.1.0"
 
-MAX_CALLERS = 16
-MAX_CALLS = 256
+# A call isn't recorded from this moment on, so that a recorder takes some 200 MB at the most.
+_LAST_MOMENT = 2**20
 
 # What the library tells of a text that it refuses, by its numbers.
 _WHATS = (
@@ -45,7 +63,15 @@ class Refused(ValueError):
 
 
 class Incomplete(Exception):
-    """A call isn't recorded, and without it a right object could look wrong."""
+    """The calls of a recorder don't fit a book: how many of the first do, whose book `prefix` gives, and how many don't."""
+
+    def __init__(self, kept, left_out):
+        super().__init__(
+            f"a book has {MAX_CALLERS} callers with {MAX_CALLS} calls each: the first {kept} calls fit, whose book `prefix` "
+            f"gives, and {left_out} don't; of a set or a map `by_key` gives a book for each key"
+        )
+        self.kept = kept
+        self.left_out = left_out
 
 
 class _Refusal(ctypes.Structure):
@@ -186,6 +212,23 @@ _KINDS = {
 }
 
 
+class _Operation:
+    """An operation with its arguments. Raises `ValueError` and `TypeError` where it is none of the kind's."""
+
+    def __init__(self, kind, op, arguments):
+        operations = _KINDS[kind]
+        if op not in operations:
+            raise ValueError(f"no operation {op!r}: {', '.join(operations)}")
+        count, self.reply = operations[op]
+        if len(arguments) != count:
+            raise TypeError(f"{op} has {count} arguments")
+        numbers = [_number(value) for value in arguments]
+        self.text = " ".join([op, *map(str, numbers)])
+        first, second = [*numbers, 0, 0][:2]
+        # as a table has them: the code of the operation and the first argument, and the second one
+        self.words = ((list(operations).index(op) + 1 << 32) + first, second)
+
+
 def _clock():
     tick = itertools.count().__next__
     # one step of it is one step under the interpreter's lock, where there is one
@@ -200,73 +243,14 @@ def _clock():
     return locked
 
 
-class Recorder:
-    """Records the calls that up to 16 threads make to one object of a kind, which is at first as its kind is.
-
-    A reply of a form that the kind never gives to the operation, such as a value to a put of a queue, is found before
-    an order is looked for, and makes the book illegal, whatever the other calls are.
-    """
-
-    def __init__(self, kind):
-        if kind not in _KINDS:
-            raise ValueError(f"no kind {kind!r}: {', '.join(_KINDS)}")
-        self._kind = kind
-        self._callers = []
-        self._lock = threading.Lock()
-        self._tick = _clock()
-
-    def caller(self):
-        """A further caller, for one thread."""
-        with self._lock:
-            if len(self._callers) == MAX_CALLERS:
-                raise OverflowError(f"a book has at most {MAX_CALLERS} callers")
-            self._callers.append(Caller(self._kind, self._tick))
-            return self._callers[-1]
-
-    def book(self):
-        """The text of the book of all calls. Its threads have to be joined before. Raises `Incomplete`."""
-        with self._lock:
-            pages = [caller._handed_in(number) for number, caller in enumerate(self._callers)] or [[]]
-        invoked = [[call.invoked for call in calls] for calls in pages]
-        lines = [
-            "book 2",
-            f"object {self._kind}",
-            f"callers {len(pages)}",
-            " ".join(["calls", *(str(len(calls)) for calls in pages)]),
-        ]
-        for caller, calls in enumerate(pages):
-            for number, call in enumerate(calls):
-                words = [str(caller), str(number), call.op]
-                if call.returned is not None:
-                    # the view: how many calls of each caller were invoked before this one returned
-                    counts = [bisect.bisect_left(moments, call.returned) for moments in invoked]
-                    words += [call.reply, "view", *(f"{j}:{c}" for j, c in enumerate(counts) if c)]
-                lines.append(" ".join(words))
-        return "\n".join([*lines, "end", ""])
-
-
-class _Call:
-    __slots__ = ("op", "invoked", "returned", "reply")
-
-    def __init__(self, op, invoked):
-        self.op = op
-        self.invoked = invoked
-        self.returned = self.reply = None
-
-
-class Caller:
-    """One caller of the object, for one thread."""
-
-    def __init__(self, kind, tick):
-        self._operations = _KINDS[kind]
-        self._tick = tick
-        self._calls = []
-        self._missing = 0
+class _Calls:
+    """What makes calls and records them."""
 
     def call(self, op, *arguments_and_call):
         """Makes a call and records it: the operation's name, its arguments, and what makes the object's own call.
 
-        Gives back what that returned. Where it raises, the call stays unanswered, which is what happened.
+        Gives back what that returned. Where it raises, as after a timeout, the call never returns, and so may have had its
+        effect or not.
         """
         *arguments, make = arguments_and_call
         ret = self.invoke(op, *arguments)
@@ -274,29 +258,138 @@ class Caller:
         ret(value)
         return value
 
+
+class Recorder(_Calls):
+    """Records the calls that threads make to one object of a kind, which is at first as its kind is.
+
+    A call is made on the recorder itself, by any thread or task, or by a caller that stays with a thread. A book has 16
+    callers, with 256 calls each. Which caller has which call is settled when the book is made, and changes no verdict:
+    what counts is which calls ended before which others began. A caller of a thread is a caller of the book, in the order
+    in which they were made, where there are no more than a book has and as long as it is free. Any other call has a caller
+    that is in no call, and has had fewer calls than 256. A call that never returns keeps its caller; if it only reads, it
+    is in no book. Where a call finds no free caller, the calls up to this one are what fits a book.
+
+    With a number of `open_calls` the recorder's own calls wait, so that so many are open at once at the most. Where more
+    threads call than a book has callers, their calls fit it only so. A call that never returns lets the next one in.
+
+    A reply of a form that the kind never gives to the operation, such as a value to a put of a queue, is found before
+    an order is looked for, and makes the book illegal, whatever the other calls are.
+    """
+
+    def __init__(self, kind, open_calls=None):
+        if kind not in _KINDS:
+            raise ValueError(f"no kind {kind!r}: {', '.join(_KINDS)}")
+        if open_calls is not None and open_calls < 1:
+            raise ValueError(f"{open_calls} calls can't be open at once")
+        self._kind = kind
+        self._lock = threading.Lock()
+        self._callers = 0
+        self._calls = []
+        self._beyond = 0
+        self._tick = _clock()
+        self._open = threading.Semaphore(open_calls) if open_calls else contextlib.nullcontext()
+
+    def caller(self):
+        """A further caller, which stays with a thread."""
+        with self._lock:
+            self._callers += 1
+            return Caller(self, self._callers - 1)
+
+    def call(self, op, *arguments_and_call):
+        with self._open:
+            return super().call(op, *arguments_and_call)
+
     def invoke(self, op, *arguments):
-        """Invokes a call, right before the object's own. What it gives is to be called with what that returned."""
-        if op not in self._operations:
-            raise ValueError(f"no operation {op!r}: {', '.join(self._operations)}")
-        count, written = self._operations[op]
-        if len(arguments) != count:
-            raise TypeError(f"{op} has {count} arguments")
-        text = " ".join([op, *(str(_number(value)) for value in arguments)])
-        if len(self._calls) == MAX_CALLS or (self._calls and self._calls[-1].returned is None):
-            self._missing += 1
+        """Invokes a call, right before the object's own. What it gives is to be called with what that returned, by any
+        thread."""
+        return self._invoke(None, op, arguments)
+
+    async def call_async(self, op, *arguments_and_call):
+        """Makes a call and records it, with what the awaitable gives as the reply, which stands last and is to do nothing
+        before it is awaited. Where this is cancelled amid it, the call never returns."""
+        *arguments, make = arguments_and_call
+        ret = self.invoke(op, *arguments)
+        value = await make
+        ret(value)
+        return value
+
+    def book(self):
+        """The text of the book of all calls. What is called meanwhile is in it as far as it has come. Raises `Incomplete`
+        where they don't fit one."""
+        book, kept, left_out = self.prefix()
+        if left_out:
+            raise Incomplete(kept, left_out)
+        return book
+
+    def prefix(self):
+        """The book of all calls where they fit one, and else that of the first of them: those before the first that finds
+        no caller. Of these it leaves out the last ones again where half of them at least come before a moment at which no
+        call was open, but such as never return: so no call of the book lacks a reply for the cut alone."""
+        return prefix_of(self._kind, self._known(), self._callers, self._beyond)
+
+    def by_key(self):
+        """The prefix of the calls with each key of a set or a map: so the limits of a book hold for each key.
+
+        All calls together have a legal order exactly where those of each key have one (Herlihy and Wing 1990, theorem 1).
+        It is so of any book each of whose views holds at most one unanswered call of each caller, and in a recorder's book
+        a caller has at most one, its last.
+        """
+        if self._kind not in ("set", "map"):
+            raise TypeError(f"the calls of a {self._kind} have no keys")
+        parts = {}
+        for call in self._known():
+            parts.setdefault(int(call.op.split()[1]), []).append(call)
+        return {key: prefix_of(self._kind, calls, self._callers, self._beyond) for key, calls in parts.items()}
+
+    def _known(self):
+        moment = min(self._tick(), _LAST_MOMENT)
+        return [call.at(moment) for call in self._calls if call.invoked < moment]
+
+    def _invoke(self, own, op, arguments):
+        operation = _Operation(self._kind, op, arguments)
+        invoked = self._tick()
+        if invoked >= _LAST_MOMENT:
+            with self._lock:
+                self._beyond += 1
             return lambda value: None
-        call = _Call(text, None)
+        call = _Call(operation.text, own, invoked)
+        # one step of a list; a book that is made before it knows nothing that comes after it
         self._calls.append(call)
 
         def ret(value):
             returned = self._tick()
-            call.reply = written(value)
+            call.reply = operation.reply(value)
             call.returned = returned
 
-        call.invoked = self._tick()
         return ret
 
-    def _handed_in(self, number):
-        if self._missing:
-            raise Incomplete(f"caller {number}: {self._missing} calls aren't recorded, beyond {MAX_CALLS} or after one that stayed unanswered")
-        return self._calls
+
+class _Call:
+    __slots__ = ("op", "own", "invoked", "returned", "reply")
+
+    def __init__(self, op, own, invoked):
+        self.op = op
+        self.own = own
+        self.invoked = invoked
+        self.returned = self.reply = None
+
+    def at(self, moment):
+        """What is known of it at a moment."""
+        returned = self.returned
+        return Known(self.invoked, returned, self.op, self.reply, self.own).at(moment)
+
+
+class Caller(_Calls):
+    """One caller of the object, for one thread."""
+
+    def __init__(self, recorder, number):
+        self._recorder = recorder
+        self._number = number
+
+    def invoke(self, op, *arguments):
+        """Invokes a call, right before the object's own. What it gives is to be called with what that returned."""
+        return self._recorder._invoke(self._number, op, arguments)
+
+
+# last, since it takes what stands above
+from .enforced import Enforced, EnforcedCaller, Illegal, NoCallLeft  # noqa: E402

@@ -3,7 +3,7 @@
 import functools
 import keyword
 
-from .. import Incomplete, Recorder, verify
+from .. import Recorder, verify
 from . import chooser, endings, opcodes
 from .run import START, WOKEN, Run, current
 from .script import Script, text_of
@@ -137,11 +137,7 @@ class Hunter:
                 run.join(number)
 
         run.whole(body)
-        try:
-            book = recorder.book()
-        except Incomplete:
-            book = None
-        return Trial(script, run, book, getattr(how, "legs", None))
+        return Trial(script, run, recorder.book(), getattr(how, "legs", None))
 
     # The schedule of a run. The first one is a walk, and tells how many turns the others may have.
     def _chooser(self, run, calls, draw):
