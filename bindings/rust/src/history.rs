@@ -15,7 +15,8 @@ use std::collections::BTreeMap;
 pub struct Prefix<K: Kind> {
     /// Their book.
     pub book: Book<K>,
-    /// How many calls aren't in it: those that were invoked later, and reads that had no reply then.
+    /// How many calls aren't in it: those that were invoked later, and reads that had no reply
+    /// then.
     pub left_out: usize,
 }
 

@@ -1,4 +1,5 @@
-//! The places of a table: who takes which, and the callers that are free for any thread's next call.
+//! The places of a table: who takes which, and the callers that are free for any thread's next
+//! call.
 
 use crate::library::{Announced, Idle, Lack, Table, Watching};
 use std::error::Error;
@@ -39,8 +40,8 @@ impl From<Lack> for CallerError {
 #[derive(Clone, Copy, Debug, PartialEq, Eq)]
 #[non_exhaustive]
 pub enum NotMade {
-    /// The caller has made all the calls that its table has for it; of a call on the object itself, each caller of the
-    /// table has made its calls, or is given away, or halted.
+    /// The caller has made all the calls that its table has for it; of a call on the object itself,
+    /// each caller of the table has made its calls, or is given away, or halted.
     NoCallLeft,
     /// An earlier call of the caller panicked or stayed without a reply, or was an error.
     Halted,
@@ -74,7 +75,8 @@ struct Taken {
     table: Table,
     callers_left: usize,
     monitors_left: usize,
-    // the last one that has ended a call is the next one that makes one: so there are as few as can be
+    // the last one that has ended a call is the next one that makes one: so there are as few as can
+    // be
     free: Vec<Idle>,
     // how many make a call, and may be free again
     calling: usize,

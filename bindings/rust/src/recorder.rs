@@ -44,8 +44,9 @@ const SHARDS: usize = 32;
 /// may have had their effect or not, at any time since. The thread goes on with further calls. Such
 /// a call that only reads is in no book.
 ///
-/// A reply of a form that the kind never gives to the operation, such as `None` to a read of a register, is found
-/// before an order is looked for, and makes the book illegal, whatever the other calls are.
+/// A reply of a form that the kind never gives to the operation, such as `None` to a read of a
+/// register, is found before an order is looked for, and makes the book illegal, whatever the other
+/// calls are.
 #[derive(Clone, Debug)]
 pub struct Recorder<K: Kind> {
     shared: Arc<Shared<K>>,
@@ -112,7 +113,8 @@ struct Log<K: Kind> {
 #[repr(align(128))]
 struct Shard<K: Kind>(Mutex<Log<K>>);
 
-// Where a call that is made on a recorder is written down, if it is: its shard, and its number there.
+// Where a call that is made on a recorder is written down, if it is: its shard, and its number
+// there.
 #[derive(Clone, Copy, Debug)]
 struct Line {
     shard: usize,
@@ -353,7 +355,8 @@ impl<K: Kind> Recorder<K> {
         Ok(self.history()?.prefix())
     }
 
-    /// The [`prefix`](Recorder::prefix) of the calls with each key: so the limits of a book hold for each key.
+    /// The [`prefix`](Recorder::prefix) of the calls with each key: so the limits of a book hold
+    /// for each key.
     ///
     /// All calls together have a legal order exactly where those of each key have one (Herlihy and
     /// Wing 1990, theorem 1). It is so of any book each of whose views holds at most one unanswered
