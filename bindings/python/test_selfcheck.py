@@ -242,6 +242,52 @@ class Lanes(unittest.TestCase):
             asyncio.run(all_lives())
             self.assertEqual(selfcheck.verify(recorder.book()), not is_torn)
 
+    # Books that are made while threads call a right queue, and the last one after that.
+    def test_books_amid_calls(self):
+        recorder, queue, lock = selfcheck.Recorder("queue"), collections.deque(), threading.Lock()
+
+        def take():
+            with lock:
+                return queue.popleft() if queue else None
+
+        def work(t):
+            for value in range(100 * t, 100 * t + 40):
+                recorder.call("enq", value, lambda: queue.append(value))
+                recorder.call("deq", take)
+                time.sleep(0)
+
+        threads = [threading.Thread(target=work, args=[t]) for t in range(4)]
+        for thread in threads:
+            thread.start()
+        counts = []
+        while not counts or any(thread.is_alive() for thread in threads):
+            first = recorder.prefix()
+            self.assertTrue(selfcheck.verify(first.book), first.book)
+            counts.append(first.kept)
+        self.assertEqual(counts, sorted(counts))
+        for thread in threads:
+            thread.join()
+        self.assertEqual(recorder.prefix()[1:], (320, 0))
+        self.assertTrue(selfcheck.verify(recorder.book()))
+
+    def test_cancelled_task(self):
+        recorder = selfcheck.Recorder("queue")
+
+        async def enq():
+            await asyncio.Event().wait()
+
+        async def cancel():
+            task = asyncio.ensure_future(recorder.call_async("enq", 7, enq()))
+            await asyncio.sleep(0)
+            task.cancel()
+            with self.assertRaises(asyncio.CancelledError):
+                await task
+            recorder.call("deq", lambda: 7)
+
+        asyncio.run(cancel())
+        wanted = "callers 2\ncalls 1 1\n0 0 enq 7\n1 0 deq =7 view 0:1 1:1\nend\n"
+        self.assertTrue(recorder.book().endswith(wanted), recorder.book())
+
     def test_open_calls(self):
         recorder, numbers, lock = selfcheck.Recorder("counter", open_calls=3), [0, 0], threading.Lock()
 

@@ -267,7 +267,8 @@ class Recorder(_Calls):
     what counts is which calls ended before which others began. A caller of a thread is a caller of the book, in the order
     in which they were made, where there are no more than a book has and as long as it is free. Any other call has a caller
     that is in no call, and has had fewer calls than 256. A call that never returns keeps its caller; if it only reads, it
-    is in no book. Where a call finds no free caller, the calls up to this one are what fits a book.
+    is in no book. Where a call finds no free caller, the calls up to this one are what fits a book. A recorder keeps the
+    calls of its first million moments, of which a call has two.
 
     With a number of `open_calls` the recorder's own calls wait, so that so many are open at once at the most. Where more
     threads call than a book has callers, their calls fit it only so. A call that never returns lets the next one in.
@@ -332,7 +333,7 @@ class Recorder(_Calls):
 
         All calls together have a legal order exactly where those of each key have one (Herlihy and Wing 1990, theorem 1).
         It is so of any book each of whose views holds at most one unanswered call of each caller, and in a recorder's book
-        a caller has at most one, its last.
+        a caller has at most one, its last. Calls that the recorder no longer keeps are left out of each key.
         """
         if self._kind not in ("set", "map"):
             raise TypeError(f"the calls of a {self._kind} have no keys")

@@ -117,7 +117,7 @@ class Enforced:
     def _caller(self):
         handle = _Handle()
         status = _library.selfcheck_caller(self._table.slot, handle.slot)
-        lack = NoCallLeft("the table has given all its callers")
+        lack = NoCallLeft("the table has given all its callers: open it for more, up to 16")
         return EnforcedCaller(self._kind, _filled(handle, status, lack), self._fence)
 
     def call(self, op, *arguments_and_call):
@@ -145,7 +145,8 @@ class Enforced:
                 except NoCallLeft:
                     if not self._calling:
                         raise NoCallLeft(
-                            "the table has no further call: open it for more calls, or for more callers"
+                            "the table has no further call: open it for more callers, up to 16, or for more calls, "
+                            "up to 256 each"
                         ) from None
                     self._changed.wait()
 

@@ -1,8 +1,9 @@
 //! Books: what callers did, as a value and as a text.
 
 use crate::fault::{Fault, Verdict};
-use crate::kind::{Kind, Operation};
+use crate::kind::Kind;
 use crate::library::{certify, explain, picture, smaller, verify};
+use crate::record::Call;
 use crate::reply::Reply;
 use std::fmt;
 use std::marker::PhantomData;
@@ -15,34 +16,11 @@ pub struct Book<K: Kind> {
     kind: PhantomData<K>,
 }
 
-// A call, with the moment of its invocation, and with that of its return and its reply where it is answered.
-#[derive(Clone, Copy, Debug)]
-pub(crate) struct Call<K: Kind> {
-    pub op: K::Op,
-    pub invoked: u64,
-    pub answer: Option<(u64, Reply)>,
-}
-
-impl<K: Kind> Call<K> {
-    // What is known of it at a moment: nothing where it was invoked later, and where it only reads
-    // and has no reply by then. Such a call changes no verdict: an order that has it is one without
-    // it too.
-    pub(crate) fn at(mut self, moment: u64) -> Option<Call<K>> {
-        self.answer = self.answer.filter(|(returned, _)| *returned < moment);
-        let is_known = self.invoked < moment && (self.answer.is_some() || !self.op.is_read_only());
-        is_known.then_some(self)
-    }
-
-    pub(crate) fn precedes(&self, other: &Call<K>) -> bool {
-        (self.answer).is_some_and(|(returned, _)| returned < other.invoked)
-    }
-}
-
 impl<K: Kind> Book<K> {
     // The calls of each of its callers, at least one; the moments of all are different, and the
     // calls of a caller are one after another.
-    pub(crate) fn of_calls(callers: &[Vec<Call<K>>]) -> Book<K> {
-        Book::of_text(Pages { callers }.to_string())
+    pub(crate) fn of_calls(callers: &[Vec<Call<K::Op, Reply>>]) -> Book<K> {
+        Book::of_text(Pages::<K> { callers }.to_string())
     }
 
     // The text is that of a book of this kind.
@@ -136,7 +114,7 @@ impl<K: Kind> fmt::Display for Book<K> {
 }
 
 struct Pages<'a, K: Kind> {
-    callers: &'a [Vec<Call<K>>],
+    callers: &'a [Vec<Call<K::Op, Reply>>],
 }
 
 impl<K: Kind> Pages<'_, K> {

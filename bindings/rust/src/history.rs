@@ -1,90 +1,84 @@
 //! Histories: recorded calls with their moments, and the callers that they have in a book.
 
-use crate::book::{Book, Call};
-use crate::kind::{Keyed, Kind};
+use crate::record::Call;
 use crate::recorder::{MAX_CALLERS, MAX_CALLS};
 use std::collections::BTreeMap;
 
-/// The first calls of a history, as many as fit a book.
-///
-/// Where their book has no legal order, the whole history has none, since what was done before a
-/// moment is linearizable wherever the whole is (Herlihy and Wing 1990). Where it has one, nothing
-/// is said of the calls that were left out.
-#[derive(Clone, Debug)]
-#[non_exhaustive]
-pub struct Prefix<K: Kind> {
-    /// Their book.
-    pub book: Book<K>,
-    /// How many calls aren't in it: those that were invoked later, and reads that had no reply
-    /// then.
-    pub left_out: usize,
-}
-
-/// A call, and which of the callers that stay with a thread has made it, if one has.
-#[derive(Clone, Copy, Debug)]
-pub(crate) struct Recorded<K: Kind> {
-    pub call: Call<K>,
-    pub own: Option<usize>,
-}
-
-/// What is known at a moment.
+/// Recorded calls.
 #[derive(Debug)]
-pub(crate) struct History<K: Kind> {
+pub(crate) struct History<O, R> {
     // in the order of their invocations
-    calls: Vec<Recorded<K>>,
+    calls: Vec<Call<O, R>>,
     // how many callers stay with a thread
     own: usize,
     // how many calls were made after the last one that is recorded
     beyond: usize,
+    // whether an operation changes no object, whatever its reply is
+    is_read_only: fn(&O) -> bool,
 }
 
-// The calls of each caller of a book.
-type Pages<K> = Vec<Vec<Call<K>>>;
+/// The calls of each caller of a book.
+pub(crate) type Pages<O, R> = Vec<Vec<Call<O, R>>>;
 
-impl<K: Kind> History<K> {
-    pub(crate) fn at(
-        moment: u64,
+impl<O: Clone, R: Clone> History<O, R> {
+    pub(crate) fn new(
+        mut calls: Vec<Call<O, R>>,
         own: usize,
-        calls: impl IntoIterator<Item = Recorded<K>>,
         beyond: usize,
-    ) -> History<K> {
-        let known = |it: Recorded<K>| {
-            let call = it.call.at(moment)?;
-            Some(Recorded { call, ..it })
-        };
-        let mut calls: Vec<_> = calls.into_iter().filter_map(known).collect();
-        calls.sort_unstable_by_key(|it| it.call.invoked);
-        History { calls, own, beyond }
+        is_read_only: fn(&O) -> bool,
+    ) -> History<O, R> {
+        calls.sort_unstable_by_key(|call| call.invoked);
+        History {
+            calls,
+            own,
+            beyond,
+            is_read_only,
+        }
+    }
+
+    /// What was known of it at a moment.
+    pub(crate) fn at(mut self, moment: u64) -> History<O, R> {
+        let known = |call: &Call<O, R>| self.call_at(call, moment);
+        self.calls = self.calls.iter().filter_map(known).collect();
+        self
+    }
+
+    // What was known of a call at a moment: nothing where it was invoked later, and where it only
+    // reads and had no reply by then. Such a call changes no verdict: an order that has it is one
+    // without it too.
+    fn call_at(&self, call: &Call<O, R>, moment: u64) -> Option<Call<O, R>> {
+        let answer = (call.answer.clone()).filter(|(returned, _)| *returned < moment);
+        let is_known = answer.is_some() || !(self.is_read_only)(&call.op);
+        (call.invoked < moment && is_known).then(|| Call {
+            answer,
+            ..call.clone()
+        })
     }
 
     /// The history of each key. What isn't recorded may be of any.
-    pub(crate) fn by_key(self) -> BTreeMap<u32, History<K>>
-    where
-        K: Keyed,
-    {
+    pub(crate) fn by_key<Q: Ord>(self, key: impl Fn(&O) -> Q) -> BTreeMap<Q, History<O, R>> {
         let mut parts = BTreeMap::new();
-        for it in self.calls {
+        for call in self.calls {
             let none = || History {
                 calls: Vec::new(),
                 ..self
             };
-            let part = parts.entry(K::key(it.call.op)).or_insert_with(none);
-            part.calls.push(it);
+            let part = parts.entry(key(&call.op)).or_insert_with(none);
+            part.calls.push(call);
         }
         parts
     }
 
-    /// The book of as many of the first calls as fit one.
-    pub(crate) fn prefix(&self) -> Prefix<K> {
+    /// As many of the first calls as fit a book, and how many others there are.
+    pub(crate) fn prefix(&self) -> (Pages<O, R>, usize) {
         let pages = self.all_pages().unwrap_or_else(|| self.first_pages());
-        let book = Book::of_calls(&pages);
-        let left_out = self.calls.len() + self.beyond - book.calls();
-        Prefix { book, left_out }
+        let kept: usize = pages.iter().map(Vec::len).sum();
+        (pages, self.calls.len() + self.beyond - kept)
     }
 
     // All calls, where they fit: the callers of threads have their own numbers if they can, and
     // there are as few others as can be.
-    fn all_pages(&self) -> Option<Pages<K>> {
+    fn all_pages(&self) -> Option<Pages<O, R>> {
         [self.own, 0].into_iter().find_map(|own| {
             (own.max(1)..=MAX_CALLERS).find_map(|callers| {
                 let (pages, placed) = self.pages(own, callers);
@@ -95,12 +89,15 @@ impl<K: Kind> History<K> {
 
     // The calls before the first one that finds no caller, or before the last quiet moment, where
     // that leaves half of these at least.
-    fn first_pages(&self) -> Pages<K> {
+    fn first_pages(&self) -> Pages<O, R> {
         let (pages, placed) = self.pages(0, MAX_CALLERS);
         let quiet = self.last_quiet(placed).filter(|count| 2 * count >= placed);
-        let moment = self.calls[quiet.unwrap_or(placed)].call.invoked;
-        let known = |page: Vec<Call<K>>| page.iter().filter_map(|call| call.at(moment)).collect();
-        pages.into_iter().map(known).collect()
+        let moment = self.calls[quiet.unwrap_or(placed)].invoked;
+        let known = |page: &Vec<_>| {
+            let calls = page.iter().filter_map(|call| self.call_at(call, moment));
+            calls.collect()
+        };
+        pages.iter().map(known).collect()
     }
 
     // The greatest number of first calls, these at the most, after which no call is open, but such
@@ -108,43 +105,45 @@ impl<K: Kind> History<K> {
     fn last_quiet(&self, most: usize) -> Option<usize> {
         let mut last_return = 0;
         let mut quiet = None;
-        for (count, Recorded { call, .. }) in self.calls[..=most].iter().enumerate() {
+        for (count, call) in self.calls[..=most].iter().enumerate() {
             if last_return < call.invoked {
                 quiet = Some(count);
             }
-            last_return = last_return.max(call.answer.map_or(0, |(returned, _)| returned));
+            last_return =
+                last_return.max(call.answer.as_ref().map_or(0, |(returned, _)| *returned));
         }
         quiet
     }
 
     // So many callers of a book with the calls up to the first one that finds none, and the number
     // of these calls. The first callers are those of threads.
-    fn pages(&self, own: usize, callers: usize) -> (Pages<K>, usize) {
+    fn pages(&self, own: usize, callers: usize) -> (Pages<O, R>, usize) {
         let mut pages = vec![Vec::new(); callers];
-        let placed = self.calls.iter().take_while(|it| it.place(own, &mut pages));
+        let placed = self
+            .calls
+            .iter()
+            .take_while(|call| place(call, own, &mut pages));
         let placed = placed.count();
         (pages, placed)
     }
 }
 
-impl<K: Kind> Recorded<K> {
-    // Whether a caller that is in no call takes this one: its own, or one of those that are no
-    // thread's, of which it is the one with the fewest calls. What never returns leaves its caller
-    // no further call, and so goes to the one with the most.
-    fn place(&self, own: usize, pages: &mut [Vec<Call<K>>]) -> bool {
-        let is_free = |at: &usize| {
-            let page = &pages[*at];
-            page.len() < MAX_CALLS && page.last().is_none_or(|last| last.precedes(&self.call))
-        };
-        let load = |at: &usize| match self.call.answer {
-            Some(_) => pages[*at].len(),
-            None => MAX_CALLS - pages[*at].len(),
-        };
-        let others = || (own..pages.len()).filter(is_free).min_by_key(load);
-        let at = (self.own.filter(|it| *it < own).filter(is_free)).or_else(others);
-        if let Some(at) = at {
-            pages[at].push(self.call);
-        }
-        at.is_some()
+// Whether a caller that is in no call takes this one: its own, or one of those that are no
+// thread's, of which it is the one with the fewest calls. What never returns leaves its caller no
+// further call, and so goes to the one with the most.
+fn place<O: Clone, R: Clone>(call: &Call<O, R>, own: usize, pages: &mut Pages<O, R>) -> bool {
+    let is_free = |at: &usize| {
+        let page = &pages[*at];
+        page.len() < MAX_CALLS && page.last().is_none_or(|last| last.precedes(call))
+    };
+    let load = |at: &usize| match call.answer {
+        Some(_) => pages[*at].len(),
+        None => MAX_CALLS - pages[*at].len(),
+    };
+    let others = || (own..pages.len()).filter(is_free).min_by_key(load);
+    let at = (call.own.filter(|it| *it < own).filter(is_free)).or_else(others);
+    if let Some(at) = at {
+        pages[at].push(call.clone());
     }
+    at.is_some()
 }

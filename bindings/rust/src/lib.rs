@@ -65,6 +65,8 @@ mod objects;
 #[forbid(unsafe_code)]
 mod places;
 #[forbid(unsafe_code)]
+mod record;
+#[forbid(unsafe_code)]
 mod recorder;
 #[forbid(unsafe_code)]
 mod reply;
@@ -74,7 +76,6 @@ pub mod schedule;
 pub use book::Book;
 pub use enforced::{CallError, Enforced, EnforcedCaller, OpenError};
 pub use fault::{Fault, Verdict, What};
-pub use history::Prefix;
 pub use hunt::hunt;
 pub use kind::{
     CasRegister, CasRegisterOp, Counter, CounterOp, Keyed, Kind, Map, MapOp, Operation,
@@ -88,5 +89,7 @@ pub use objects::{
     SetObject, StackObject,
 };
 pub use places::{CallerError, NotMade};
-pub use recorder::{Caller, Incomplete, MAX_CALLERS, MAX_CALLS, Pending, PendingCall, Recorder};
+pub use recorder::{
+    Caller, Incomplete, MAX_CALLERS, MAX_CALLS, Pending, PendingCall, Prefix, Recorder,
+};
 pub use reply::Reply;

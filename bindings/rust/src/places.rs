@@ -19,7 +19,9 @@ pub enum CallerError {
 impl fmt::Display for CallerError {
     fn fmt(&self, f: &mut fmt::Formatter<'_>) -> fmt::Result {
         f.write_str(match self {
-            CallerError::NoneLeft => "the table has given all its callers",
+            CallerError::NoneLeft => {
+                "the table has given all its callers: open it for more, up to 16"
+            }
             CallerError::NoMemory => "out of memory",
         })
     }
@@ -53,7 +55,8 @@ impl fmt::Display for NotMade {
     fn fmt(&self, f: &mut fmt::Formatter<'_>) -> fmt::Result {
         f.write_str(match self {
             NotMade::NoCallLeft => {
-                "the table has no further call: open it for more calls, or for more callers"
+                "the table has no further call: open it for more callers, up to 16, or for more \
+                 calls, up to 256 each"
             }
             NotMade::Halted => "the caller is halted",
             NotMade::NoMemory => "out of memory: no call is made",

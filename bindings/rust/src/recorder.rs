@@ -1,27 +1,21 @@
-//! Recording: each call is written down with two moments, and one atomic counter gives these.
+//! Recorders of objects of a kind.
 
-use crate::book::{Book, Call};
-use crate::history::{History, Prefix, Recorded};
-use crate::kind::{Keyed, Kind};
+use crate::book::Book;
+use crate::history::History;
+use crate::kind::{Keyed, Kind, Operation};
+use crate::record::{Begun, Line, Own, Record};
 use crate::reply::Reply;
-use std::array;
 use std::collections::BTreeMap;
 use std::convert::Infallible;
 use std::error::Error;
 use std::fmt;
 use std::num::NonZero;
-use std::sync::atomic::{AtomicU64, AtomicUsize, Ordering};
-use std::sync::{Arc, Condvar, Mutex, MutexGuard, PoisonError};
+use std::sync::Arc;
 
 /// How many callers a book, or a table, may have.
 pub const MAX_CALLERS: usize = 16;
 /// How many calls each of them may have.
 pub const MAX_CALLS: usize = 256;
-
-// A call isn't recorded from this moment on, so that a recorder takes some 100 MB at the most.
-const LAST_MOMENT: u64 = 1 << 21;
-// More of these than threads that run at once: each thread has one of them for its calls.
-const SHARDS: usize = 32;
 
 /// Records the calls that threads make to one object.
 ///
@@ -37,8 +31,10 @@ const SHARDS: usize = 32;
 /// which calls ended before which others began. A [`Caller`] is a caller of the book, in the order
 /// in which they were made, where there are no more than a book has and as long as it is free. Any
 /// other call has a caller that is free then: one that is in no call, and has had fewer calls than
-/// [`MAX_CALLS`]. A call that never returns keeps its caller. Where a call finds no free caller,
-/// the calls up to this one are what fits a book: see [`Recorder::prefix`].
+/// [`MAX_CALLS`]; of these the one with the fewest calls. A call that never returns keeps its
+/// caller, the one with the most. Where a call finds no free caller, the calls up to this one are
+/// what fits a book: see [`Recorder::prefix`]. A recorder keeps the calls of its first two million
+/// moments, of which a call has two.
 ///
 /// **Calls that never return**, as after a panic or an error of a [`try_call`](Recorder::try_call),
 /// may have had their effect or not, at any time since. The thread goes on with further calls. Such
@@ -49,154 +45,47 @@ const SHARDS: usize = 32;
 /// calls are.
 #[derive(Clone, Debug)]
 pub struct Recorder<K: Kind> {
-    shared: Arc<Shared<K>>,
+    record: Arc<Record<K::Op, Reply>>,
 }
 
 /// A caller that stays with one thread. Its calls are handed in where it is dropped.
 #[derive(Debug)]
-pub struct Caller<K: Kind> {
-    shared: Arc<Shared<K>>,
-    number: usize,
-    log: Log<K>,
-}
+pub struct Caller<K: Kind>(Own<K::Op, Reply>);
 
 /// A call that was invoked by a [`Caller`] and hasn't returned. Where it is dropped, it never does.
 #[derive(Debug)]
 #[must_use = "a call that isn't told to return never does"]
-pub struct Pending<'a, K: Kind> {
-    clock: &'a Clock,
-    // None where the call isn't recorded
-    call: Option<&'a mut Call<K>>,
-}
+pub struct Pending<'a, K: Kind>(Begun<'a, K::Op, Reply>);
 
 /// A call that was invoked on a [`Recorder`] and hasn't returned. Where it is dropped, it never
 /// does. Any thread may have it.
 #[derive(Debug)]
 #[must_use = "a call that isn't told to return never does"]
 pub struct PendingCall<K: Kind> {
-    shared: Arc<Shared<K>>,
+    record: Arc<Record<K::Op, Reply>>,
     line: Line,
 }
 
-#[derive(Debug)]
-struct Shared<K: Kind> {
-    clock: Clock,
-    // of each caller that stays with a thread, once it is handed in
-    callers: Mutex<Vec<Option<Log<K>>>>,
-    shards: [Shard<K>; SHARDS],
-    open: Option<Semaphore>,
+/// The first calls of a history, as many as fit a book.
+///
+/// Where their book has no legal order, the whole history has none, since what was done before a
+/// moment is linearizable wherever the whole is (Herlihy and Wing 1990). Where it has one, nothing
+/// is said of the calls that were left out.
+#[derive(Clone, Debug)]
+#[non_exhaustive]
+pub struct Prefix<K: Kind> {
+    /// Their book.
+    pub book: Book<K>,
+    /// How many calls aren't in it: those that were invoked later, and reads that had no reply
+    /// then.
+    pub left_out: usize,
 }
 
-// Apart from what lies beside it, since every call steps it twice.
-#[derive(Debug)]
-#[repr(align(128))]
-struct Clock(AtomicU64);
-
-impl Clock {
-    // The next moment. All steps of the clock are read-modify-writes that acquire and release, so
-    // each one synchronizes with every later one. So what a call did before it returned happens
-    // before what a later call does: a weakly ordered object needs no fence here, unlike beside a
-    // table, whose looks only load.
-    fn tick(&self) -> u64 {
-        self.0.fetch_add(1, Ordering::SeqCst)
-    }
-}
-
-#[derive(Debug)]
-struct Log<K: Kind> {
-    calls: Vec<Call<K>>,
-    // how many further ones aren't recorded
-    beyond: usize,
-}
-
-#[derive(Debug)]
-#[repr(align(128))]
-struct Shard<K: Kind>(Mutex<Log<K>>);
-
-// Where a call that is made on a recorder is written down, if it is: its shard, and its number
-// there.
-#[derive(Clone, Copy, Debug)]
-struct Line {
-    shard: usize,
-    number: Option<usize>,
-}
-
-// What is under these locks is whole after a panic.
-fn lock<T>(mutex: &Mutex<T>) -> MutexGuard<'_, T> {
-    mutex.lock().unwrap_or_else(PoisonError::into_inner)
-}
-
-impl<K: Kind> Log<K> {
-    fn new(calls: usize) -> Log<K> {
-        Log {
-            calls: Vec::with_capacity(calls),
-            beyond: 0,
-        }
-    }
-
-    // The number of a call that is invoked, if it is recorded.
-    fn begin(&mut self, clock: &Clock, op: K::Op) -> Option<usize> {
-        self.calls.reserve(1);
-        let invoked = clock.tick();
-        if invoked >= LAST_MOMENT {
-            self.beyond += 1;
-            return None;
-        }
-        self.calls.push(Call {
-            op,
-            invoked,
-            answer: None,
-        });
-        Some(self.calls.len() - 1)
-    }
-}
-
-impl<K: Kind> Shared<K> {
-    // A call's interval lies inside this step and the next one, also where its answer is written
-    // down by another thread.
-    fn begin(&self, op: K::Op) -> Line {
-        let shard = shard_of_thread();
-        let number = lock(&self.shards[shard].0).begin(&self.clock, op);
-        Line { shard, number }
-    }
-
-    fn end(&self, line: Line, reply: Reply) {
-        if let Some(number) = line.number {
-            let returned = self.clock.tick();
-            lock(&self.shards[line.shard].0).calls[number].answer = Some((returned, reply));
-        }
-    }
-}
-
-fn shard_of_thread() -> usize {
-    static THREADS: AtomicUsize = AtomicUsize::new(0);
-    thread_local! {
-        static SHARD: usize = THREADS.fetch_add(1, Ordering::Relaxed) % SHARDS;
-    }
-    SHARD.with(|shard| *shard)
-}
-
-// Lets so many calls in at once.
-#[derive(Debug)]
-struct Semaphore {
-    free: Mutex<usize>,
-    freed: Condvar,
-}
-
-struct Permit<'a>(&'a Semaphore);
-
-impl Semaphore {
-    fn enter(&self) -> Permit<'_> {
-        let free = self.freed.wait_while(lock(&self.free), |free| *free == 0);
-        *free.unwrap_or_else(PoisonError::into_inner) -= 1;
-        Permit(self)
-    }
-}
-
-impl Drop for Permit<'_> {
-    fn drop(&mut self) {
-        *lock(&self.0.free) += 1;
-        self.0.freed.notify_one();
+impl<K: Kind> Prefix<K> {
+    fn of(history: &History<K::Op, Reply>) -> Prefix<K> {
+        let (pages, left_out) = history.prefix();
+        let book = Book::of_calls(&pages);
+        Prefix { book, left_out }
     }
 }
 
@@ -244,7 +133,8 @@ impl<K: Kind> Recorder<K> {
     /// A recorder of no calls.
     #[must_use]
     pub fn new() -> Recorder<K> {
-        Recorder::with(None)
+        let record = Record::new(None);
+        Recorder { record }
     }
 
     /// A recorder of no calls whose [`call`](Recorder::call) and [`try_call`](Recorder::try_call)
@@ -252,33 +142,14 @@ impl<K: Kind> Recorder<K> {
     /// callers, their calls fit it only so. A call that never returns lets the next one in.
     #[must_use]
     pub fn with_open_calls(most: NonZero<usize>) -> Recorder<K> {
-        Recorder::with(Some(Semaphore {
-            free: Mutex::new(most.get()),
-            freed: Condvar::new(),
-        }))
-    }
-
-    fn with(open: Option<Semaphore>) -> Recorder<K> {
-        Recorder {
-            shared: Arc::new(Shared {
-                clock: Clock(AtomicU64::new(0)),
-                callers: Mutex::new(Vec::new()),
-                shards: array::from_fn(|_| Shard(Mutex::new(Log::new(0)))),
-                open,
-            }),
-        }
+        let record = Record::new(Some(most));
+        Recorder { record }
     }
 
     /// A further caller that stays with a thread.
     #[must_use]
     pub fn caller(&self) -> Caller<K> {
-        let mut callers = lock(&self.shared.callers);
-        callers.push(None);
-        Caller {
-            shared: Arc::clone(&self.shared),
-            number: callers.len() - 1,
-            log: Log::new(MAX_CALLS),
-        }
+        Caller(self.record.caller())
     }
 
     /// Makes a call and records it, with what it gives as the reply.
@@ -300,18 +171,18 @@ impl<K: Kind> Recorder<K> {
         op: K::Op,
         call: impl FnOnce() -> Result<R, E>,
     ) -> Result<R, E> {
-        let _permit = self.shared.open.as_ref().map(Semaphore::enter);
-        let line = self.shared.begin(op);
+        let _permit = self.record.permit();
+        let line = self.record.begin(op);
         let value = call()?;
-        self.shared.end(line, value.into());
+        self.record.end(line, |_| value.into());
         Ok(value)
     }
 
     /// Invokes a call: to be written right before the object's own, for what doesn't fit a closure.
     pub fn invoke(&self, op: K::Op) -> PendingCall<K> {
         PendingCall {
-            shared: Arc::clone(&self.shared),
-            line: self.shared.begin(op),
+            record: Arc::clone(&self.record),
+            line: self.record.begin(op),
         }
     }
 
@@ -323,9 +194,9 @@ impl<K: Kind> Recorder<K> {
         op: K::Op,
         call: impl Future<Output = R>,
     ) -> R {
-        let line = self.shared.begin(op);
+        let line = self.record.begin(op);
         let value = call.await;
-        self.shared.end(line, value.into());
+        self.record.end(line, |_| value.into());
         value
     }
 
@@ -352,7 +223,7 @@ impl<K: Kind> Recorder<K> {
     ///
     /// Where a [`Caller`] is in use.
     pub fn prefix(&self) -> Result<Prefix<K>, Incomplete> {
-        Ok(self.history()?.prefix())
+        Ok(Prefix::of(&self.history()?))
     }
 
     /// The [`prefix`](Recorder::prefix) of the calls with each key: so the limits of a book hold
@@ -360,7 +231,8 @@ impl<K: Kind> Recorder<K> {
     ///
     /// All calls together have a legal order exactly where those of each key have one (Herlihy and
     /// Wing 1990, theorem 1). It is so of any book each of whose views holds at most one unanswered
-    /// call of each caller, and in a recorder's book a caller has at most one, its last.
+    /// call of each caller, and in a recorder's book a caller has at most one, its last. Calls that
+    /// the recorder no longer keeps are left out of each key.
     ///
     /// # Errors
     ///
@@ -369,27 +241,12 @@ impl<K: Kind> Recorder<K> {
     where
         K: Keyed,
     {
-        let parts = self.history()?.by_key().into_iter();
-        Ok(parts.map(|(key, part)| (key, part.prefix())).collect())
+        let parts = self.history()?.by_key(|op| K::key(*op)).into_iter();
+        Ok(parts.map(|(key, part)| (key, Prefix::of(&part))).collect())
     }
 
-    // A call whose moment is later was invoked after all that is known here had returned.
-    fn history(&self) -> Result<History<K>, Incomplete> {
-        let moment = self.shared.clock.tick().min(LAST_MOMENT);
-        let (mut calls, mut beyond) = (Vec::new(), 0);
-        let mut take = |log: &Log<K>, own| {
-            calls.extend(log.calls.iter().map(|call| Recorded { call: *call, own }));
-            beyond += log.beyond;
-        };
-        let callers = lock(&self.shared.callers);
-        for (caller, log) in callers.iter().enumerate() {
-            let log = log.as_ref().ok_or(Incomplete::InUse { caller })?;
-            take(log, Some(caller));
-        }
-        for shard in &self.shared.shards {
-            take(&lock(&shard.0), None);
-        }
-        Ok(History::at(moment, callers.len(), calls, beyond))
+    fn history(&self) -> Result<History<K::Op, Reply>, Incomplete> {
+        self.record.history(|op| op.is_read_only())
     }
 }
 
@@ -420,33 +277,20 @@ impl<K: Kind> Caller<K> {
 
     /// Invokes a call: to be written right before the object's own, for what doesn't fit a closure.
     pub fn invoke(&mut self, op: K::Op) -> Pending<'_, K> {
-        let clock = &self.shared.clock;
-        let number = self.log.begin(clock, op);
-        let call = number.map(|number| &mut self.log.calls[number]);
-        Pending { clock, call }
+        Pending(self.0.invoke(op))
     }
 }
 
 impl<K: Kind> Pending<'_, K> {
     /// Returns with this reply: to be written right after the object's own call.
     pub fn ret(self, reply: impl Into<Reply>) {
-        if let Some(call) = self.call {
-            let returned = self.clock.tick();
-            call.answer = Some((returned, reply.into()));
-        }
+        self.0.ret(|_| reply.into());
     }
 }
 
 impl<K: Kind> PendingCall<K> {
     /// Returns with this reply: to be written right after the object's own call.
     pub fn ret(self, reply: impl Into<Reply>) {
-        self.shared.end(self.line, reply.into());
-    }
-}
-
-impl<K: Kind> Drop for Caller<K> {
-    fn drop(&mut self) {
-        let log = std::mem::replace(&mut self.log, Log::new(0));
-        lock(&self.shared.callers)[self.number] = Some(log);
+        self.record.end(self.line, |_| reply.into());
     }
 }

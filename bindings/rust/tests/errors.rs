@@ -5,8 +5,7 @@ use selfcheck::{
     Verdict, What,
 };
 
-const NONE_LEFT: &str =
-    "the table has no further call: open it for more calls, or for more callers";
+const NONE_LEFT: &str = "the table has no further call: open it for more callers, up to 16, or for more calls, up to 256 each";
 
 type Call = CallError<Queue>;
 type Judge = JudgeError<Queue>;
@@ -35,7 +34,10 @@ fn what_the_owner_of_a_table_is_told() {
         assert_eq!(error.to_string(), text);
     }
     for (error, text) in [
-        (CallerError::NoneLeft, "the table has given all its callers"),
+        (
+            CallerError::NoneLeft,
+            "the table has given all its callers: open it for more, up to 16",
+        ),
         (CallerError::NoMemory, "out of memory"),
     ] {
         assert_eq!(error.to_string(), text);

@@ -1,4 +1,4 @@
-//! Books by key: they say of the calls what their book says, and hold more of them.
+//! Books by key, and with other callers: they say of the calls what their book says. Those by key hold more of them.
 
 use selfcheck::{Keyed, Map, MapOp, Recorder, Reply, Set, SetOp, Verdict};
 use std::collections::{BTreeMap, HashMap};
@@ -27,7 +27,8 @@ fn verdicts<K: Keyed>(recorder: &Recorder<K>) -> BTreeMap<u32, Verdict> {
 }
 
 /// Histories of calls that begin, end and stay open at random, with random replies: the whole book
-/// is legal exactly where the book of each key is. The count of each verdict.
+/// is legal exactly where the book of each key is, and where each call has a caller of its own. The
+/// count of each verdict.
 fn try_at_random<K: Keyed>(
     seed: u64,
     histories: usize,
@@ -35,26 +36,29 @@ fn try_at_random<K: Keyed>(
 ) -> [usize; 2] {
     let (mut random, mut counts) = (Random(seed), [0, 0]);
     for _ in 0..histories {
-        let (recorder, mut open) = (Recorder::<K>::new(), Vec::new());
-        for _ in 0..5 {
+        let (recorder, apart) = (Recorder::<K>::new(), Recorder::<K>::new());
+        let (mut callers, mut open) = ([(); 5].map(|()| apart.caller()), Vec::new());
+        for caller in &mut callers {
             let (op, reply) = draw(&mut random);
-            open.push((recorder.invoke(op), reply));
+            open.push((recorder.invoke(op), caller.invoke(op), reply));
             while !open.is_empty() && random.below(2) == 0 {
                 let at = random.below(open.len() as u32) as usize;
-                let (call, reply) = open.swap_remove(at);
+                let (call, same, reply) = open.swap_remove(at);
                 if random.below(8) > 0 {
                     call.ret(reply);
+                    same.ret(reply);
                 }
             }
         }
+        drop(open);
+        drop(callers);
         let whole = recorder.book().unwrap();
-        let is_legal = whole.verify() == Ok(Verdict::Legal);
+        let verdict = whole.verify();
+        assert_eq!(apart.book().unwrap().verify(), verdict, "{whole}");
+        let is_legal = verdict == Ok(Verdict::Legal);
         let parts = verdicts(&recorder);
-        assert_eq!(
-            parts.values().all(|it| *it == Verdict::Legal),
-            is_legal,
-            "{whole}"
-        );
+        let are_legal = parts.values().all(|it| *it == Verdict::Legal);
+        assert_eq!(are_legal, is_legal, "{whole}");
         counts[usize::from(is_legal)] += 1;
     }
     counts

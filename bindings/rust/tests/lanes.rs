@@ -6,12 +6,12 @@ use selfcheck::{
     RegisterOp, Set, SetOp, Stack, StackOp, Verdict,
 };
 use std::collections::VecDeque;
-use std::future::Future;
+use std::future::{Future, pending};
 use std::num::NonZero;
 use std::panic::{AssertUnwindSafe, catch_unwind};
-use std::pin::Pin;
+use std::pin::{Pin, pin};
 use std::sync::atomic::{AtomicU32, AtomicUsize, Ordering::SeqCst};
-use std::sync::{Arc, Mutex};
+use std::sync::{Arc, Barrier, Mutex};
 use std::task::{Context, Poll, Wake, Waker};
 use std::thread;
 
@@ -188,12 +188,51 @@ fn a_book_shows_who_called() {
     assert_eq!(whole.verify(), Ok(Verdict::Legal));
 }
 
+/// Books that are made while threads call a right queue, and the last one after that.
+#[test]
+fn a_book_that_is_made_amid_calls_is_legal() {
+    let (queue, recorder) = (Mutex::new(VecDeque::new()), Recorder::<Queue>::new());
+    let (begun, working) = (Barrier::new(5), AtomicUsize::new(4));
+    let mut counts = Vec::new();
+    thread::scope(|scope| {
+        for t in 0..4 {
+            let (queue, recorder, begun, working) = (&queue, &recorder, &begun, &working);
+            scope.spawn(move || {
+                begun.wait();
+                for value in 100 * t..100 * t + 50 {
+                    recorder.enq(value, || queue.lock().unwrap().push_back(value));
+                    thread::yield_now();
+                    recorder.deq(|| queue.lock().unwrap().pop_front());
+                }
+                working.fetch_sub(1, SeqCst);
+            });
+        }
+        begun.wait();
+        loop {
+            let is_last = working.load(SeqCst) == 0;
+            let book = recorder.book().unwrap();
+            assert_eq!(book.verify(), Ok(Verdict::Legal), "{book}");
+            counts.push(book.calls());
+            if is_last {
+                break;
+            }
+        }
+    });
+    assert!(counts.is_sorted());
+    assert_eq!(counts.last(), Some(&400));
+}
+
 /// A call whose end is unknown stays open, and its thread goes on.
 #[test]
 fn lost_calls_stay_open() {
-    let lose: [fn(&Recorder<Queue>); 3] = [
+    let lose: [fn(&Recorder<Queue>); 4] = [
         |it| assert_eq!(it.try_call(QueueOp::Enq(7), || Err::<(), _>(5)), Err(5)),
         |it| drop(it.invoke(QueueOp::Enq(7))),
+        |it| {
+            let mut call = pin!(it.call_async(QueueOp::Enq(7), pending::<()>()));
+            let polled = call.as_mut().poll(&mut Context::from_waker(Waker::noop()));
+            assert!(polled.is_pending());
+        },
         |it| {
             let panics = catch_unwind(AssertUnwindSafe(|| {
                 it.enq(7, || panic!("the object fails"))
@@ -342,6 +381,12 @@ fn a_long_history_is_cut() {
         assert!(!first.book.as_str().contains(" inc\n"));
         assert_eq!(first.book.verify(), Ok(Verdict::Legal));
     }
+    // more calls than the recorder keeps
+    let recorder = Recorder::<Counter>::new();
+    count_to(&recorder, 1_100_000);
+    let first = recorder.prefix().unwrap();
+    assert_eq!(first.book.calls() + first.left_out, 1_100_000);
+    assert_eq!(first.book.calls(), all as usize);
     // one that is open all the time takes a caller for itself
     let recorder = Recorder::<Counter>::new();
     let long = recorder.invoke(CounterOp::Inc);

@@ -125,7 +125,7 @@ fn verdict_on_right_object(kind: usize, threads: usize) -> Result<Verdict, Fault
             }
         })
         .verify(),
-        _ => record::<Map, _>(threads, RwLock::new(HashMap::new()), |me, map, n| {
+        8 => record::<Map, _>(threads, RwLock::new(HashMap::new()), |me, map, n| {
             let key = n % 4;
             match n % 3 {
                 0 => me.put(key, n, || map.write().unwrap().insert(key, n)),
@@ -134,6 +134,21 @@ fn verdict_on_right_object(kind: usize, threads: usize) -> Result<Verdict, Fault
             };
         })
         .verify(),
+        _ => {
+            let (recorder, stack) = (Recorder::<Stack>::new(), Mutex::new(Vec::new()));
+            thread::scope(|scope| {
+                for t in 0..threads as u32 {
+                    let (recorder, stack) = (&recorder, &stack);
+                    scope.spawn(move || {
+                        for n in 100 * t..100 * t + 32 / threads as u32 {
+                            recorder.push(n, || stack.lock().unwrap().push(n));
+                            recorder.pop(|| stack.lock().unwrap().pop());
+                        }
+                    });
+                }
+            });
+            recorder.book().unwrap().verify()
+        }
     }
 }
 
@@ -143,7 +158,7 @@ fn verdict_on_right_object(kind: usize, threads: usize) -> Result<Verdict, Fault
 fn right_objects_are_never_refused_and_never_illegal() {
     let mut said = BTreeMap::new();
     for number in 0..count_of("SELFCHECK_RECORDINGS", 10_000) {
-        let answer = verdict_on_right_object(number % 9, 1 + number / 9 % 16);
+        let answer = verdict_on_right_object(number % 10, 1 + number / 10 % 16);
         *said.entry(format!("{answer:?}")).or_insert(0) += 1;
     }
     println!("recordings: {said:?}");
