@@ -1,6 +1,6 @@
 -- A place for a handle in a program in another language: its handle, and what the calls on it find
 -- and leave there.
-use Rattle.std.specs.Prelude.{◌≡◌, ℕ, ◌≤◌, ◌+◌, List, Option, None, Some}
+use Rattle.std.specs.Prelude.{◌≡◌, ℕ, ◌≤◌, ◌+◌, List, [], Option, None, Some}
 use Rattle.book_base.specs.declared.TheConstants.{MAX_CALLERS, MAX_CALLS}
 use Rattle.seq_objects.specs.declared.kind.Kind.{Kind}
 use Rattle.seq_objects.specs.Words.{kind_name}
@@ -9,13 +9,18 @@ use Rattle.call_handles.specs.declared.verdict.HandleVerdict.{HandleVerdict}
 use Rattle.call_handles.specs.declared.monitor_handle.MonitorHandle.{MonitorHandle}
 use Rattle.call_handles.specs.declared.table_handle.TableHandle.{TableHandle}
 use Rattle.call_handles.specs.declared.handle.Handle.{Handle}
-use Rattle.call_handles.specs.declared.handle.Handle.TheVariants.{Spare, Table, Caller, Monitor}
+use Rattle.call_handles.specs.declared.handle.Handle.TheVariants.{Spare, Table, Caller, Monitor, Model}
 use Rattle.call_handles.specs.Callers.{IsOfSameTable, IsInError, HasBegun, HasEnded, HasPublished, IsWitnessOf}
 use Rattle.call_handles.specs.Monitors.{IsOfSameWatch, HasFoundWrong, HasJudged, IsFoundWitness}
 use Rattle.call_handles.specs.Tables.{rows_in, kind_in, next_of, GivesNext, IsFreshOf, IsFreshMonitorOf}
 use Rattle.call_handles.specs.declared.role.CallerRole.{CallerRole}
 use Rattle.call_handles.specs.declared.role.CallerRole.TheVariants as role
 use Rattle.call_handles.specs.declared.slot.Slot.{Slot}
+use Rattle.model_checks.specs.declared.check.ModelCheck.{ModelCheck}
+use Rattle.model_checks.specs.declared.request.ModelRequest.{ModelRequest}
+use Rattle.model_checks.specs.declared.request.ModelReply.{ModelReply}
+use Rattle.model_checks.specs.History.{book_without_calls}
+use Rattle.model_checks.specs.Requests.{Serves}
 
 -- The handle of a slot, where it has one.
 abbrev pub handle_in : Slot → Option Handle
@@ -101,6 +106,7 @@ HasWitness (Some Spare) = ⊥
 HasWitness (Some (Table t)) = ⊥
 HasWitness (Some (Caller h)) = IsInError h
 HasWitness (Some (Monitor m)) = HasFoundWrong m
+HasWitness (Some (Model check)) = ⊥
 
 -- The bytes are the text of the book of the caller's error, or of the monitor's illegal round. This
 -- book has no legal order.
@@ -110,3 +116,20 @@ Witnesses (Some Spare) bytes = ⊥
 Witnesses (Some (Table t)) bytes = ⊥
 Witnesses (Some (Caller h)) bytes = IsWitnessOf h bytes
 Witnesses (Some (Monitor m)) bytes = IsFoundWitness m bytes
+Witnesses (Some (Model check)) bytes = ⊥
+
+-- The handle is a model's check, and the test `Is` holds of it.
+abbrev pub IsModels : (ModelCheck → Type 0) → Option Handle → Type 0
+IsModels Is found = (check : ModelCheck) × (found ≡ Some (Model check)) × Is check
+
+-- The handle is the check of a model in which no call of so many callers has begun and nothing was
+-- told, but that the initial state has the number 0.
+abbrev pub IsOpenedModel : ℕ → Option Handle → Type 0
+IsOpenedModel callers found = IsModels (λ check. (check.book ≡ book_without_calls callers)
+    × (check.table ≡ record { init = 0; steps = []; promises = [] })) found
+
+-- The handles before and after are those of one model's check, which has replied so to this
+-- request.
+abbrev pub HasServed : ModelRequest → ModelReply → Option Handle → Option Handle → Type 0
+HasServed request reply before after = (old new : ModelCheck) × (before ≡ Some (Model old))
+    × (after ≡ Some (Model new)) × Serves request old reply new

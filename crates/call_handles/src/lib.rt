@@ -1,6 +1,7 @@
 //! Handles for objects outside the library: a table, and each of its callers, as a value. A call is
 //! announced, its reply is handed in, and the call is judged, by its caller or by a monitor of the
-//! table. Slots hold handles in the memory of a program in another language.
+//! table. Slots hold handles in the memory of a program in another language, and checks of
+//! histories by a model.
 #![tactic(auto)]
 
 mod announcing;
@@ -12,6 +13,7 @@ mod held;
 mod judging;
 mod kept;
 mod loose;
+mod models;
 mod monitor_handle;
 mod opening;
 mod publishing;
@@ -27,6 +29,7 @@ pub use calls::{announce, answered, close, judge, publish, witness};
 pub use handle::Handle;
 pub use held::Held;
 pub use kept::KeptByHandle;
+pub use models::{model_order, open_model, serve};
 pub use monitor_handle::MonitorHandle;
 pub use opening::{give, open};
 pub use role::CallerRole;

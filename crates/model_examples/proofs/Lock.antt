@@ -35,11 +35,11 @@ apart_back a b apart = elim (cases_Bool (is_same_pair b a)) [
 ]
 
 first_tells : TellsStep nothing_told acquired 0 1 (to 1 1)
-first_tells = tells_step nothing_told acquired 0 1 (to 1 1) refl refl
+first_tells = tells_step nothing_told acquired 0 1 (to 1 1) refl refl refl
     (λ q apart. ap (λ (b : Bool). cond b (Some (to 1 1)) None) (apart_back (0, 1) q apart))
 
 second_tells : TellsStep acquired refused 1 1 (to 1 0)
-second_tells = tells_step acquired refused 1 1 (to 1 0) refl refl
+second_tells = tells_step acquired refused 1 1 (to 1 0) refl refl refl
     (λ q apart. ap (λ (b : Bool). cond (is_same_pair q (0, 1)) (Some (to 1 1))
     (cond b (Some (to 1 0)) None)) (apart_back (1, 1) q apart))
 
@@ -109,6 +109,7 @@ lock_agrees = (
     init = refl;
     steps = found_step (λ state op t. other_lock.next (state ∷ []) op ≡ (t.next ∷ [], t.reply))
         refused.steps (refl, (refl, tt));
+    promises = λ op reply made. absurd (true≢false (sym made));
   },
 )
 
@@ -122,10 +123,12 @@ twice_agrees = (
     init = refl;
     steps = found_step (λ state op t. other_lock.next (twice_list state) op
         ≡ (twice_list t.next, t.reply)) twice.steps (refl, (refl, (refl, tt)));
+    promises = λ op reply made. absurd (true≢false (sym made));
   },
 )
 
--- the table with the first step isn't closed to two steps, since the step of the held state is untold
+-- the table with the first step isn't closed to two steps, since the step of the held state is
+-- untold
 pub first_is_open : IsClosedTo acquired (Contains (1 ∷ [])) 2 → ⊥
 first_is_open closed =
     let told = closed 1 1 (record {
@@ -149,5 +152,6 @@ lock_words op word = word_at word.0.caller word.0.number word.1
 -- the order of the two calls is legal for each lock that agrees with both steps
 pub lock_legal : (spec : SeqSpec) → Agrees refused spec
     → IsLegalOrder spec (two_calls 1 1 1 0) (two_places 1 0)
-lock_legal = legal_for_all refused (two_calls 1 1 1 0) (1 ∷ []) lock_words (lock_closed 2)
+lock_legal = legal_for_all refused (two_calls 1 1 1 0) (1 ∷ [])
+    (λ state op t told made. absurd (true≢false (sym made))) lock_words (lock_closed 2)
     (two_places 1 0) (two_calls_are_legal (completion refused) 1 1 1 0 refl refl)

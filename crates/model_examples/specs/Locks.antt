@@ -12,15 +12,19 @@ to next reply = record { next = next; reply = reply }
 
 -- The table of the lock before any step is told. State 0 is free.
 abbrev pub nothing_told : Table
-nothing_told = record { init = 0; steps = [] }
+nothing_told = record { init = 0; steps = []; promises = [] }
 
 -- The table in which acquiring the free lock is told: it leads to state 1, with reply 1.
 abbrev pub acquired : Table
-acquired = record { init = 0; steps = ((0, 1), to 1 1) ∷ [] }
+acquired = record { init = 0; steps = ((0, 1), to 1 1) ∷ []; promises = [] }
 
 -- The table in which acquiring the held lock is told too: it leads nowhere, with reply 0.
 abbrev pub refused : Table
-refused = record { init = 0; steps = ((0, 1), to 1 1) ∷ ((1, 1), to 1 0) ∷ [] }
+refused = record {
+  init = 0;
+  steps = ((0, 1), to 1 1) ∷ ((1, 1), to 1 0) ∷ [];
+  promises = [];
+}
 
 -- A table whose states 1 and 2 are one state of the lock: acquiring it leads from each of them to
 -- the other one.
@@ -28,6 +32,7 @@ abbrev pub twice : Table
 twice = record {
   init = 0;
   steps = ((0, 1), to 1 1) ∷ ((1, 1), to 2 0) ∷ ((2, 1), to 1 0) ∷ [];
+  promises = [];
 }
 
 -- What another lock does: it replies 7 at all other lists and to all other operations.

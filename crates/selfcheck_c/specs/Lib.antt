@@ -1,2 +1,3 @@
 pub mod FaultNumber
 pub mod Refusals
+pub mod Models

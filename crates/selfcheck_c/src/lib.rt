@@ -1,6 +1,6 @@
-//! Verdicts on texts, smaller books, explanations and pictures, and calls that check themselves or
-//! that monitors judge, for programs in other languages: exports over numbers, slices of bytes, and
-//! places for handles.
+//! Verdicts on texts, smaller books, explanations and pictures, calls that check themselves or that
+//! monitors judge, and checks of histories by models, for programs in other languages: exports over
+//! numbers, slices, and places for handles.
 #![tactic(auto)]
 
 ghost use Rattle.std.specs.Prelude.{◌≡◌, ◌⊎◌, ℕ, ◌<◌, ◌≤◌, List, drop, length, take};
@@ -15,6 +15,8 @@ ghost use Rattle.selfcheck_c.specs.Refusals.{IsBookRefusal, IsCertificateRefusal
 mod buffer;
 mod crossing;
 mod handles;
+mod models;
+mod placed;
 mod refusal;
 mod witnesses;
 

@@ -1,5 +1,5 @@
 -- Objects that agree with a table.
-use Rattle.std.proofs.Common.{◌≡◌, ℕ, suc, ◌+◌, ◌≤◌, List, [], ◌∷◌, length, map, get_or, Contains, Option, Some, unwrap_or, refl, sym, ap, subst, ◌∙◌, arith}
+use Rattle.std.proofs.Common.{◌≡◌, ℕ, suc, ◌+◌, ◌≤◌, List, [], ◌∷◌, length, map, get_or, Contains, Option, None, Some, unwrap_or, refl, sym, ap, subst, ◌∙◌, arith}
 use Rattle.std.proofs.lemmas.List.{length-map}
 use Rattle.std.proofs.lemmas.Option.{slice_get-get_or}
 use Rattle.book_base.specs.declared.call.Place.{Place}
@@ -7,8 +7,10 @@ use Rattle.book_base.specs.SeqSpec.{SeqSpec}
 use Rattle.book_base.specs.declared.call.Call.{Call}
 use Rattle.book_base.specs.Book.{Page, page_of, IsCall, operation_of}
 use Rattle.book_base.specs.Sequential.{IsRunFrom}
+use Rattle.book_base.specs.Reaching.{Leaves}
+use Rattle.told_models.specs.declared.table.Transition.{Transition}
 use Rattle.book_base.specs.Order.{IsLegalOrder, HasLegalOrder, StandsAt, step_at, call_at}
-use Rattle.told_models.specs.Table.{Table}
+use Rattle.told_models.specs.Table.{Table, told_step, IsPromised, KeepsPromises}
 use Rattle.told_models.specs.Agreement.{AgreesBy, Agrees}
 use Rattle.told_models.specs.Completion.{completion, made_or_bad}
 use Rattle.told_models.specs.Closed.{Leads, HaveWords, IsNear, IsClosedTo, IsWordOf, number_of_calls}
@@ -17,12 +19,30 @@ use Rattle.told_models.specs.Laws.{CompletionsAgree, AgreesWithFewer, ClosedTabl
 use Rattle.told_models.proofs.Leading.{near_step, near_among}
 use Rattle.told_models.proofs.Counting.{order-bounded}
 
+-- what an operation does at a list leaves the list where it does so at each told step
+made_leaves : (list : List ℕ) (step : Option Transition) (reply : ℕ)
+    → ((transition : Transition) → step ≡ Some transition → transition.reply ≡ reply
+    → transition.next ∷ [] ≡ list) → (made_or_bad list step).1 ≡ reply
+    → (made_or_bad list step).0 ≡ list
+made_leaves list None reply leaves has = refl
+made_leaves list (Some transition) reply leaves has = leaves transition refl has
+
+completion_leaves : (table : Table) → KeepsPromises table → (op reply : ℕ)
+    → IsPromised table op reply → Leaves (completion table).next op reply
+completion_leaves table keeps op reply promised [] has = refl
+completion_leaves table keeps op reply promised (state ∷ []) has =
+    made_leaves (state ∷ []) (told_step table state op) reply
+    (λ transition told gives. ap (λ (s : ℕ). s ∷ []) (keeps state op transition told
+    (subst (λ (r : ℕ). IsPromised table op r) (sym gives) promised))) has
+completion_leaves table keeps op reply promised (state ∷ word ∷ words) has = refl
+
 pub completions_agree : CompletionsAgree
-completions_agree table = (
+completions_agree table keeps = (
   λ state. state ∷ [],
   record {
     init = refl;
     steps = λ state op transition told. ap (made_or_bad (state ∷ [])) told;
+    promises = completion_leaves table keeps;
   },
 )
 
@@ -33,6 +53,7 @@ agrees_with_fewer old new spec extends agrees = (
     init = agrees.1.init ∙ ap agrees.0 extends.init;
     steps = λ state op transition told.
         agrees.1.steps state op transition (extends.steps state op transition told);
+    promises = λ op reply promised. agrees.1.promises op reply (extends.promises op reply promised);
   },
 )
 
@@ -49,7 +70,8 @@ told_steps_are_a_run list_of table spec agrees from (step ∷ steps) to leads =
           (told_steps_are_a_run list_of table spec agrees leads.0.next steps to leads.3),
     )
 
--- in a closed table a run of an object that agrees, of no more steps than the depth, is of told steps
+-- in a closed table a run of an object that agrees, of no more steps than the depth, is of told
+-- steps
 run_is_told : (list_of : ℕ → List ℕ) (table : Table) (IsWord : ℕ → Type 0) (most : ℕ)
     (spec : SeqSpec) → AgreesBy list_of table spec → IsClosedTo table IsWord most
     → (depth from : ℕ) → IsNear table IsWord (depth + 1) from → (steps : List (ℕ × ℕ))
@@ -109,28 +131,28 @@ closed_for_books table ops most book among few closed state op near word = close
     near) (among op word)
 
 -- at a closed table an order that is legal for its completion is legal for each object that agrees
-pub legal_for_all : (table : Table) (book : List Page) (ops : List ℕ)
+pub legal_for_all : (table : Table) (book : List Page) (ops : List ℕ) → KeepsPromises table
     → ((op : ℕ) → IsWordOf book op → Contains ops op)
     → IsClosedTo table (Contains ops) (number_of_calls book) → (order : List Place)
     → IsLegalOrder (completion table) book order → (spec : SeqSpec) → Agrees table spec
     → IsLegalOrder spec book order
-legal_for_all table book ops among closed order legal spec agrees =
+legal_for_all table book ops keeps among closed order legal spec agrees =
     closed_tables_decide table book order (completion table) spec
     (closed_for_books table ops (number_of_calls book) book among (omega arith) closed)
-    (completions_agree table) agrees legal
+    (completions_agree table keeps) agrees legal
 
 -- at a closed table no object that agrees has a legal order where its completion has none
-pub legal_for_none : (table : Table) (book : List Page) (ops : List ℕ)
+pub legal_for_none : (table : Table) (book : List Page) (ops : List ℕ) → KeepsPromises table
     → ((op : ℕ) → IsWordOf book op → Contains ops op)
     → IsClosedTo table (Contains ops) (number_of_calls book)
     → (HasLegalOrder (completion table) book → ⊥) → (spec : SeqSpec) → Agrees table spec
     → HasLegalOrder spec book → ⊥
-legal_for_none table book ops among closed none spec agrees has =
+legal_for_none table book ops keeps among closed none spec agrees has =
     none (
       has.0,
       closed_tables_decide table book has.0 spec (completion table)
           (closed_for_books table ops (number_of_calls book) book among (omega arith) closed)
-          agrees (completions_agree table) has.1,
+          agrees (completions_agree table keeps) has.1,
     )
 
 -- a pair that may be asked for by words of a book may be asked for at the book
@@ -144,9 +166,9 @@ ask_of_book table book ops most state op own ask = record {
 }
 
 pub answers_exclude : AnswersExclude
-answers_exclude table book order legal illegal =
-    illegal (completion table) (completions_agree table)
-    (order.items, legal (completion table) (completions_agree table))
+answers_exclude table book order keeps legal illegal =
+    illegal (completion table) (completions_agree table keeps)
+    (order.items, legal (completion table) (completions_agree table keeps))
 
 pub verdicts_stand : VerdictsStand
 verdicts_stand old new book extends = (

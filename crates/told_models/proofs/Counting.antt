@@ -48,7 +48,8 @@ calls_before-within book i (suc j) less inside = elim (cases_lt i (j + 1)) [
 calls_before-all : (book : List Page) → calls_before book (length book) ≡ number_of_calls book
 unfolding calls_before
 calls_before-all book =
-    ap (sum_by (λ (page : Page). length page.operations)) (take_all (length book) book (omega arith))
+    ap (sum_by (λ (page : Page). length page.operations))
+    (take_all (length book) book (omega arith))
 
 -- An order has, at this index, the call of a book with this number among all its calls.
 StandsWithNumber : List Page → List Place → ℕ → ℕ → Type 0

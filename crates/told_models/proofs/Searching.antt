@@ -39,7 +39,8 @@ pub expanded-next : (table : Table) (ops old new : List ℕ) (first k state : �
 expanded-next table ops old new first k state longer inside here leads before j other op least less
     at among =
     elim (cases_lt j k) [
-      | inl earlier ↦ expanded-longer table ops old new first k longer (omega (arith, inside)) before
+      | inl earlier ↦
+          expanded-longer table ops old new first k longer (omega (arith, inside)) before
           j other op least earlier at among
       | inr later ↦
           let same : k ≡ j = omega (arith, less, later) in
@@ -152,7 +153,8 @@ searched-more table ops old new first rounds searched longer expanded near = rec
   near = near searched.near;
   expanded = expanded-joined table ops new 0 first (length old)
       (expanded-longer table ops old new 0 first longer searched.within searched.expanded) expanded;
-  reached = λ state is. let at = place_of old state (found state is.steps is.few is.words is.reached)
+  reached =
+      λ state is. let at = place_of old state (found state is.steps is.few is.words is.reached)
       in (at.0, at.1, longer at.0 state at.2);
 }
   where

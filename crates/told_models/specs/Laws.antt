@@ -6,24 +6,25 @@ use Rattle.book_base.specs.SeqSpec.{SeqSpec}
 use Rattle.book_base.specs.Book.{Page}
 use Rattle.book_base.specs.Order.{IsLegalOrder}
 use Rattle.told_models.specs.declared.answer.Answer.TheVariants.{Legal, Illegal, Ask}
-use Rattle.told_models.specs.Table.{Table, told_step, Extends}
+use Rattle.told_models.specs.Table.{Table, told_step, KeepsPromises, Extends}
 use Rattle.told_models.specs.Agreement.{Agrees}
 use Rattle.told_models.specs.Completion.{completion}
 use Rattle.told_models.specs.Closed.{IsClosedTo, IsWordOf, number_of_calls}
 use Rattle.told_models.specs.Dialogue.{IsDialogue, word_lists}
 use Rattle.told_models.specs.Answers.{IsRightAnswer}
 
--- The completion of a table agrees with the table, so that some object does.
+-- The completion of a table whose steps keep its promises agrees with the table, so that some
+-- object does.
 abbrev pub CompletionsAgree : Type 0
-CompletionsAgree = (table : Table) → Agrees table (completion table)
+CompletionsAgree = (table : Table) → KeepsPromises table → Agrees table (completion table)
 
 -- An object that agrees with a table agrees with each table that it extends.
 abbrev pub AgreesWithFewer : Type 0
 AgreesWithFewer = (old new : Table) (spec : SeqSpec) → Extends old new → Agrees new spec
     → Agrees old spec
 
--- Where a table is closed under the operation words of a book, to the number of the book's calls, an
--- order of the book that is legal for one object that agrees with the table is legal for each of
+-- Where a table is closed under the operation words of a book, to the number of the book's calls,
+-- an order of the book that is legal for one object that agrees with the table is legal for each of
 -- them.
 abbrev pub ClosedTablesDecide : Type 0
 ClosedTablesDecide = (table : Table) (book : List Page) (order : List Place) (a b : SeqSpec)
@@ -39,8 +40,8 @@ ClosedForBooks = (table : Table) (ops : List ℕ) (most : ℕ) (book : List Page
     → IsClosedTo table (IsWordOf book) (number_of_calls book)
 
 -- A dialogue in which each ask is a right answer on a book has at most as many asks as there are
--- lists of at least one and at most as many operation words as the book has calls, of words that the
--- book's are among, whatever is told.
+-- lists of at least one and at most as many operation words as the book has calls, of words that
+-- the book's are among, whatever is told.
 abbrev pub DialoguesEnd : Type 0
 DialoguesEnd = (book : List Page) (ops : List ℕ) (table : Table) (tables : List Table)
     → ((op : ℕ) → IsWordOf book op → Contains ops op)
@@ -55,10 +56,12 @@ FewStatesFewAsks = (states ops : List ℕ) (table : Table) (tables : List Table)
     × Contains ops op) table tables
     → length tables ≤ length states * length ops
 
--- The answers `Legal` and `Illegal` on a book exclude one another.
+-- The answers `Legal` and `Illegal` on a book exclude one another, where the steps of the table
+-- keep its promises.
 abbrev pub AnswersExclude : Type 0
 AnswersExclude = (table : Table) (book : List Page) (order : Vec Place Global)
-    → IsRightAnswer table book (Legal order) → IsRightAnswer table book Illegal → ⊥
+    → KeepsPromises table → IsRightAnswer table book (Legal order)
+    → IsRightAnswer table book Illegal → ⊥
 
 -- A verdict stays right where more was told.
 abbrev pub VerdictsStand : Type 0

@@ -2,7 +2,8 @@
 
 ghost use Rattle.told_models.specs.Laws.{CompletionsAgree, AgreesWithFewer, ClosedTablesDecide, ClosedForBooks, DialoguesEnd, FewStatesFewAsks, AnswersExclude, VerdictsStand};
 
-/// Each table has an object that agrees with it.
+/// Each table has an object that agrees with it: a table's steps keep its promises
+/// ([`crate::ToldTable::init`]).
 pub fn some_object_agrees()
     ensures { CompletionsAgree }
 {}
@@ -13,8 +14,8 @@ pub fn telling_more_leaves_fewer_objects()
     ensures { AgreesWithFewer }
 {}
 
-/// All objects that agree with a table that is closed under a book's operations, to the number of the
-/// book's calls, have the same legal orders of the book.
+/// All objects that agree with a table that is closed under a book's operations, to the number of
+/// the book's calls, have the same legal orders of the book.
 pub fn closed_tables_decide()
     ensures { ClosedTablesDecide }
 {}
@@ -25,14 +26,14 @@ pub fn closed_tables_serve_all_books()
     ensures { ClosedForBooks }
 {}
 
-/// A dialogue with `judge` ends, whatever is told: it has at most as many asks as there are lists of
-/// at least one and at most as many operation words as the book has calls.
+/// A dialogue with `judge` ends, whatever is told: it has at most as many asks as there are lists
+/// of at least one and at most as many operation words as the book has calls.
 pub fn dialogues_end()
     ensures { DialoguesEnd }
 {}
 
-/// A dialogue has at most as many asks as there are pairs of the states and the operation words that
-/// are asked for.
+/// A dialogue has at most as many asks as there are pairs of the states and the operation words
+/// that are asked for.
 pub fn few_states_few_asks()
     ensures { FewStatesFewAsks }
 {}

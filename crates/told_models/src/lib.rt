@@ -11,6 +11,6 @@ mod table;
 mod tests;
 
 pub use answer::Answer;
-pub use fault::TellFault;
+pub use fault::{PromiseFault, TellFault};
 pub use judging::judge;
 pub use table::{ToldTable, Transition};

@@ -1,12 +1,14 @@
-ghost use Rattle.std.specs.Prelude.{◌≡◌, ℕ, ◌+◌, ◌<◌, ◌≤◌, true, [], length, Contains, Some, None, IfSome, IfNone, IfOk, OnOk, IfErr, OnErr};
+ghost use Rattle.std.specs.Prelude.{◌≡◌, ◌↔◌, ℕ, ◌+◌, ◌<◌, ◌≤◌, true, [], length, Contains, IsTrue, Some, None, IfSome, IfNone, IfOk, OnOk, IfErr, OnErr};
+ghost use Rattle.told_models.specs.declared.table.Transition.{Transition};
+ghost use Rattle.told_models.specs.declared.fault.PromiseFault.{PromiseFault};
 ghost use Rattle.book_base.specs.declared.TheConstants.{BAD};
-ghost use Rattle.told_models.specs.Table.{told_step, Extends, TellsStep, IsTellFault};
+ghost use Rattle.told_models.specs.Table.{told_step, IsPromised, KeepsPromises, Extends, TellsStep, TakesPromise, IsTellFault, IsPromiseFault};
 ghost use Rattle.told_models.specs.Closed.{IsNear, IsClosedTo};
 ghost use Rattle.told_models.specs.Dialogue.{IsAsk};
 ghost use Rattle.told_models.specs.Search.{Continues, LeadsInto, AreExpanded, AreNear};
 ghost use Rattle.told_models.specs.Completion.{completion, completion-knows_all};
 
-use crate::fault::TellFault;
+use crate::fault::{PromiseFault, TellFault};
 use book_base::{BAD, NoMemory, OpWord, SeqObject, State};
 use indexmap::{IndexMap, IndexSet};
 use search_hints::SearchHints;
@@ -20,10 +22,12 @@ pub struct Transition {
     pub reply: u64,
 }
 
-/// What was told of an object so far: the number of its initial state, and at states and operations
-/// the transition that the object makes there.
+/// What was told of an object so far: the number of its initial state, at states and operations the
+/// transition that the object makes there, and promises: an operation and a reply with which it
+/// changes no state of the object.
 ///
-/// Whoever tells gives the numbers to the states of the object.
+/// Whoever tells gives the numbers to the states of the object, and answers for the promises: each
+/// told step is held against them.
 ///
 /// As a sequential object a table is its completion: where nothing was told the list stays as it is
 /// and the reply is `BAD`. What a check says of it holds for each object that agrees only where the
@@ -33,30 +37,45 @@ pub struct Transition {
 pub struct ToldTable {
     init: u64,
     steps: IndexMap<(u64, OpWord), Transition>,
+    promises: IndexSet<(OpWord, u64)>,
 }
 
 impl Model for ToldTable {
-    ghost use Rattle.told_models.specs.Table.{Table};
+    ghost use Rattle.told_models.specs.Table.{Table, KeepsPromises};
 
     ghost Value = { Table };
 
-    ghost view = { λ t. record { init = t.init; steps = t.steps.entries } };
+    ghost view = { λ t. record {
+      init = t.init;
+      steps = t.steps.entries;
+      promises = t.promises.keys;
+    } };
+
+    ghost invariant = { λ t. KeepsPromises (record {
+      init = t.init;
+      steps = t.steps.entries;
+      promises = t.promises.keys;
+    }) };
 }
 
 impl ToldTable {
     /// The table of an object of which only the number of the initial state was told.
     pub fn new(alloc: Global, init: u64) -> ToldTable
-        ensures { result ≡ record { init = init; steps = [] } }
+        ensures { result ≡ record { init = init; steps = []; promises = [] } }
     {
         ToldTable {
             init,
             steps: IndexMap::new(alloc),
+            promises: IndexSet::new(alloc),
         }
     }
 
     /// The number of the initial state.
     pub fn init(&self) -> u64
-        ensures { result ≡ self.now.init }
+        // The answer is the number of the initial state.
+        ensures init { result ≡ self.now.init }
+        // The told steps keep the promises.
+        ensures keeps { KeepsPromises self.now }
     {
         self.init
     }
@@ -78,7 +97,7 @@ impl ToldTable {
         // What was told stays told.
         ensures kept { Extends self.old self.new }
         // A step is refused only where another transition was told there, which the refusal names,
-        // or for want of memory for a new step.
+        // where it breaks a promise, or for want of memory for a new step.
         ensures refusal { IfErr result (IsTellFault self.old state op transition) }
         // A refusal changes nothing.
         ensures refused { OnErr result (self.new ≡ self.old) }
@@ -89,13 +108,42 @@ impl ToldTable {
             }
             return Err(TellFault::Contradicts(told));
         }
+        if transition.next != state && self.is_promised(op, transition.reply) {
+            return Err(TellFault::LeavesNot);
+        }
         self.add(state, op, transition)
     }
 
+    /// Promises that an operation changes no state at which it has this reply. A table takes a
+    /// promise that it has already, and stays as it is.
+    pub fn promise(&mut self, op: OpWord, reply: u64) -> Result<(), PromiseFault>
+        // The table has the promise now, and is as before besides.
+        ensures promised { IfOk result (λ _. TakesPromise self.old self.new op reply) }
+        // What was told and promised stays so.
+        ensures kept { Extends self.old self.new }
+        // A promise is refused only where a told step breaks it, whose state the refusal names, or
+        // for want of memory for a new promise.
+        ensures refusal { IfErr result (IsPromiseFault self.old op reply) }
+        // A refusal changes nothing.
+        ensures refused { OnErr result (self.new ≡ self.old) }
+    {
+        if let Some(state) = self.changed_by(op, reply) {
+            return Err(PromiseFault::LeavesNot(state));
+        }
+        self.add_promise(op, reply)
+    }
+
+    /// Whether it is promised that an operation changes no state at which it has this reply.
+    pub fn is_promised(&self, op: OpWord, reply: u64) -> bool
+        ensures { IsTrue result ↔ IsPromised self.now op reply }
+    {
+        self.promises.contains(&(op, reply))
+    }
+
     /// A pair of a state and one of these operation words whose step wasn't told, where fewer than
-    /// `most` told steps of these words lead from the initial state to the state; the first one of a
-    /// search that is breadth first. Once none is left the table is closed to this depth under these
-    /// words. At `most` no less than the number of a book's calls, it is so for the book.
+    /// `most` told steps of these words lead from the initial state to the state; the first one of
+    /// a search that is breadth first. Once none is left the table is closed to this depth under
+    /// these words. At `most` no less than the number of a book's calls, it is so for the book.
     pub fn untold(
         &self,
         alloc: Global,
@@ -105,6 +153,8 @@ impl ToldTable {
         // A pair in the answer may be asked for.
         ensures ask { IfOk result (λ found. IfSome found
             (λ pair. IsAsk self.now (Contains ops.now.keys) most pair.0 pair.1)) }
+        // The told steps keep the promises.
+        ensures keeps { IfOk result (λ _. KeepsPromises self.now) }
         // Where no pair is left, the table is closed to this depth under these words.
         ensures closed { IfOk result
             (λ found. IfNone found (IsClosedTo self.now (Contains ops.now.keys) most)) }
@@ -151,8 +201,8 @@ impl ToldTable {
         Ok(None)
     }
 
-    // Adds the states to which a step of these words leads from a state. Or finds one of these words
-    // whose step wasn't told there.
+    // Adds the states to which a step of these words leads from a state. Or finds one of these
+    // words whose step wasn't told there.
     fn expand_at(
         &self,
         states: &mut IndexSet<u64>,
@@ -180,7 +230,8 @@ impl ToldTable {
 
     // Puts in the transition of a pair at which none was told.
     fn add(&mut self, state: u64, op: OpWord, transition: Transition) -> Result<(), TellFault>
-        requires { told_step self.old state op ≡ None }
+        requires untold { told_step self.old state op ≡ None }
+        requires keeps { IsPromised self.old op transition.reply → transition.next ≡ state }
         ensures told { IfOk result (λ _. TellsStep self.old self.new state op transition) }
         ensures kept { Extends self.old self.new }
         ensures refusal { IfErr result (IsTellFault self.old state op transition) }
@@ -188,6 +239,41 @@ impl ToldTable {
     {
         let Ok(_) = self.steps.insert((state, op), transition) else {
             return Err(TellFault::NoMemory);
+        };
+        Ok(())
+    }
+
+    // A state at which an operation was told to have this reply and to lead to another state, where
+    // there is one.
+    fn changed_by(&self, op: OpWord, reply: u64) -> Option<u64>
+        ensures some { IfSome result
+            (λ state. IsPromiseFault self.now op reply (PromiseFault.LeavesNot state)) }
+        ensures none { IfNone result ((state : ℕ) (transition : Transition)
+            → told_step self.now state op ≡ Some transition → transition.reply ≡ reply
+            → transition.next ≡ state) }
+    {
+        for k in 0..self.steps.len() {
+            if let Some(((state, word), transition)) = self.steps.get_index(k) {
+                if *word == op && transition.reply == reply && transition.next != *state {
+                    return Some(*state);
+                }
+            }
+        }
+        None
+    }
+
+    // Puts in a promise that the told steps keep.
+    fn add_promise(&mut self, op: OpWord, reply: u64) -> Result<(), PromiseFault>
+        requires { (state : ℕ) (transition : Transition)
+            → told_step self.old state op ≡ Some transition → transition.reply ≡ reply
+            → transition.next ≡ state }
+        ensures promised { IfOk result (λ _. TakesPromise self.old self.new op reply) }
+        ensures kept { Extends self.old self.new }
+        ensures refusal { IfErr result (IsPromiseFault self.old op reply) }
+        ensures refused { OnErr result (self.new ≡ self.old) }
+    {
+        let Ok(_) = self.promises.insert((op, reply)) else {
+            return Err(PromiseFault::NoMemory);
         };
         Ok(())
     }

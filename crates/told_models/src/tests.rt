@@ -2,7 +2,7 @@
 //! which refuses a put while it is full, a lock with an owner, and a counter.
 ghost use Rattle.std.specs.Prelude.{◌≡◌, length};
 
-use crate::{Answer, ToldTable, Transition, judge};
+use crate::{Answer, PromiseFault, TellFault, ToldTable, Transition, judge};
 use book_base::{Book, Cut, OpWord};
 use std::alloc::Global;
 use std::test::Fail;
@@ -265,5 +265,26 @@ fn a_shared_table_is_not_asked_at_states_of_other_books(rt: HostRuntime) -> Resu
     assert!(rt; legal && asks == 6);
     assert!(rt; table.get(50, ACQUIRE_A).is_none());
     assert!(rt; table.get(50, ACQUIRE_B).is_none());
+    Ok(())
+}
+
+#[test]
+fn a_promise_and_a_step_that_breaks_it_exclude_one_another(rt: HostRuntime) -> Result<(), Fail> {
+    let mut table = ToldTable::new(rt.alloc(), 0);
+    // An acquire that is refused leaves the lock as it is.
+    table.promise(ACQUIRE_B, NO)?;
+    assert_eq!(rt;
+        table.tell(1, ACQUIRE_B, to(2, NO)),
+        Err(TellFault::LeavesNot)
+    );
+    assert!(rt; table.get(1, ACQUIRE_B).is_none());
+    table.tell(1, ACQUIRE_B, to(1, NO))?;
+    table.tell(0, ACQUIRE_B, to(2, YES))?;
+    assert_eq!(rt;
+        table.promise(ACQUIRE_B, YES),
+        Err(PromiseFault::LeavesNot(0))
+    );
+    assert!(rt; !table.is_promised(ACQUIRE_B, YES));
+    assert!(rt; table.is_promised(ACQUIRE_B, NO));
     Ok(())
 }

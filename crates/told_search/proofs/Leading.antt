@@ -12,7 +12,6 @@ use Rattle.legal_orders.proofs.LegalOrder.{within_cut}
 use Rattle.legal_orders.proofs.Orders.{has_operation}
 use Rattle.search_hints.specs.Marks.{IsMarked}
 use Rattle.frontier_check.proofs.Leading.{sum_raised, raised_within}
-use Rattle.told_models.specs.declared.table.Transition.{Transition}
 use Rattle.told_models.specs.Table.{Table}
 use Rattle.told_models.specs.Agreement.{AgreesBy}
 use Rattle.told_models.specs.Closed.{Leads, HaveWords, IsNear, IsWordOf, number_of_calls}
@@ -39,7 +38,8 @@ leads_push table book cut state (first ∷ frames) to_cut to_state frame next le
       leads.2,
       leads.3,
       leads.4,
-      leads_push table book (raised cut first.place.caller) leads.3 frames to_cut to_state frame next
+      leads_push table book
+          (raised cut first.place.caller) leads.3 frames to_cut to_state frame next
           leads.5 at node marked enters,
     )
 
@@ -204,33 +204,41 @@ start_reach table book frames to_cut to_state leads =
     leads_reach table book (replicate (length book) 0) table.init frames to_cut to_state
     (omega (arith, start_wide book)) (λ i. omega (arith, start_zeros book i)) leads
 
--- Fewer told steps of the book's words than the book has calls lead to the state of a walk, where one
--- more call may come next.
+-- Frames that lead to a cut where one more call may come next are fewer than the book's calls.
+pub frames_few : (table : Table) (book : List Page) (frames : List Frame) (to_cut : List ℕ)
+    (to_state caller : ℕ)
+    → FramesLead table book (replicate (length book) 0) table.init frames to_cut to_state
+    → IsCall book (record { caller = caller; number = get_or to_cut caller 0 })
+    → length frames < number_of_calls book
+frames_few table book frames to_cut to_state caller leads call =
+    let reach = start_reach table book frames to_cut to_state leads in
+    let wide = start_wide book in
+    let inside =
+    within_cut book to_cut (record { caller = caller; number = get_or to_cut caller 0 })
+    (omega (arith, wide, reach.wide)) call in
+    let more = raised_within book to_cut
+    (record { caller = caller; number = get_or to_cut caller 0 }) inside call refl reach.within in
+    let long = length-set to_cut caller (get_or to_cut caller 0 + 1) in
+    let few = sum_within (raised to_cut caller) book (long ∙ (reach.wide ∙ wide)) more in
+    omega (arith, few, sum_raised to_cut caller inside, reach.calls)
+
+-- Fewer told steps of the book's words than the book has calls lead to the state of a walk, where
+-- one more call may come next.
 pub near : (table : Table) (book : List Page) (frames : List Frame) (to_cut : List ℕ)
     (to_state caller : ℕ)
     → FramesLead table book (replicate (length book) 0) table.init frames to_cut to_state
     → IsCall book (record { caller = caller; number = get_or to_cut caller 0 })
     → IsNear table (IsWordOf book) (number_of_calls book) to_state
 unfolding steps_of
-near table book frames to_cut to_state caller leads call =
-    let reach = start_reach table book frames to_cut to_state leads in
-    let wide = start_wide book in
-    let inside = within_cut book to_cut (record { caller = caller; number = get_or to_cut caller 0 })
-    (omega (arith, wide, reach.wide)) call in
-    let more = raised_within book to_cut
-    (record { caller = caller; number = get_or to_cut caller 0 }) inside call refl reach.within in
-    let long = length-set to_cut caller (get_or to_cut caller 0 + 1) in
-    let few = sum_within (raised to_cut caller) book (long ∙ (reach.wide ∙ wide)) more in record {
-      steps = steps_of book frames;
-      few = omega (
-        arith,
-        few,
-        sum_raised to_cut caller inside,
-        reach.calls,
-        length-map frames (λ (frame : Frame). step_at book frame.place),
-      );
-      words = leads_words table book (replicate (length book) 0) table.init frames to_cut to_state
-          leads;
-      reached = leads_told table book (replicate (length book) 0) table.init frames to_cut to_state
-          leads;
-    }
+near table book frames to_cut to_state caller leads call = record {
+  steps = steps_of book frames;
+  few = omega (
+    arith,
+    frames_few table book frames to_cut to_state caller leads call,
+    length-map frames (λ (frame : Frame). step_at book frame.place),
+  );
+  words =
+      leads_words table book (replicate (length book) 0) table.init frames to_cut to_state leads;
+  reached =
+      leads_told table book (replicate (length book) 0) table.init frames to_cut to_state leads;
+}

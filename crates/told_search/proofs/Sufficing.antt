@@ -1,16 +1,16 @@
 -- Callers that wait at a cut and a state, and which of them needn't wait any more.
-use Rattle.std.proofs.Common.{◌≡◌, ◌≢◌, ℕ, zero, suc, ◌<◌, ◌≤◌, ◌∙◌, ◌⊎◌, ◌↔◌, List, [], ◌∷◌, length, get_or, Option, Some, unwrap_or, IsTrue, refl, sym, ap, subst, inl, inr, arith}
+use Rattle.std.proofs.Common.{◌≡◌, ◌≢◌, ℕ, zero, suc, ◌<◌, ◌≤◌, ◌∙◌, ◌⊎◌, ◌↔◌, List, ◌∷◌, length, get_or, Option, Some, unwrap_or, refl, sym, ap, subst, inl, inr, arith}
 use Rattle.std.proofs.lemmas.Bool.{cases_eq, cases_lt}
-use Rattle.std.proofs.lemmas.Option.{same_Some}
 use Rattle.book_base.specs.declared.call.Call.{Call}
 use Rattle.book_base.specs.declared.call.Place.{Place}
 use Rattle.book_base.specs.declared.call.Record.{Record}
 use Rattle.book_base.specs.SeqSpec.{SeqSpec}
-use Rattle.book_base.specs.Book.{Page, IsValid, IsAnswered, answers_of, operation_of, record_of}
-use Rattle.book_base.specs.Order.{call_at, step_at}
+use Rattle.book_base.specs.Book.{Page, IsValid, IsAnswered, answers_of, record_of}
+use Rattle.book_base.specs.Order.{call_at}
 use Rattle.book_base.specs.Next.{next_call, raised, list_after, MayComeNext, MayStandNext, Continues}
 use Rattle.book_base.specs.Pruning.{HasOneOpen, IsForced}
-use Rattle.legal_orders.specs.Twins.{IsTwin, DoesTheSame}
+use Rattle.legal_orders.specs.Standing.{answered_place, word_of}
+use Rattle.legal_orders.specs.Twins.{IsTwin}
 use Rattle.legal_orders.proofs.LegalOrder.{same_call, answer_stands}
 use Rattle.legal_orders.proofs.Exchanging.{twin_serves}
 use Rattle.legal_orders.proofs.Omitting.{idle_may_be_left_out}
@@ -18,13 +18,10 @@ use Rattle.search_hints.specs.declared.marked_callers.MarkedCallers.{MarkedCalle
 use Rattle.search_hints.specs.Marks.{IsMarked, MarksAllNext, MarksSuffice}
 use Rattle.search_hints.proofs.PruningLemmas.{all_next_suffice}
 use Rattle.told_models.specs.declared.table.Transition.{Transition}
-use Rattle.told_models.specs.Table.{Table, told_step}
+use Rattle.told_models.specs.Table.{Table, told_step, IsPromised}
 use Rattle.told_models.specs.Agreement.{AgreesBy}
 use Rattle.told_search.specs.Walking.{IsDead, IsNode, IsRecorded, Serves}
-
--- the operation word of a call
-abbrev pub word : List Page → Call → ℕ
-word book call = unwrap_or (operation_of book call) 0
+use Rattle.told_search.proofs.Sooner.{goes_on_sooner}
 
 -- Where a caller is forced after a cut, all callers whose next calls may come next wait there.
 pub node_fresh : (table : Table) (book : List Page) (cut : List ℕ) (state forced : ℕ)
@@ -42,8 +39,8 @@ node_fresh table book cut state forced waiting is all = record {
 abbrev pub AreWithout : MarkedCallers → MarkedCallers → ℕ → Type 0
 AreWithout new old caller = (i : ℕ) → IsMarked new i ↔ ((i ≢ caller) × IsMarked old i)
 
--- Places that continue an order may begin otherwise than with the next call of a caller: with that of
--- another marked one, or there are fewer of them.
+-- Places that continue an order may begin otherwise than with the next call of a caller: with that
+-- of another marked one, or there are fewer of them.
 abbrev pub BeginsOtherwise : List Page → (List ℕ → ℕ → List ℕ × ℕ) → List ℕ → List ℕ
     → MarkedCallers → ℕ → List Place → Type 0
 BeginsOtherwise book next cut list old caller rest =
@@ -76,7 +73,8 @@ module _ (book : List Page) (next : List ℕ → ℕ → List ℕ × ℕ) (cut l
             omega (arith, it.5, found.4),
           )
           | inr shorter ↦
-              let again = within bound shorter.0 (omega (arith, few, found.4, shorter.2)) shorter.1 in
+              let again =
+              within bound shorter.0 (omega (arith, few, found.4, shorter.2)) shorter.1 in
               (again.0, again.1, again.2, again.3, omega (arith, again.4, found.4, shorter.2))
         ]
       ]
@@ -111,7 +109,7 @@ record IsToldPlace (book : List Page) (next : List ℕ → ℕ → List ℕ × �
 
 told_place : (table : Table) (book : List Page) (cut : List ℕ) (state caller : ℕ)
     (transition : Transition) (list_of : ℕ → List ℕ) (spec : SeqSpec) (place : Place)
-    → told_step table state (word book (next_call cut caller)) ≡ Some transition
+    → told_step table state (word_of book (next_call cut caller)) ≡ Some transition
     → AgreesBy list_of table spec → place.caller ≡ caller
     → MayStandNext book spec.next cut (list_of state) place
     → IsToldPlace book spec.next cut (list_of state) caller (list_of transition.next)
@@ -120,10 +118,10 @@ told_place table book cut state caller transition list_of spec place told agrees
     let call : call_at place ≡ next_call cut caller =
     same_call (call_at place) (next_call cut place.caller) refl stands.may_come.next
     ∙ ap (next_call cut) by in
-    let made : spec.next (list_of state) (word book (call_at place))
+    let made : spec.next (list_of state) (word_of book (call_at place))
     ≡ (list_of transition.next, transition.reply) =
-    ap (λ (c : Call). spec.next (list_of state) (word book c)) call
-    ∙ agrees.steps state (word book (next_call cut caller)) transition told in record {
+    ap (λ (c : Call). spec.next (list_of state) (word_of book c)) call
+    ∙ agrees.steps state (word_of book (next_call cut caller)) transition told in record {
       call = call;
       gets = sym stands.reply ∙ ap (λ (p : List ℕ × ℕ). p.1) made;
       leads = ap (λ (p : List ℕ × ℕ). p.0) made;
@@ -133,7 +131,7 @@ told_place table book cut state caller transition list_of spec place told agrees
 module _ (table : Table) (book : List Page) (cut : List ℕ) (state : ℕ) (old new : MarkedCallers)
     (caller : ℕ) (transition : Transition) (without : AreWithout new old caller)
     (node : IsNode table book cut state old)
-    (told : told_step table state (word book (next_call cut caller)) ≡ Some transition) where
+    (told : told_step table state (word_of book (next_call cut caller)) ≡ Some transition) where
   pub node_unreplied : (IsRecorded book (next_call cut caller) transition.reply → ⊥)
       → IsNode table book cut state new
   node_unreplied wrong = node_without table book cut state old new caller without node
@@ -155,7 +153,8 @@ module _ (table : Table) (book : List Page) (cut : List ℕ) (state : ℕ) (old 
       (it.leads ∙ ap list_of stays) goes))
 
   pub node_served : length book ≤ length cut → IsValid book → HasOneOpen book
-      → IsRecorded book (next_call cut caller) transition.reply → (other : ℕ) → (other ≡ caller → ⊥) → IsMarked old other
+      → IsRecorded book (next_call cut caller) transition.reply → (other : ℕ) → (other ≡ caller → ⊥)
+      → IsMarked old other
       → IsMarked old caller
       → Serves book (next_call cut other) (next_call cut caller) transition.reply
       → IsNode table book cut state new
@@ -166,10 +165,11 @@ module _ (table : Table) (book : List Page) (cut : List ℕ) (state : ℕ) (old 
       goes.0 in
       let a : Call = next_call cut other in
       let b : Call = next_call cut caller in
-      let same_word : word book a ≡ word book b = ap (λ (o : Option ℕ). unwrap_or o 0) serves.0 in
-      let gives : (spec.next (list_of state) (word book a)).1 ≡ transition.reply =
+      let same_word : word_of book a ≡ word_of book b =
+      ap (λ (o : Option ℕ). unwrap_or o 0) serves.0 in
+      let gives : (spec.next (list_of state) (word_of book a)).1 ≡ transition.reply =
       ap (λ (p : List ℕ × ℕ). p.1) (ap (spec.next (list_of state)) same_word
-      ∙ agrees.steps state (word book b) transition told) in
+      ∙ agrees.steps state (word_of book b) transition told) in
       let twin : IsTwin book spec.next cut (list_of state) a b = record {
         apart = apart;
         first = node.may other marked;
@@ -183,14 +183,16 @@ module _ (table : Table) (book : List Page) (cut : List ℕ) (state : ℕ) (old 
               | inl answered ↦
                   let there = answer_stands book b answered in
                   inl (there.0, there.1, gets there.0 there.1 ∙ sym it.2, it.3 answered)
-              | inr is_open ↦ inr (λ answered. absurd (omega (arith, is_open, answered)), gives ∙ sym it.2)
+              | inr is_open ↦
+                  inr (λ answered. absurd (omega (arith, is_open, answered)), gives ∙ sym it.2)
             ],
           )
           | inr neither ↦ inr neither
         ];
       } in
       let found = twin_serves book spec.next cut (list_of state) a place rest wide valid is_open
-      (subst (λ (c : Call). IsTwin book spec.next cut (list_of state) a c) (sym it.call) twin) goes in
+      (subst (λ (c : Call). IsTwin book spec.next cut (list_of state) a c) (sym it.call) twin)
+      goes in
       inl (
         record { caller = a.caller; number = a.number; reply = place.reply },
         found.0,
@@ -211,6 +213,33 @@ module _ (table : Table) (book : List Page) (cut : List ℕ) (state : ℕ) (old 
       (subst (λ (i : ℕ). Continues book spec.next (raised cut i) (list_of transition.next) rest) by
       (subst (λ (l : List ℕ). Continues book spec.next (raised cut place.caller) l rest) it.leads
       goes.1))))
+
+-- Where the next call of a caller is answered, makes a told step with its recorded reply, and is
+-- promised to change no state, this caller alone needs to wait: the call may be taken at once.
+pub node_at_once : (table : Table) (book : List Page) (cut : List ℕ) (state : ℕ)
+    (old new : MarkedCallers) (caller : ℕ) (transition : Transition) (r : Record)
+    → ((i : ℕ) → IsMarked new i ↔ (i ≡ caller)) → IsNode table book cut state old
+    → IsMarked old caller → length book ≤ length cut
+    → told_step table state (word_of book (next_call cut caller)) ≡ Some transition
+    → record_of book (next_call cut caller) ≡ Some r → r.reply ≡ transition.reply
+    → IsPromised table (word_of book (next_call cut caller)) r.reply
+    → IsNode table book cut state new
+node_at_once table book cut state old new caller transition r only node marked wide told known gets
+    promised =
+    let call : Call = next_call cut caller in record {
+      unended = node.unended;
+      may = λ i is. subst (λ (j : ℕ). MayComeNext book cut (next_call cut j)) (sym ((only i).0 is))
+          (node.may caller marked);
+      suffice = λ list_of spec agrees rest goes.
+          let found = goes_on_sooner book spec.next cut (list_of state) call r rest wide (record {
+            may_come = node.may caller marked;
+            known = known;
+            gives = ap (λ (p : List ℕ × ℕ). p.1)
+                (agrees.steps state (word_of book call) transition told) ∙ sym gets;
+            leaves = agrees.promises (word_of book call) r.reply promised;
+          }) goes in
+          (answered_place call r, found.0, (only caller).1 refl, found.1, found.2);
+    }
 
 -- A node at which no caller waits is a dead end.
 pub node_ends : (table : Table) (book : List Page) (cut : List ℕ) (state : ℕ)

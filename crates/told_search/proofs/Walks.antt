@@ -1,35 +1,41 @@
 -- A walk from one step to the next.
-use Rattle.std.proofs.Common.{◌≡◌, ℕ, ◌+◌, ◌<◌, ◌≤◌, ◌∙◌, ◌⊎◌, List, [], ◌∷◌, ◌++◌, length, replicate, get_or, set, IsTrue, Option, Some, None, unwrap_or, refl, sym, ap, subst, inl, inr, arith, slice_get}
+use Rattle.std.proofs.Common.{◌≡◌, ℕ, ◌+◌, ◌<◌, ◌≤◌, ◌∙◌, ◌⊎◌, ◌↔◌, List, [], ◌∷◌, ◌++◌, length, replicate, get_or, set, IsTrue, Option, Some, None, unwrap_or, refl, sym, ap, subst, inl, inr, arith, slice_get}
 use Rattle.std.proofs.lemmas.List.{get_or_default}
 use Rattle.std.proofs.lemmas.Option.{none-some}
 use Rattle.std.specs.Prelude.{Vec}
 use Rattle.std.specs.declared.alloc.Global.{Global}
+use Rattle.book_base.specs.declared.TheConstants.{MAX_CALLERS}
 use Rattle.book_base.specs.declared.call.Call.{Call}
 use Rattle.book_base.specs.declared.call.Place.{Place}
+use Rattle.book_base.specs.declared.call.Record.{Record}
 use Rattle.book_base.specs.SeqSpec.{SeqSpec}
 use Rattle.book_base.specs.Book.{Page, IsValid, IsSmall, IsCall, operation_of, record_of}
 use Rattle.book_base.specs.Order.{IsLegalOrder, HasLegalOrder, call_at}
 use Rattle.book_base.specs.Next.{next_call, raised, HoldsAnswered, MayComeNext, Continues}
 use Rattle.book_base.specs.Pruning.{HasOneOpen, IsForced}
 use Rattle.legal_orders.proofs.LegalOrder.{within_cut, legal_order_from_continues, continues_from_legal_order}
+use Rattle.legal_orders.specs.Standing.{word_of}
 use Rattle.search_hints.specs.declared.marked_callers.MarkedCallers.{MarkedCallers}
 use Rattle.search_hints.specs.Marks.{IsMarked, MarksAllNext}
 use Rattle.frontier_check.specs.declared.memo.Memo.{Memo}
 use Rattle.frontier_check.specs.Memo.{IsMemo, Remembers}
 use Rattle.frontier_check.proofs.Leading.{lowered}
 use Rattle.told_models.specs.declared.table.Transition.{Transition}
-use Rattle.told_models.specs.Table.{Table, told_step, Extends}
+use Rattle.told_models.specs.Table.{Table, told_step, IsPromised, Extends}
 use Rattle.told_models.specs.Agreement.{AgreesBy, Agrees}
 use Rattle.told_models.specs.Closed.{IsWordOf, number_of_calls}
 use Rattle.told_models.specs.Dialogue.{IsAsk}
 use Rattle.told_search.specs.declared.walk.Frame.{Frame}
 use Rattle.told_search.specs.declared.walk.Walk.{Walk}
-use Rattle.told_search.specs.declared.told_search.ToldSearch.{ToldSearch}
+use Rattle.told_search.specs.declared.walk.Step.{Step}
+use Rattle.told_search.specs.declared.walk.Step.TheVariants.{Found, NoneLeft, Asks, GoesOn}
 use Rattle.told_search.specs.Walking.{IsDead, IsNode, Enters, FramesLead, AllDead, IsRecorded, IsWalk, IsLeftOut, order_of}
 use Rattle.told_search.specs.Searching.{IsAt}
+use Rattle.told_search.specs.Weighing.{number_marked, weigh, weight, IsLighter}
 use Rattle.told_search.specs.Laws.{SearchesStay}
-use Rattle.told_search.proofs.Leading.{Back, leads_push, leads_pop, may_stand, leads_continue, start_wide, start_zeros, start_reach, near}
-use Rattle.told_search.proofs.Sufficing.{AreWithout, word, node_fresh, node_unreplied, node_idle, node_served, node_dead, node_ends}
+use Rattle.told_search.proofs.Leading.{Back, leads_push, leads_pop, may_stand, leads_continue, start_wide, start_zeros, start_reach, frames_few, near}
+use Rattle.told_search.proofs.Sufficing.{AreWithout, node_fresh, node_unreplied, node_idle, node_served, node_dead, node_at_once, node_ends}
+use Rattle.told_search.proofs.Weighing.{number_marked-few, number_marked-without, weigh-push, weigh-less, weigh-within, weigh-pop}
 
 -- Who agrees with a table agrees with one that it extends, by the same numbers.
 pub agrees_with_old : (old new : Table) (list_of : ℕ → List ℕ) (spec : SeqSpec) → Extends old new
@@ -38,6 +44,7 @@ agrees_with_old old new list_of spec extends agrees = record {
   init = agrees.init ∙ ap list_of extends.init;
   steps = λ state op transition told.
       agrees.steps state op transition (extends.steps state op transition told);
+  promises = λ op reply promised. agrees.promises op reply (extends.promises op reply promised);
 }
 
 node_stays : (old new : Table) (book : List Page) (cut : List ℕ) (state : ℕ)
@@ -109,6 +116,17 @@ pub walk_counts : (table : Table) (book : List Page) (walk : Walk) (call : Call)
 walk_counts table book walk call h is_call =
     within_cut book walk.counts.items call (omega (arith, walk_wide table book walk h)) is_call
 
+-- a waiting caller's number is below the greatest number of callers
+pub walk_low : (table : Table) (book : List Page) (walk : Walk) (caller : ℕ)
+    → IsWalk table book walk → IsMarked walk.waiting caller → caller < MAX_CALLERS
+walk_low table book walk caller h marked = omega (
+  arith,
+  walk_counts table book walk (next_call walk.counts.items caller) h
+      (h.here.may caller marked).is_call,
+  walk_wide table book walk h,
+  h.small.callers,
+)
+
 -- what is read of the counts of a walk at a waiting caller
 pub walk_number : (table : Table) (book : List Page) (walk : Walk) (caller n : ℕ)
     → IsWalk table book walk → IsMarked walk.waiting caller
@@ -116,6 +134,26 @@ pub walk_number : (table : Table) (book : List Page) (walk : Walk) (caller n : �
 walk_number table book walk caller n h marked is = is ∙ get_or_default walk.counts.items caller n 0
     (walk_counts table book walk (next_call walk.counts.items caller) h
     (h.here.may caller marked).is_call)
+
+-- the call that is read of the counts of a walk at a waiting caller is its next call
+pub walk_call : (table : Table) (book : List Page) (walk : Walk) (caller read number : ℕ)
+    → IsWalk table book walk → IsMarked walk.waiting caller
+    → read ≡ get_or walk.counts.items caller read → number ≡ read
+    → ◌≡◌ {A = Call} (record { caller = caller; number = number })
+    (next_call walk.counts.items caller)
+walk_call table book walk caller read number h marked is same =
+    ap (λ (n : ℕ). record { caller = caller; number = n })
+    (same ∙ walk_number table book walk caller read h marked is)
+
+-- and it is one of the book's
+pub walk_has_call : (table : Table) (book : List Page) (walk : Walk) (caller read number : ℕ)
+    → IsWalk table book walk → IsMarked walk.waiting caller
+    → read ≡ get_or walk.counts.items caller read → number ≡ read
+    → IsCall book (record { caller = caller; number = number })
+walk_has_call table book walk caller read number h marked is same =
+    subst (λ (call : Call). IsCall book call)
+    (sym (walk_call table book walk caller read number h marked is same))
+    (h.here.may caller marked).is_call
 
 -- A walk with the memo of another one.
 pub walk_from : (table : Table) (book : List Page) (old new : Walk) → IsWalk table book old
@@ -160,7 +198,8 @@ pub walk_begins : (table : Table) (book : List Page) (walk : Walk) (forced : ℕ
     → (IsTrue walk.one_open → HasOneOpen book) → IsWalk table book walk
 walk_begins table book walk forced valid small frames counts state least all memo callers none
     is_open = record {
-      leads = subst (λ (fs : List Frame). FramesLead table book (replicate (length book) 0) table.init fs
+      leads = subst
+          (λ (fs : List Frame). FramesLead table book (replicate (length book) 0) table.init fs
           walk.counts.items walk.state) (sym frames) (sym counts, sym state);
       here = node_fresh table book walk.counts.items walk.state forced walk.waiting least all;
       dead = λ cut state there. absurd (remembers_none walk.memo cut (state ∷ []) none there);
@@ -199,7 +238,7 @@ walk_remembers table book walk memo counts h none here is_memo callers only = re
 pub node_left_out : (table : Table) (book : List Page) (walk : Walk) (new : MarkedCallers)
     (caller : ℕ) (transition : Transition) → IsWalk table book walk
     → IsMarked walk.waiting caller → AreWithout new walk.waiting caller
-    → told_step table walk.state (word book (next_call walk.counts.items caller))
+    → told_step table walk.state (word_of book (next_call walk.counts.items caller))
     ≡ Some transition → IsLeftOut book walk caller transition
     → IsNode table book walk.counts.items walk.state new
 node_left_out table book walk new caller transition h marked without told left =
@@ -305,7 +344,7 @@ entered_dead table book cut state next old new place without node enters dead =
     ap (λ (n : ℕ). record { caller = place.caller; number = n }) enters.may.next in
     node_dead table book cut state old new place.caller
     (record { next = next; reply = place.reply }) without node
-    (ap (λ (c : Call). told_step table state (word book c)) (sym same) ∙ enters.told) dead
+    (ap (λ (c : Call). told_step table state (word_of book c)) (sym same) ∙ enters.told) dead
 
 -- What the frames of a walk say of the last one.
 pub walk_back : (table : Table) (book : List Page) (walk : Walk) (frames : List Frame)
@@ -348,7 +387,8 @@ walk_retreats table book old new frames frame h none is_frames frames_are counts
     (subst (λ (c : List ℕ). IsNode table book c new.state new.waiting) (sym counts_are)
     (subst (λ (s : ℕ). IsNode table book back.from s new.waiting) (sym state) node))
 
--- The next call of a waiting caller enters, where its step is told and its reply is the recorded one.
+-- The next call of a waiting caller enters, where its step is told and its reply is the recorded
+-- one.
 pub walk_may_enter : (table : Table) (book : List Page) (walk : Walk) (place : Place) (op : ℕ)
     (transition : Transition) → IsWalk table book walk → IsMarked walk.waiting place.caller
     → call_at place ≡ next_call walk.counts.items place.caller → place.reply ≡ transition.reply
@@ -356,13 +396,15 @@ pub walk_may_enter : (table : Table) (book : List Page) (walk : Walk) (place : P
     → told_step table walk.state op ≡ Some transition
     → IsRecorded book (next_call walk.counts.items place.caller) transition.reply
     → Enters table book walk.counts.items walk.state place transition.next
-walk_may_enter table book walk place op transition h marked same gives is_op told recorded = record {
-  may = subst (λ (c : Call). MayComeNext book walk.counts.items c) (sym same)
-      (h.here.may place.caller marked);
-  recorded = λ r at. recorded r (ap (λ (c : Call). record_of book c) (sym same) ∙ at) ∙ sym gives;
-  told = ap (λ (o : Option ℕ). told_step table walk.state (unwrap_or o 0)) is_op ∙ (told
-      ∙ ap (λ (n : ℕ). Some (record { next = transition.next; reply = n })) (sym gives));
-}
+walk_may_enter table book walk place op transition h marked same gives is_op told recorded =
+    record {
+      may = subst (λ (c : Call). MayComeNext book walk.counts.items c) (sym same)
+          (h.here.may place.caller marked);
+      recorded =
+          λ r at. recorded r (ap (λ (c : Call). record_of book c) (sym same) ∙ at) ∙ sym gives;
+      told = ap (λ (o : Option ℕ). told_step table walk.state (unwrap_or o 0)) is_op ∙ (told
+          ∙ ap (λ (n : ℕ). Some (record { next = transition.next; reply = n })) (sym gives));
+    }
 
 -- What the next call of a waiting caller does may be asked for, where it isn't told.
 pub walk_asks : (table : Table) (book : List Page) (walk : Walk) (caller op : ℕ)
@@ -388,3 +430,92 @@ walk_leaves_out table book walk new caller op transition h marked without is_op 
     walk_waits table book walk walk.counts new h refl
     (node_left_out table book walk new caller transition h marked without
     (ap (λ (o : Option ℕ). told_step table walk.state (unwrap_or o 0)) is_op ∙ told) left)
+
+-- A caller waits no more, and the walk weighs less.
+pub lighter_without : (table : Table) (book : List Page) (walk : Walk) (new : MarkedCallers)
+    (caller : ℕ) → IsWalk table book walk → IsMarked walk.waiting caller
+    → AreWithout new walk.waiting caller
+    → weigh (number_of_calls book) walk.frames.items (number_marked new) + 1 ≤ weight book walk
+lighter_without table book walk new caller h marked without = omega (
+  arith,
+  weigh-less (number_of_calls book) walk.frames.items (number_marked new)
+      (number_marked walk.waiting) (number_marked-without new walk.waiting caller without marked
+      (walk_low table book walk caller h marked)),
+)
+
+-- A walk that is one frame deeper weighs less.
+pub lighter_deeper : (table : Table) (book : List Page) (old : Walk) (place : Place)
+    (frames : List Frame) (waiting : MarkedCallers) → IsWalk table book old
+    → IsMarked old.waiting place.caller → frames ≡ old.frames.items
+    ++ record { place = place; state = old.state; waiting = old.waiting } ∷ []
+    → weigh (number_of_calls book) frames (number_marked waiting) + 1 ≤ weight book old
+lighter_deeper table book old place frames waiting h marked are =
+    let frame : Frame = record { place = place; state = old.state; waiting = old.waiting } in
+    omega (
+      arith,
+      ap (λ (fs : List Frame). weigh (number_of_calls book) fs (number_marked waiting)) are,
+      weigh-push (number_of_calls book) old.frames.items frame (number_marked old.waiting)
+          (number_marked waiting) (frames_few table book old.frames.items old.counts.items
+          old.state place.caller h.leads (h.here.may place.caller marked).is_call)
+          (number_marked-few waiting) (omega arith),
+    )
+
+-- A walk that goes back by a frame weighs less.
+pub lighter_back : (table : Table) (book : List Page) (old : Walk) (frames : List Frame)
+    (frame : Frame) (waiting : MarkedCallers) → IsWalk table book old
+    → old.frames.items ≡ frames ++ frame ∷ []
+    → AreWithout waiting frame.waiting frame.place.caller
+    → weigh (number_of_calls book) frames (number_marked waiting) + 1 ≤ weight book old
+lighter_back table book old frames frame waiting h is_frames without =
+    let back : Back table book (replicate (length book) 0) table.init frames frame old.counts.items
+    old.state = walk_back table book old frames frame h is_frames in
+    let low : frame.place.caller < MAX_CALLERS = omega (
+      arith,
+      walk_counts table book old (call_at frame.place) h back.enters.may.is_call,
+      walk_wide table book old h,
+      h.small.callers,
+    ) in
+    let was : weight book old
+    ≡ weigh (number_of_calls book) (frames ++ frame ∷ []) (number_marked old.waiting) =
+    ap (λ (fs : List Frame). weigh (number_of_calls book) fs (number_marked old.waiting))
+    is_frames in
+    omega (
+      arith,
+      was,
+      weigh-pop (number_of_calls book) frames frame (number_marked waiting)
+          (number_marked old.waiting) (number_marked-without waiting frame.waiting
+          frame.place.caller without back.marked low),
+    )
+
+-- A step makes a walk lighter than one that is no lighter.
+pub lighter_from : (book : List Page) (old mid new : Walk) (step : Step)
+    → weight book mid ≤ weight book old → IsLighter book mid step new → IsLighter book old step new
+lighter_from book old mid new (Found order) less falls = omega (arith, less, falls)
+lighter_from book old mid new NoneLeft less falls = omega (arith, less, falls)
+lighter_from book old mid new (Asks state op) less falls = omega (arith, less, falls)
+lighter_from book old mid new GoesOn less falls = omega (arith, less, falls)
+
+-- The next call of a waiting caller is taken at once, where it is promised to change no state.
+pub walk_at_once : (table : Table) (book : List Page) (walk : Walk) (new : MarkedCallers)
+    (caller : ℕ) (call : Call) (transition : Transition) → IsWalk table book walk
+    → IsMarked walk.waiting caller → ((i : ℕ) → IsMarked new i ↔ (i ≡ caller))
+    → call ≡ next_call walk.counts.items caller
+    → told_step table walk.state (word_of book (next_call walk.counts.items caller))
+    ≡ Some transition
+    → IsRecorded book (next_call walk.counts.items caller) transition.reply
+    → (r : Record) × (record_of book call ≡ Some r) × IsPromised table (word_of book call) r.reply
+    → IsWalk table book (record walk { waiting = new })
+walk_at_once table book walk new caller call transition h marked only same told recorded promised =
+    let r : Record = promised.0 in
+    let known = ap (record_of book) (sym same) ∙ promised.1 in
+    walk_waits table book walk walk.counts new h refl
+    (node_at_once table book walk.counts.items walk.state walk.waiting new caller transition r only
+    h.here marked (omega (arith, walk_wide table book walk h)) told known (recorded r known)
+    (subst (λ (c : Call). IsPromised table (word_of book c) r.reply) same promised.2))
+
+-- A walk at whose place no more callers wait weighs no more.
+pub lighter_within : (book : List Page) (walk : Walk) (new : MarkedCallers)
+    → number_marked new ≤ number_marked walk.waiting
+    → weigh (number_of_calls book) walk.frames.items (number_marked new) ≤ weight book walk
+lighter_within book walk new few = weigh-within (number_of_calls book) walk.frames.items
+    (number_marked new) (number_marked walk.waiting) few

@@ -1,3 +1,4 @@
 pub mod Walking
+pub mod Weighing
 pub mod Searching
 pub mod Laws

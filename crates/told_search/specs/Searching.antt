@@ -1,5 +1,5 @@
 -- Searches at their beginning and later.
-use Rattle.std.specs.Prelude.{ℕ, List, length, replicate, Option, Some, None}
+use Rattle.std.specs.Prelude.{List, length, replicate, Option, Some, None}
 use Rattle.book_base.specs.Book.{Page}
 use Rattle.book_base.specs.Next.{HoldsAnswered}
 use Rattle.told_models.specs.Table.{Table}

@@ -23,8 +23,8 @@ use Rattle.told_search.specs.declared.walk.Walk.{Walk}
 use Rattle.told_search.specs.declared.walk.Step.{Step}
 use Rattle.told_search.specs.declared.walk.Step.TheVariants.{Found, NoneLeft, Asks, GoesOn}
 
--- A cut and a state are a dead end: for each object that agrees with the table no places continue an
--- order from there.
+-- A cut and a state are a dead end: for each object that agrees with the table no places continue
+-- an order from there.
 abbrev pub IsDead : Table → List Page → List ℕ → ℕ → Type 0
 IsDead table book cut state = (list_of : ℕ → List ℕ) (spec : SeqSpec) → AgreesBy list_of table spec
     → IsDeadEnd book spec.next cut (list_of state)
@@ -69,10 +69,10 @@ abbrev pub AllDead : Table → List Page → Memo → Type 0
 AllDead table book memo = (cut : List ℕ) (state : ℕ) → Remembers memo cut (state ∷ [])
     → IsDead table book cut state
 
--- A walk through a valid and small book is sound: its frames lead from the cut without calls and the
--- initial state to its cut and its state, where its callers wait; its memo remembers only dead ends,
--- and is for as many callers as the book has; and it takes the book for one with one open only where
--- the book is one.
+-- A walk through a valid and small book is sound: its frames lead from the cut without calls and
+-- the initial state to its cut and its state, where its callers wait; its memo remembers only dead
+-- ends, and is for as many callers as the book has; and it takes the book for one with one open
+-- only where the book is one.
 pub record IsWalk (table : Table) (book : List Page) (walk : Walk) : Type 0 where
   pub valid : IsValid book
   pub small : IsSmall book
@@ -101,8 +101,8 @@ Serves book a b reply = (operation_of book a ≡ operation_of book b)
     × (IsAnswered book b → ViewsAreWithin book a b))
     ⊎ ((IsAnswered book a → ⊥) × (IsAnswered book b → ⊥)))
 
--- A next call that makes this transition may be spared in a book with one open: it is unanswered and
--- doesn't change the state, or the next call of another waiting caller serves for it.
+-- A next call that makes this transition may be spared in a book with one open: it is unanswered
+-- and doesn't change the state, or the next call of another waiting caller serves for it.
 abbrev pub IsSpared : List Page → Walk → Call → Transition → Type 0
 IsSpared book walk call transition =
     ((IsAnswered book call → ⊥) × (transition.next ≡ walk.state))

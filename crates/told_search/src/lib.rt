@@ -1,8 +1,10 @@
-//! Searches for a legal order by what was told of an object: a search stops where it lacks a step,
-//! and goes on from there once the step was told.
+//! Searches for a legal order by what was told of an object, which ask for the steps that they
+//! lack.
 #![tactic(auto)]
 
 pub mod laws;
+#[cfg(test)]
+mod tests;
 mod told_search;
 mod walk;
 

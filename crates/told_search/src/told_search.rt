@@ -1,6 +1,7 @@
-ghost use Rattle.std.specs.Prelude.{◌≡◌, IfOk, IfSome};
+ghost use Rattle.std.specs.Prelude.{◌≡◌, ◌≤◌, IfOk, IfSome};
 ghost use Rattle.told_models.specs.Answers.{IsRightAnswer};
 ghost use Rattle.told_search.specs.Searching.{IsSearch};
+ghost use Rattle.told_search.specs.Weighing.{weight_of, most_weight, HasGoneOn};
 
 use crate::walk::{Step, Walk};
 use book_base::{Book, NoMemory};
@@ -10,13 +11,13 @@ use told_models::{Answer, ToldTable};
 /// A search for a legal order of a book, by what was told of its object.
 ///
 /// It goes depth first through the pairs of a cut and a state, and remembers those that are dead
-/// ends (after Wing and Gong 1993, and Lowe 2017). Where a step isn't told that it needs, it asks
-/// for the step and stays where it is. So nothing is searched twice when the step was told, and
-/// steps are asked for only where the search comes to them.
+/// ends (after Wing and Gong 1993, and Lowe 2017). Where a step isn't told, it asks for it, and
+/// goes on from there when it is told.
 ///
-/// A search is of one book. Steps may be told at any time, and each answer stays right when more is
-/// told (`told_models::laws::verdicts_stand`). After want of memory a search is given up: a new one
-/// with the same table asks for no step that was told.
+/// A search is of one book. Steps and promises may be told at any time: the search may go on
+/// (`laws::searches_stay`), and each answer stays right (`told_models::laws::verdicts_stand`). A
+/// dialogue with it ends, whatever is told (`laws::dialogues_end`). After want of memory a search
+/// is given up. A new one with the same table asks for no step that was told.
 #[derive(Drop)]
 pub struct ToldSearch {
     walk: Option<Walk>,
@@ -25,7 +26,10 @@ pub struct ToldSearch {
 impl ToldSearch {
     /// A search at its beginning.
     pub fn begin(alloc: Global, table: &ToldTable, book: &Book) -> Result<ToldSearch, NoMemory>
-        ensures { IfOk result (IsSearch table.now book.now) }
+        // The search can go on from here.
+        ensures search { IfOk result (IsSearch table.now book.now) }
+        // It has no more left to try than the number of the book's calls allows.
+        ensures weight { IfOk result (λ search. weight_of book.now search ≤ most_weight book.now) }
     {
         Ok(ToldSearch {
             walk: Walk::begin(alloc, table, book)?,
@@ -45,16 +49,19 @@ impl ToldSearch {
         requires search { IsSearch table.now book.now self.old }
         // The search can go on from here.
         ensures search { IfOk result (λ _. IsSearch table.now book.now self.new) }
-        // An order in the answer is legal for each object that agrees with the table, `Illegal` comes
-        // only where no object that agrees has a legal order, and `Ask` names a state and an
+        // An order in the answer is legal for each object that agrees with the table, `Illegal`
+        // comes only where no object that agrees has a legal order, and `Ask` names a state and an
         // operation word of the book whose step wasn't told, where fewer told steps of the book's
         // words lead to the state than the book has calls.
         ensures answer { IfOk result (λ said. IfSome said (IsRightAnswer table.now book.now)) }
+        // Where the steps are used up, what is left to try has become less by as many, and it has
+        // never become more.
+        ensures lighter { IfOk result (λ said. HasGoneOn book.now steps self.old said self.new) }
     {
         let Some(walk) = &mut self.walk else {
             return Ok(Some(Answer::Legal(Vec::new(alloc))));
         };
-        for _ in 0..steps {
+        for _step in 0..steps {
             match walk.advance(alloc, table, book)? {
                 Step::Found(order) => return Ok(Some(Answer::Legal(order))),
                 Step::NoneLeft => return Ok(Some(Answer::Illegal)),

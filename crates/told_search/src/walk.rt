@@ -1,11 +1,14 @@
-ghost use Rattle.std.specs.Prelude.{◌≡◌, ℕ, ◌<◌, ◌≤◌, ◌↔◌, List, length, replicate, slice_set, IfOk, IfSome, IfNone, IsTrue, IsFalse};
+ghost use Rattle.std.specs.Prelude.{◌≡◌, ℕ, ◌<◌, ◌≤◌, ◌↔◌, List, length, replicate, slice_set, IfOk, IfSome, IfNone, IsTrue, IsFalse, Some};
+ghost use Rattle.book_base.specs.declared.call.Record.{Record};
 ghost use Rattle.book_base.specs.declared.TheConstants.{MAX_CALLERS, MAX_CALLS};
-ghost use Rattle.book_base.specs.Book.{Page, IsCall};
+ghost use Rattle.book_base.specs.Book.{Page, IsCall, record_of};
 ghost use Rattle.book_base.specs.Next.{next_call, HoldsAnswered};
 ghost use Rattle.book_base.specs.Pruning.{IsLeast};
+ghost use Rattle.legal_orders.specs.Standing.{word_of};
 ghost use Rattle.search_hints.specs.Marks.{IsMarked, MarksAllNext};
-ghost use Rattle.told_models.specs.Table.{Table};
+ghost use Rattle.told_models.specs.Table.{Table, told_step, IsPromised};
 ghost use Rattle.told_search.specs.Walking.{IsWalk, IsRightStep, IsRecorded, IsSpared, IsLeftOut, Serves, Enters, order_of};
+ghost use Rattle.told_search.specs.Weighing.{number_marked, weight_at, most_weight, IsLighter};
 
 use book_base::{Book, Call, Cut, NoMemory, OpWord, Place};
 use frontier_check::Memo;
@@ -55,6 +58,7 @@ impl Walk {
         ensures walk { IfOk result (λ begun. IfSome begun (IsWalk table.now book.now)) }
         ensures none { IfOk result
             (λ begun. IfNone begun (HoldsAnswered book.now (replicate (length book.now) 0))) }
+        ensures weight { IfOk result (λ begun. weight_at book.now begun ≤ most_weight book.now) }
     {
         let counts = vec![in alloc; 0; book.callers() as usize]?;
         let Some(first) = least_open(book, &counts) else {
@@ -82,6 +86,7 @@ impl Walk {
         requires walk { IsWalk table.now book.now self.old }
         ensures walk { IfOk result (λ _. IsWalk table.now book.now self.new) }
         ensures step { IfOk result (IsRightStep table.now book.now) }
+        ensures lighter { IfOk result (λ step. IsLighter book.now self.old step self.new) }
     {
         let Some(caller) = self.pick(table, book) else {
             self.memo.remember(alloc, &self.counts, &[self.state])?;
@@ -96,6 +101,7 @@ impl Walk {
             self.waiting = self.waiting.without(caller);
             return Ok(Step::GoesOn);
         }
+        self.waiting = self.to_try(table, book, caller, transition);
         let place = Place {
             caller,
             number,
@@ -104,9 +110,10 @@ impl Walk {
         self.enter(alloc, book, place, transition.next)
     }
 
-    // A waiting caller whose next call is to be tried: one whose step is told, where there is one,
-    // and of these the one whose view counts the fewest calls. No clause says which one it is: that
-    // only decides how long a search takes.
+    // A waiting caller whose next call is to be tried: one whose call is promised to change no
+    // state, where there is one; else one whose step is told, and of these the one whose view
+    // counts the fewest calls. No clause says which one it is: that only decides how long a search
+    // takes.
     fn pick(&self, table: &ToldTable, book: &Book) -> Option<u32>
         requires { IsWalk table.now book.now self.now }
         ensures some { IfSome result (IsMarked self.now.waiting) }
@@ -133,6 +140,9 @@ impl Walk {
     {
         let number = u64::from(self.counts[caller as usize]);
         let call = Call { caller, number };
+        if is_promised(table, book, call) {
+            return 0;
+        }
         let seen = if number < book.answers(caller) {
             calls_in(book.view(call))
         } else {
@@ -158,6 +168,34 @@ impl Walk {
             return true;
         }
         self.one_open && self.is_spared(book, call, transition)
+    }
+
+    // The callers that are still to be tried where the next call of a waiting caller makes this
+    // transition, with its recorded reply: this caller alone, where its call is promised to change
+    // no state, since the call may be taken at once then.
+    fn to_try(
+        &self,
+        table: &ToldTable,
+        book: &Book,
+        caller: u32,
+        transition: Transition,
+    ) -> MarkedCallers
+        requires walk { IsWalk table.now book.now self.now }
+        requires waiting { IsMarked self.now.waiting caller }
+        requires told { told_step table.now self.now.state
+            (word_of book.now (next_call self.now.counts.items caller)) ≡ Some transition }
+        requires recorded { IsRecorded book.now (next_call self.now.counts.items caller)
+            transition.reply }
+        ensures walk { IsWalk table.now book.now (record self.now { waiting = result }) }
+        ensures marked { IsMarked result caller }
+        ensures fewer { number_marked result ≤ number_marked self.now.waiting }
+    {
+        let number = u64::from(self.counts[caller as usize]);
+        if is_promised(table, book, Call { caller, number }) {
+            MarkedCallers::only(caller)
+        } else {
+            self.waiting
+        }
     }
 
     // Whether a next call, which makes this transition, may be spared in a book with one open.
@@ -220,7 +258,8 @@ impl Walk {
             × Enters table book.now self.old.counts.items self.old.state place next }
         ensures { IfOk result (λ step. (table : Table) → IsWalk table book.now self.old
             → Enters table book.now self.old.counts.items self.old.state place next
-            → IsWalk table book.now self.new × IsRightStep table book.now step) }
+            → IsWalk table book.now self.new × IsRightStep table book.now step
+            × IsLighter book.now self.old step self.new) }
     {
         let before = self.waiting;
         set_count(&mut self.counts, place.caller, place.number + 1);
@@ -251,7 +290,8 @@ impl Walk {
         requires { (table : Table) × (book : List Page) × IsWalk table book self.old }
         ensures { (table : Table) (book : List Page) → IsWalk table book self.old
             → ((i : ℕ) → IsMarked self.old.waiting i → ⊥)
-            → IsWalk table book self.new × IsRightStep table book result }
+            → IsWalk table book self.new × IsRightStep table book result
+            × IsLighter book self.old result self.new }
     {
         let Some(frame) = self.frames.pop() else {
             return Step::NoneLeft;
@@ -274,6 +314,15 @@ fn is_recorded(book: &Book, call: Call, reply: u64) -> bool
     ensures { IsTrue result ↔ IsRecorded book.now call reply }
 {
     call.number >= book.answers(call.caller) || book.record(call).reply == reply
+}
+
+// Whether a call is answered, and promised to change no state at which it has its recorded reply.
+fn is_promised(table: &ToldTable, book: &Book, call: Call) -> bool
+    requires { IsCall book.now call }
+    ensures { IsTrue result → (r : Record) × (record_of book.now call ≡ Some r)
+        × IsPromised table.now (word_of book.now call) r.reply }
+{
+    call.number < book.answers(call.caller) && table.is_promised(book.op(call), book.reply(call))
 }
 
 // What an unanswered call has in place of the number of calls in its view, so that it comes after

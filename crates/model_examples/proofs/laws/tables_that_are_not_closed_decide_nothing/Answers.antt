@@ -1,4 +1,4 @@
-use Rattle.std.proofs.Common.{refl}
+use Rattle.std.proofs.Common.{true≢false, refl, sym}
 use Rattle.book_base.specs.declared.TheConstants.{BAD}
 use Rattle.told_models.specs.Completion.{completion}
 use Rattle.told_models.proofs.Agreeing.{completions_agree}
@@ -15,7 +15,10 @@ pub returns-clause-untold : goal.returns-clause-untold
 returns-clause-untold c = first_is_open
 
 pub returns-clause-agrees : goal.returns-clause-agrees
-returns-clause-agrees c = (completions_agree acquired, first_agrees)
+returns-clause-agrees c = (
+  completions_agree acquired (λ state op t told made. absurd (true≢false (sym made))),
+  first_agrees,
+)
 
 pub returns-clause-legal : goal.returns-clause-legal
 returns-clause-legal c = two_calls_are_legal (completion acquired) 1 1 1 BAD refl refl

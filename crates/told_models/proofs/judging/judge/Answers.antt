@@ -21,7 +21,8 @@ returns-in-Legal c =
     let ops = c.in_ok-ops.ops.keys in
     let closed = subst (λ (o : Option (ℕ × ℕ)). IfNone o (IsClosedTo c.args.table.now
     (Contains ops) c.count_calls.result)) c.in-None.is c.in_ok-state.ensures.closed in
-    legal_for_all c.args.table.now c.args.book.now ops c.in_ok-ops.ensures.all
+    legal_for_all c.args.table.now c.args.book.now ops c.in_ok-state.ensures.keeps
+    c.in_ok-ops.ensures.all
     (subst (IsClosedTo c.args.table.now (Contains ops)) c.count_calls.ensures closed)
     c.in-Legal.order.items (subst (IsRight (completion c.args.table.now) c.args.book.now)
     c.in-Legal.is c.in_ok-order-in-None.ensures.verdict)
@@ -31,7 +32,8 @@ returns c =
     let ops = c.in_ok-ops.ops.keys in
     let closed = subst (λ (o : Option (ℕ × ℕ)). IfNone o (IsClosedTo c.args.table.now
     (Contains ops) c.count_calls.result)) c.in-None.is c.in_ok-state.ensures.closed in
-    legal_for_none c.args.table.now c.args.book.now ops c.in_ok-ops.ensures.all
+    legal_for_none c.args.table.now c.args.book.now ops c.in_ok-state.ensures.keeps
+    c.in_ok-ops.ensures.all
     (subst (IsClosedTo c.args.table.now (Contains ops)) c.count_calls.ensures closed)
     (subst (IsRight (completion c.args.table.now) c.args.book.now) c.in-Illegal.is
     c.in_ok-order-in-None.ensures.verdict)

@@ -9,7 +9,8 @@ pub loop-k-init : goal.loop-k-init
 loop-k-init c = record {
   continues = λ k state at. at;
   expanded = λ k state op from to at among. absurd (omega (arith, from, to));
-  near = λ most near. near-more c.args.self.now c.args.ops.now.keys c.args.states.now.keys most near;
+  near =
+      λ most near. near-more c.args.self.now c.args.ops.now.keys c.args.states.now.keys most near;
 }
 
 pub index-state-requires : goal.index-state-requires

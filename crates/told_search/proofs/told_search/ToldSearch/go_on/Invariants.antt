@@ -1,5 +1,10 @@
+use Rattle.std.proofs.Common.{◌+◌, ◌≤◌}
 use Rattle.told_search.specs.Walking.{IsWalk}
+use Rattle.told_search.specs.Weighing.{weight}
 use Rattle.told_search.proofs.told_search.ToldSearch.go_on.Given as goal
 
-abbrev pub invariant-loop : goal.invariant-loop
-invariant-loop l = IsWalk l.table l.book l.walk
+abbrev pub invariant-loop-step : goal.invariant-loop-step
+invariant-loop-step l = record {
+  walk : IsWalk l.table l.book l.walk;
+  lighter : weight l.book l.walk + l._step ≤ weight l.book l.initial.walk;
+}

@@ -2,7 +2,9 @@ use Rattle.std.proofs.Common.{◌≡◌, ◌∙◌, ℕ, List, length, replicate
 use Rattle.std.proofs.lemmas.List.{length-replicate}
 use Rattle.book_base.specs.Pruning.{IsForced}
 use Rattle.search_hints.specs.Marks.{MarksAllNext}
+use Rattle.told_models.specs.Closed.{number_of_calls}
 use Rattle.told_search.proofs.Walks.{walk_begins}
+use Rattle.told_search.proofs.Weighing.{weigh-first}
 use Rattle.told_search.proofs.walk.Walk.begin.Goals as goal
 
 pub returns-clause-walk : goal.returns-clause-walk
@@ -12,7 +14,7 @@ returns-clause-walk c =
     c.in_ok-counts.ensures.items_if_clones_equal (λ y h. h)
     ∙ ap (λ (n : ℕ). replicate n 0) c.callers.ensures.count in
     walk_begins c.args.table.now book _ c.in-Some.first c.callers.ensures.valid
-    c.callers.ensures.small c.new.ensures.items counts c.init.ensures
+    c.callers.ensures.small c.new.ensures.items counts c.init.ensures.init
     (subst (λ (cut : List ℕ). IsForced book cut c.in-Some.first) c.deref.ensures.value
     c.in-Some.ensures.least)
     (subst (λ (cut : List ℕ). MarksAllNext book cut c.next_callers-waiting.result)
@@ -27,3 +29,7 @@ returns-clause-walk c =
       length-replicate {A = ℕ} (length book) 0,
     ))
     c.new-memo.ensures.empty c.has_one_open.ensures.one
+
+pub returns-clause-weight : goal.returns-clause-weight
+returns-clause-weight c = weigh-first (number_of_calls c.args.book.now) _
+    c.next_callers-waiting.result c.new.ensures.items

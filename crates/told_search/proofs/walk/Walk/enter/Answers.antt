@@ -1,4 +1,4 @@
-use Rattle.std.proofs.Common.{◌≡◌, ◌∙◌, [], ◌∷◌, ◌++◌, ◌+◌, ◌<◌, ℕ, List, length, refl, sym, ap, subst, arith}
+use Rattle.std.proofs.Common.{◌∙◌, [], ◌∷◌, ◌++◌, ◌+◌, ℕ, List, length, refl, sym, ap, subst, arith}
 use Rattle.std.proofs.lemmas.List.{length-set}
 use Rattle.book_base.specs.declared.call.Place.{Place}
 use Rattle.book_base.specs.Order.{IsLegalOrder, call_at}
@@ -8,7 +8,7 @@ use Rattle.search_hints.specs.Marks.{MarksAllNext}
 use Rattle.frontier_check.specs.Memo.{Remembers}
 use Rattle.told_search.specs.Walking.{order_of}
 use Rattle.told_search.proofs.Sufficing.{node_fresh}
-use Rattle.told_search.proofs.Walks.{walk_wide, walk_counts, walk_waits, walk_found, walk_enters, counts_raised, counts_lowered, entered_dead}
+use Rattle.told_search.proofs.Walks.{walk_wide, walk_counts, walk_waits, walk_found, walk_enters, counts_raised, counts_lowered, entered_dead, lighter_without, lighter_deeper}
 use Rattle.told_search.proofs.walk.Walk.enter.Goals as goal
 
 pub set_count-requires-clause-caller : goal.set_count-requires-clause-caller
@@ -39,6 +39,7 @@ returns-in_default c = λ table h enters.
           (subst (λ (cut : List ℕ). HoldsAnswered book cut)
           (c.deref.ensures.value ∙ (c.set_count.ensures ∙ up)) c.in_default.ensures.none)
           spec agrees),
+      omega arith,
     )
 
 pub set_count-requires-then-remembers-clause-caller :
@@ -69,6 +70,8 @@ returns-then-remembers c = λ table h enters.
           c.without-self.result place c.without-self.ensures h.here enters
           (h.dead (raised old.counts.items place.caller) c.args.next there)),
       tt,
+      lighter_without table book old c.without-self.result place.caller h c.requires.2
+          c.without-self.ensures,
     )
 
 pub next_callers-waiting-requires-clause-wide : goal.next_callers-waiting-requires-clause-wide
@@ -103,4 +106,6 @@ returns c = λ table h enters.
           (subst (λ (cut : List ℕ). MarksAllNext book cut c.next_callers-waiting.result)
           c.deref-3.ensures.value c.next_callers-waiting.ensures)) refl refl,
       tt,
+      lighter_deeper table book old place _ c.next_callers-waiting.result h c.requires.2
+          c.in_ok-push-2.ensures.items,
     )

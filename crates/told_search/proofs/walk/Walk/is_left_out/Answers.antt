@@ -27,7 +27,8 @@ is_recorded-requires c =
       walk_number c.requires.walk.0 book walk caller c.index.result.now h c.requires.waiting
           c.index.ensures,
     ) in
-    subst (λ (n : ℕ). n < calls_of book caller) (sym number) (h.here.may caller c.requires.waiting).is_call
+    subst (λ (n : ℕ). n < calls_of book caller) (sym number)
+    (h.here.may caller c.requires.waiting).is_call
 
 pub is_spared-requires-clause-call : goal.is_spared-requires-clause-call
 is_spared-requires-clause-call c =
@@ -41,7 +42,8 @@ is_spared-requires-clause-call c =
       walk_number c.requires.walk.0 book walk caller c.index.result.now h c.requires.waiting
           c.index.ensures,
     ) in
-    subst (λ (n : ℕ). n < calls_of book caller) (sym number) (h.here.may caller c.requires.waiting).is_call
+    subst (λ (n : ℕ). n < calls_of book caller) (sym number)
+    (h.here.may caller c.requires.waiting).is_call
 
 pub returns-then-not-is_recorded-clause-left_out :
     goal.returns-then-not-is_recorded-clause-left_out
@@ -59,7 +61,8 @@ returns-then-not-is_recorded-clause-left_out c = λ out.
     let read : Call = record { caller = caller; number = c.from-number.result } in
     let same : read ≡ next_call walk.counts.items caller =
     ap (λ (n : ℕ). record { caller = caller; number = n }) number in
-    inl (λ (recorded : IsRecorded book (next_call walk.counts.items caller) c.args.transition.reply).
+    inl
+    (λ (recorded : IsRecorded book (next_call walk.counts.items caller) c.args.transition.reply).
     absurd (let e = c.is_recorded.ensures.1
     (subst (λ (call : Call). IsRecorded book call c.args.transition.reply) (sym same) recorded) in
     cc))

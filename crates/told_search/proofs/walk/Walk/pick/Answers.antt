@@ -17,5 +17,6 @@ returns-clause-none c = if_none c.loop-caller.best
       c.callers-caller-end.ensures.count,
       walk_wide c.args.table.now c.args.book.now c.args.self.now c.requires,
       walk_counts c.args.table.now c.args.book.now c.args.self.now
-          (next_call c.args.self.now.counts.items i) c.requires (c.requires.here.may i marked).is_call,
+          (next_call c.args.self.now.counts.items i) c.requires
+          (c.requires.here.may i marked).is_call,
     )) marked) c.loop-caller.invariant.1

@@ -1,9 +1,11 @@
-use Rattle.std.proofs.Common.{◌≡◌, ◌∙◌, [], ℕ, List, length, replicate, refl, sym, subst, arith, rules}
+use Rattle.std.proofs.Common.{◌≡◌, ◌∙◌, [], List, length, replicate, refl, sym, ap, subst, arith, rules}
 use Rattle.std.proofs.lemmas.List.{nil_from_length}
 use Rattle.book_base.specs.Order.{call_at}
 use Rattle.told_search.specs.declared.walk.Frame.{Frame}
+use Rattle.told_models.specs.Closed.{number_of_calls}
 use Rattle.told_search.specs.Walking.{FramesLead}
-use Rattle.told_search.proofs.Walks.{walk_wide, walk_counts, walk_from, walk_back, walk_ends, walk_retreats}
+use Rattle.told_search.specs.Weighing.{number_marked, weigh}
+use Rattle.told_search.proofs.Walks.{walk_wide, walk_counts, walk_from, walk_back, walk_ends, walk_retreats, lighter_back}
 use Rattle.told_search.proofs.walk.Walk.retreat.Goals as goal
 
 pub returns-in_default : goal.returns-in_default
@@ -17,6 +19,11 @@ returns-in_default c = λ table book h none.
           (subst (λ (fs : List Frame). FramesLead table book (replicate (length book) 0) table.init
           fs old.counts.items old.state) (empty ∙ sym still) h.leads) h.here,
       walk_ends table book old h empty none,
+      omega (
+        arith,
+        ap (λ (fs : List Frame). weigh (number_of_calls book) fs (number_marked old.waiting))
+            (empty ∙ sym still),
+      ),
     )
 
 pub set_count-requires-clause-caller : goal.set_count-requires-clause-caller
@@ -53,4 +60,6 @@ returns c = λ table book h none. (
   walk_retreats table book c.args.self.now _ c.pop.new.self.items c.in-Some.frame h none
       c.in-Some.ensures.items refl c.set_count.ensures refl c.without-self.ensures refl refl,
   tt,
+  lighter_back table book c.args.self.now c.pop.new.self.items c.in-Some.frame
+      c.without-self.result h c.in-Some.ensures.items c.without-self.ensures,
 )

@@ -1,0 +1,4 @@
+pub mod Counting
+pub mod Histories
+pub mod Numbers
+pub mod Sound

@@ -1,0 +1,5 @@
+pub mod Words
+pub mod History
+pub mod Checks
+pub mod Requests
+pub mod Laws

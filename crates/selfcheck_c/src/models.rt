@@ -1,0 +1,292 @@
+ghost use Rattle.std.specs.Prelude.{◌≡◌, ◌↔◌, ◌⊎◌, ◌<◌, ◌≤◌, List, None, drop, length, map, take};
+ghost use Rattle.book_base.specs.declared.TheConstants.{MAX_CALLERS};
+ghost use Rattle.book_base.specs.declared.call.Call.{Call};
+ghost use Rattle.model_checks.specs.declared.answer.ModelAnswer.{ModelAnswer};
+ghost use Rattle.model_checks.specs.declared.request.ModelReply.{ModelReply};
+ghost use Rattle.model_checks.specs.declared.request.ModelRequest.{ModelRequest};
+ghost use Rattle.model_checks.specs.History.{MayBegin, MayEnd};
+ghost use Rattle.model_checks.specs.Checks.{HasOrder, IsOrderOf};
+ghost use Rattle.call_handles.specs.Slots.{handle_in, IsModels, IsOpenedModel, HasServed};
+ghost use Rattle.selfcheck_c.specs.declared.TheConstants.{LEGAL, ILLEGAL, NO_MEMORY, NO_ROOM};
+ghost use Rattle.selfcheck_c.specs.declared.handles.TheConstants.{DONE, UNFIT};
+ghost use Rattle.selfcheck_c.specs.Models.{named_call};
+
+use crate::handles::{DONE, UNFIT};
+use crate::placed::{PlacedCall, put_calls};
+use crate::{ILLEGAL, LEGAL, NO_MEMORY, NO_ROOM};
+use book_base::NoMemory;
+use call_handles::{Slot, model_order, open_model, serve};
+use model_checks::{ModelAnswer, ModelReply, ModelRequest, ModelStep};
+use std::alloc::Global;
+
+/// The question is written: what its operation does at its state is to be told.
+pub const ASK: u32 = 10;
+/// The steps are used up; a further call goes on.
+pub const PAUSED: u32 = 11;
+/// Another step was told there, and nothing has changed.
+pub const CONTRADICTS: u32 = 12;
+/// The step breaks a promise, or the promise a told step, and nothing has changed.
+pub const LEAVES_NOT: u32 = 13;
+
+/// What a check of a model asks: what this operation does at this state.
+#[repr(C)]
+#[derive(Clone, Copy)]
+pub struct ModelQuestion {
+    pub state: u32,
+    pub op: u32,
+}
+
+/// Opens a check of a history of this many callers, 1 to 16, by a model, and puts it into the slot,
+/// which is to have no handle. The initial state of the model has the number 0.
+#[unsafe(no_mangle)]
+pub extern "C" fn selfcheck_model_open(alloc: Global, callers: u32, slot: &mut Slot) -> u32
+    // With `DONE` the slot has the check of a history without calls, of a model of which nothing
+    // was told.
+    ensures opened { result ≡ DONE → IsOpenedModel callers (handle_in slot.new) }
+    // The status is `UNFIT` exactly where the callers aren't within the limits, or the slot had a
+    // handle.
+    ensures unfit { (result ≡ UNFIT) ↔
+        ¬ ((1 ≤ callers) × (callers ≤ MAX_CALLERS) × (handle_in slot.old ≡ None)) }
+    // With each status but `DONE` the slot is as it was.
+    ensures unchanged { ¬ (result ≡ DONE) → slot.new ≡ slot.old }
+    // The status is `DONE`, `NO_MEMORY` or `UNFIT`.
+    ensures ends { (result ≡ DONE) ⊎ (result ≡ NO_MEMORY) ⊎ (result ≡ UNFIT) }
+{
+    match open_model(alloc, callers, slot) {
+        Ok(true) => DONE,
+        Ok(false) => UNFIT,
+        Err(NoMemory) => NO_MEMORY,
+    }
+}
+
+/// A caller's next call begins, with this operation. Its last call is to have ended, and it is to
+/// have made fewer than 256 calls.
+#[unsafe(no_mangle)]
+pub extern "C" fn selfcheck_model_begin(alloc: Global, slot: &mut Slot, caller: u32, op: u32) -> u32
+    // With `DONE` the call has begun, and what was told of the model is as before.
+    ensures begun { result ≡ DONE → HasServed (ModelRequest.Begin caller op) ModelReply.Done
+        (handle_in slot.old) (handle_in slot.new) }
+    // The status is `UNFIT` exactly where the slot has no check of a model, the history has no such
+    // caller, its last call hasn't ended, or it has made 256 calls.
+    ensures unfit { (result ≡ UNFIT) ↔
+        ¬ IsModels (λ check. MayBegin check.book caller) (handle_in slot.old) }
+    // With each status but `DONE` the check is as it was.
+    ensures unchanged { ¬ (result ≡ DONE) → handle_in slot.new ≡ handle_in slot.old }
+    // The status is `DONE`, `NO_MEMORY` or `UNFIT`.
+    ensures ends { (result ≡ DONE) ⊎ (result ≡ NO_MEMORY) ⊎ (result ≡ UNFIT) }
+{
+    let Some(reply) = serve(alloc, slot, ModelRequest::Begin(caller, op)) else {
+        return UNFIT;
+    };
+    match reply {
+        ModelReply::Done => DONE,
+        ModelReply::NoMemory => NO_MEMORY,
+        _ => UNFIT,
+    }
+}
+
+/// The caller's call that has begun ends, with this reply.
+#[unsafe(no_mangle)]
+pub extern "C" fn selfcheck_model_end(
+    alloc: Global,
+    slot: &mut Slot,
+    caller: u32,
+    reply: u32,
+) -> u32
+    // With `DONE` the call has ended, and what was told of the model is as before.
+    ensures ended { result ≡ DONE → HasServed (ModelRequest.End caller reply) ModelReply.Done
+        (handle_in slot.old) (handle_in slot.new) }
+    // The status is `UNFIT` exactly where the slot has no check of a model, the history has no such
+    // caller, or no call of it has begun that hasn't ended.
+    ensures unfit { (result ≡ UNFIT) ↔
+        ¬ IsModels (λ check. MayEnd check.book caller) (handle_in slot.old) }
+    // With each status but `DONE` the check is as it was.
+    ensures unchanged { ¬ (result ≡ DONE) → handle_in slot.new ≡ handle_in slot.old }
+    // The status is `DONE`, `NO_MEMORY` or `UNFIT`.
+    ensures ends { (result ≡ DONE) ⊎ (result ≡ NO_MEMORY) ⊎ (result ≡ UNFIT) }
+{
+    let Some(reply) = serve(alloc, slot, ModelRequest::End(caller, reply)) else {
+        return UNFIT;
+    };
+    match reply {
+        ModelReply::Done => DONE,
+        ModelReply::NoMemory => NO_MEMORY,
+        _ => UNFIT,
+    }
+}
+
+/// Promises that the operation changes no state at which it has this reply. Each told step is held
+/// against it.
+#[unsafe(no_mangle)]
+pub extern "C" fn selfcheck_model_leaves(alloc: Global, slot: &mut Slot, op: u32, reply: u32) -> u32
+    // With `DONE` the promise is made, and all else is as before.
+    ensures promised { result ≡ DONE → HasServed (ModelRequest.Leaves op reply) ModelReply.Done
+        (handle_in slot.old) (handle_in slot.new) }
+    // With `LEAVES_NOT` a told step breaks the promise.
+    ensures broken { result ≡ LEAVES_NOT → HasServed (ModelRequest.Leaves op reply)
+        ModelReply.LeavesNot (handle_in slot.old) (handle_in slot.new) }
+    // The status is `UNFIT` exactly where the slot has no check of a model.
+    ensures unfit { (result ≡ UNFIT) ↔ ¬ IsModels (λ _. Unit {0}) (handle_in slot.old) }
+    // With each status but `DONE` the check is as it was.
+    ensures unchanged { ¬ (result ≡ DONE) → handle_in slot.new ≡ handle_in slot.old }
+    // The status is `DONE`, `LEAVES_NOT`, `NO_MEMORY` or `UNFIT`.
+    ensures ends { (result ≡ DONE) ⊎ (result ≡ LEAVES_NOT) ⊎ (result ≡ NO_MEMORY)
+        ⊎ (result ≡ UNFIT) }
+{
+    let Some(reply) = serve(alloc, slot, ModelRequest::Leaves(op, reply)) else {
+        return UNFIT;
+    };
+    match reply {
+        ModelReply::Done => DONE,
+        ModelReply::LeavesNot => LEAVES_NOT,
+        _ => NO_MEMORY,
+    }
+}
+
+/// Goes on with the check, by at most so many steps.
+#[unsafe(no_mangle)]
+pub extern "C" fn selfcheck_model_next(
+    alloc: Global,
+    slot: &mut Slot,
+    steps: u64,
+    question: &mut ModelQuestion,
+) -> u32
+    // With `LEGAL` the history has an order that is legal for each object that agrees with what was
+    // told.
+    ensures legal { result ≡ LEGAL → HasServed (ModelRequest.GoOn steps)
+        (ModelReply.Said ModelAnswer.Legal) (handle_in slot.old) (handle_in slot.new) }
+    // With `ILLEGAL` no object that agrees with what was told has a legal order of the history.
+    ensures illegal { result ≡ ILLEGAL → HasServed (ModelRequest.GoOn steps)
+        (ModelReply.Said ModelAnswer.Illegal) (handle_in slot.old) (handle_in slot.new) }
+    // With `ASK` the question has a state and an operation of the history whose step wasn't told.
+    ensures ask { result ≡ ASK → HasServed (ModelRequest.GoOn steps)
+        (ModelReply.Said (ModelAnswer.Ask question.new.state question.new.op))
+        (handle_in slot.old) (handle_in slot.new) }
+    // With `PAUSED` what is left to try has become less by as many as there are steps.
+    ensures paused { result ≡ PAUSED → HasServed (ModelRequest.GoOn steps)
+        (ModelReply.Said ModelAnswer.Paused) (handle_in slot.old) (handle_in slot.new) }
+    // With `NO_MEMORY` the history and what was told are as before.
+    ensures no_memory { result ≡ NO_MEMORY → HasServed (ModelRequest.GoOn steps)
+        ModelReply.NoMemory (handle_in slot.old) (handle_in slot.new) }
+    // The status is `UNFIT` exactly where the slot has no check of a model.
+    ensures unfit { (result ≡ UNFIT) ↔ ¬ IsModels (λ _. Unit {0}) (handle_in slot.old) }
+    // With `UNFIT` the handle is as it was.
+    ensures unchanged { result ≡ UNFIT → handle_in slot.new ≡ handle_in slot.old }
+    // With each status but `ASK` the question is as it was.
+    ensures unasked { ¬ (result ≡ ASK) → question.new ≡ question.old }
+    // The status is `LEGAL`, `ILLEGAL`, `ASK`, `PAUSED`, `NO_MEMORY` or `UNFIT`.
+    ensures ends { (result ≡ LEGAL) ⊎ (result ≡ ILLEGAL) ⊎ (result ≡ ASK) ⊎ (result ≡ PAUSED)
+        ⊎ (result ≡ NO_MEMORY) ⊎ (result ≡ UNFIT) }
+{
+    let Some(reply) = serve(alloc, slot, ModelRequest::GoOn(steps)) else {
+        return UNFIT;
+    };
+    let ModelReply::Said(said) = reply else {
+        return NO_MEMORY;
+    };
+    match said {
+        ModelAnswer::Legal => LEGAL,
+        ModelAnswer::Illegal => ILLEGAL,
+        ModelAnswer::Ask(state, op) => {
+            *question = ModelQuestion { state, op };
+            ASK
+        }
+        ModelAnswer::Paused => PAUSED,
+    }
+}
+
+/// Tells a step of the model: at this state the operation leads to the state `next`, and has this
+/// reply.
+#[unsafe(no_mangle)]
+pub extern "C" fn selfcheck_model_tell(
+    alloc: Global,
+    slot: &mut Slot,
+    state: u32,
+    op: u32,
+    next: u32,
+    reply: u32,
+) -> u32
+    // With `DONE` the step is told, and all else is as before.
+    ensures told { result ≡ DONE → HasServed
+        (ModelRequest.Tell (record { state = state; op = op; next = next; reply = reply }))
+        ModelReply.Done (handle_in slot.old) (handle_in slot.new) }
+    // With `CONTRADICTS` another step was told there.
+    ensures contradicts { result ≡ CONTRADICTS → HasServed
+        (ModelRequest.Tell (record { state = state; op = op; next = next; reply = reply }))
+        ModelReply.Contradicts (handle_in slot.old) (handle_in slot.new) }
+    // With `LEAVES_NOT` the step breaks a promise.
+    ensures broken { result ≡ LEAVES_NOT → HasServed
+        (ModelRequest.Tell (record { state = state; op = op; next = next; reply = reply }))
+        ModelReply.LeavesNot (handle_in slot.old) (handle_in slot.new) }
+    // The status is `UNFIT` exactly where the slot has no check of a model.
+    ensures unfit { (result ≡ UNFIT) ↔ ¬ IsModels (λ _. Unit {0}) (handle_in slot.old) }
+    // With each status but `DONE` the check is as it was.
+    ensures unchanged { ¬ (result ≡ DONE) → handle_in slot.new ≡ handle_in slot.old }
+    // The status is `DONE`, `CONTRADICTS`, `LEAVES_NOT`, `NO_MEMORY` or `UNFIT`.
+    ensures ends { (result ≡ DONE) ⊎ (result ≡ CONTRADICTS) ⊎ (result ≡ LEAVES_NOT)
+        ⊎ (result ≡ NO_MEMORY) ⊎ (result ≡ UNFIT) }
+{
+    let step = ModelStep {
+        state,
+        op,
+        next,
+        reply,
+    };
+    let Some(reply) = serve(alloc, slot, ModelRequest::Tell(step)) else {
+        return UNFIT;
+    };
+    match reply {
+        ModelReply::Done => DONE,
+        ModelReply::Contradicts => CONTRADICTS,
+        ModelReply::LeavesNot => LEAVES_NOT,
+        _ => NO_MEMORY,
+    }
+}
+
+/// Writes the legal order that the check has found: for each place the caller and the number of its
+/// call. `written` is the number of places, even where the buffer can't hold them and nothing is
+/// written.
+#[unsafe(no_mangle)]
+pub extern "C" fn selfcheck_model_order(
+    alloc: Global,
+    slot: &mut Slot,
+    order: &mut [PlacedCall],
+    written: &mut usize,
+) -> u32
+    // With `DONE` the places fit the buffer.
+    ensures held { result ≡ DONE → written.new ≤ length order.new }
+    // With `DONE` the first `written` entries of the buffer are the calls of an order that is legal
+    // for each object that agrees with what was told.
+    ensures order { result ≡ DONE → IsModels
+        (IsOrderOf (map named_call (take written.new order.new))) (handle_in slot.old) }
+    // With `DONE` the entries of the buffer after the first `written` are as they were.
+    ensures rest { result ≡ DONE → drop written.new order.new ≡ drop written.new order.old }
+    // With `NO_ROOM` the count `written` is greater than the length of the buffer.
+    ensures no_room { result ≡ NO_ROOM → length order.old < written.new }
+    // With `NO_ROOM` there is such an order, of `written` places.
+    ensures unheld { result ≡ NO_ROOM → (calls : List Call)
+        × IsModels (IsOrderOf calls) (handle_in slot.old) × (length calls ≡ written.new) }
+    // With `UNFIT` the slot has no check of a model that has found an order of its history.
+    ensures unfit { result ≡ UNFIT → ¬ IsModels HasOrder (handle_in slot.old) }
+    // With each status but `DONE` the buffer is as it was.
+    ensures unwritten { ¬ (result ≡ DONE) → order.new ≡ order.old }
+    // With each status but `DONE` and `NO_ROOM` the count `written` is as it was.
+    ensures uncounted { ¬ (result ≡ DONE) → ¬ (result ≡ NO_ROOM) → written.new ≡ written.old }
+    // The slot's handle is as it was.
+    ensures kept { handle_in slot.new ≡ handle_in slot.old }
+    // The status is `DONE`, `NO_MEMORY`, `NO_ROOM` or `UNFIT`.
+    ensures ends { (result ≡ DONE) ⊎ (result ≡ NO_MEMORY) ⊎ (result ≡ NO_ROOM) ⊎ (result ≡ UNFIT) }
+{
+    match model_order(alloc, slot) {
+        Ok(Some(calls)) => {
+            *written = calls.len();
+            if put_calls(order, &calls) {
+                DONE
+            } else {
+                NO_ROOM
+            }
+        }
+        Ok(None) => UNFIT,
+        Err(NoMemory) => NO_MEMORY,
+    }
+}
