@@ -3,10 +3,12 @@
 use crate::record::Call;
 use crate::recorder::{MAX_CALLERS, MAX_CALLS};
 use std::collections::BTreeMap;
+use std::fmt;
 
-/// Recorded calls.
-#[derive(Debug)]
-pub(crate) struct History<O, R> {
+/// Recorded calls, with the moments of their invocations and returns. It is displayed with a line for each call, in the
+/// order of the invocations: its number in this order, its operation, its reply if it has one, and both moments.
+#[derive(Clone, Debug)]
+pub struct History<O, R> {
     // in the order of their invocations
     calls: Vec<Call<O, R>>,
     // how many callers stay with a thread
@@ -15,6 +17,64 @@ pub(crate) struct History<O, R> {
     beyond: usize,
     // whether an operation changes no object, whatever its reply is
     is_read_only: fn(&O) -> bool,
+}
+
+impl<O, R> History<O, R> {
+    /// How many calls it has, without those that its recorder no longer kept.
+    #[must_use]
+    pub fn len(&self) -> usize {
+        self.calls.len()
+    }
+
+    /// Whether it has no call.
+    #[must_use]
+    pub fn is_empty(&self) -> bool {
+        self.calls.is_empty()
+    }
+
+    /// The number of the call that was invoked at a moment.
+    pub(crate) fn number_at(&self, invoked: u64) -> usize {
+        self.calls.partition_point(|call| call.invoked < invoked)
+    }
+
+    /// The history of calls with these moments, and other operations and replies.
+    pub(crate) fn map<P, Q>(
+        &self,
+        other: impl Fn(&O, Option<&R>) -> (P, Option<Q>),
+    ) -> History<P, Q> {
+        let other = |call: &Call<O, R>| {
+            let reply = call.answer.as_ref().map(|(_, reply)| reply);
+            let (op, reply) = other(&call.op, reply);
+            let returned = call.answer.as_ref().map(|(returned, _)| *returned);
+            Call {
+                op,
+                invoked: call.invoked,
+                answer: returned.zip(reply),
+                own: call.own,
+            }
+        };
+        History {
+            calls: self.calls.iter().map(other).collect(),
+            own: self.own,
+            beyond: self.beyond,
+            is_read_only: |_| false,
+        }
+    }
+}
+
+impl<O: fmt::Debug, R: fmt::Debug> fmt::Display for History<O, R> {
+    fn fmt(&self, f: &mut fmt::Formatter<'_>) -> fmt::Result {
+        for (number, call) in self.calls.iter().enumerate() {
+            write!(f, "{number}: {:?}", call.op)?;
+            match &call.answer {
+                Some((returned, reply)) => {
+                    writeln!(f, " replied {reply:?}, {} to {returned}", call.invoked)?;
+                }
+                None => writeln!(f, " never returned, {} on", call.invoked)?,
+            }
+        }
+        Ok(())
+    }
 }
 
 /// The calls of each caller of a book.

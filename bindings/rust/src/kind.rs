@@ -1,5 +1,7 @@
 //! The kinds of object, and the operations of each.
 
+use crate::recorder::Recorded;
+use crate::reply::Reply;
 use std::fmt;
 
 mod sealed {
@@ -15,18 +17,22 @@ mod sealed {
 /// #[derive(Clone, Copy, Debug)]
 /// struct Mine;
 ///
+/// impl selfcheck::Recorded for Mine {
+///     type Op = selfcheck::CounterOp;
+///     type Reply = selfcheck::Reply;
+/// }
+///
 /// impl selfcheck::Kind for Mine {
 ///     const NAME: &'static str = "mine";
-///
-///     type Op = selfcheck::CounterOp;
 /// }
 /// ```
-pub trait Kind: sealed::Sealed + Copy + fmt::Debug + 'static {
+///
+/// An object of any other kind is judged by a [`Model`](crate::Model).
+pub trait Kind:
+    Recorded<Op: Operation, Reply = Reply> + sealed::Sealed + Copy + fmt::Debug + 'static
+{
     /// Its name in a book.
     const NAME: &'static str;
-
-    /// Its operations.
-    type Op: Operation;
 }
 
 /// A kind that is made of one object for each key: a call sees and changes that of its key alone.
@@ -105,8 +111,15 @@ macro_rules! kinds {
 
         impl Kind for $kind {
             const NAME: &'static str = $name;
+        }
 
+        impl Recorded for $kind {
             type Op = $operations;
+            type Reply = Reply;
+
+            fn is_read_only(op: &$operations) -> bool {
+                Operation::is_read_only(*op)
+            }
         }
 
         #[doc = concat!("An operation of a `", $name, "`.")]

@@ -33,7 +33,44 @@
 //! Code that uses the types of [`schedule`] in place of the standard library's runs one thread at a time, by a seed, and
 //! [`hunt()`] makes random calls of an object under such schedules, until one is wrong; what it finds comes again.
 //!
-//! **What it says.** The verdict on a book is proved. The recorder is tested: a book that it makes is always a
+//! An object that is of no [`Kind`] is judged by a [`Model`], a sequential object in plain Rust: see [`model`].
+//!
+//! ```
+//! use selfcheck::{Model, Recorder, model::verify};
+//!
+//! /// A queue with two places. An operation puts a number, or takes one. It replies the number, or `None` where it
+//! /// refuses: it is full, or empty.
+//! struct Bounded;
+//!
+//! impl Model for Bounded {
+//!     type State = Vec<u32>;
+//!     type Op = Option<u32>;
+//!     type Reply = Option<u32>;
+//!
+//!     fn initial(&self) -> Vec<u32> {
+//!         Vec::new()
+//!     }
+//!
+//!     fn step(&self, items: &Vec<u32>, op: &Option<u32>) -> (Vec<u32>, Option<u32>) {
+//!         match (op, items.split_first()) {
+//!             (Some(item), _) if items.len() < 2 => ([&items[..], &[*item]].concat(), *op),
+//!             (None, Some((first, rest))) => (rest.to_vec(), Some(*first)),
+//!             _ => (items.clone(), None),
+//!         }
+//!     }
+//! }
+//!
+//! let (sender, receiver) = std::sync::mpsc::sync_channel(2);
+//! let recorder = Recorder::<Bounded>::new();
+//! for item in 1..=3 {
+//!     recorder.call(Some(item), || sender.try_send(item).ok().map(|()| item));
+//! }
+//! recorder.call(None, || receiver.try_recv().ok());
+//! assert!(verify(&Bounded, &recorder.history()?)?.is_legal());
+//! # Ok::<_, Box<dyn std::error::Error>>(())
+//! ```
+//!
+//! **What it says.** The verdict on a book is proved, and so is that on a history by a model. The recorder is tested: a book that it makes is always a
 //! text of a book, and where the book has no legal order, the recorded run wasn't linearizable. A run of a wrong
 //! object may be legal all the same: the threads didn't meet in the wrong way, or the recorded intervals, which
 //! are a little wider than the calls, hide it. Nothing is promised of schedules, so record many short runs, or hunt.
@@ -59,6 +96,8 @@ mod kind;
 #[allow(unsafe_code)]
 mod library;
 #[forbid(unsafe_code)]
+pub mod model;
+#[forbid(unsafe_code)]
 mod monitored;
 #[forbid(unsafe_code)]
 mod objects;
@@ -76,6 +115,7 @@ pub mod schedule;
 pub use book::Book;
 pub use enforced::{CallError, Enforced, EnforcedCaller, OpenError};
 pub use fault::{Fault, Verdict, What};
+pub use history::History;
 pub use hunt::hunt;
 pub use kind::{
     CasRegister, CasRegisterOp, Counter, CounterOp, Keyed, Kind, Map, MapOp, Operation,
@@ -83,6 +123,7 @@ pub use kind::{
     StackOp,
 };
 pub use library::{certify, explain, order, picture, smaller, verify};
+pub use model::Model;
 pub use monitored::{JudgeError, Monitor, Monitored, MonitoredCaller};
 pub use objects::{
     CasRegisterObject, CounterObject, MapObject, PriorityQueueObject, QueueObject, RegisterObject,
@@ -90,6 +131,6 @@ pub use objects::{
 };
 pub use places::{CallerError, NotMade};
 pub use recorder::{
-    Caller, Incomplete, MAX_CALLERS, MAX_CALLS, Pending, PendingCall, Prefix, Recorder,
+    Caller, Incomplete, MAX_CALLERS, MAX_CALLS, Pending, PendingCall, Prefix, Recorded, Recorder,
 };
 pub use reply::Reply;

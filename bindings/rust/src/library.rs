@@ -15,13 +15,29 @@ struct Refusal {
     what: u32,
 }
 
-/// A place for one handle of the library: of a table, of one of its callers, or of one of its monitors. It has one where
+/// A place for one handle of the library: of a table, of one of its callers or monitors, or of a check by a model. It has one where
 /// `in_use` is 1, and then a pointer to what it owns. The library alone writes to it.
 #[repr(C)]
 #[derive(Debug)]
 struct Slot {
     in_use: u32,
     at: *mut c_void,
+}
+
+/// What a check asks of a model: what this operation does at this state.
+#[repr(C)]
+#[derive(Default)]
+struct ModelQuestion {
+    state: u32,
+    op: u32,
+}
+
+/// A call in an order: its caller, and its number among the caller's calls, from 0.
+#[repr(C)]
+#[derive(Clone, Copy, Default)]
+pub(crate) struct PlacedCall {
+    pub(crate) caller: u32,
+    pub(crate) number: u32,
 }
 
 // The exports of `crates/selfcheck_c`: a `&[u8]` crosses as a pointer, not null, and a length, and a `Global` as
@@ -79,6 +95,18 @@ unsafe extern "C" {
     fn selfcheck_witness(slot: &mut Slot, buffer: *mut u8, room: usize, written: &mut usize)
     -> u32;
     fn selfcheck_drop(slot: &mut Slot) -> u32;
+    fn selfcheck_model_open(callers: u32, slot: &mut Slot) -> u32;
+    fn selfcheck_model_begin(slot: &mut Slot, caller: u32, op: u32) -> u32;
+    fn selfcheck_model_end(slot: &mut Slot, caller: u32, reply: u32) -> u32;
+    fn selfcheck_model_leaves(slot: &mut Slot, op: u32, reply: u32) -> u32;
+    fn selfcheck_model_next(slot: &mut Slot, steps: u64, question: &mut ModelQuestion) -> u32;
+    fn selfcheck_model_tell(slot: &mut Slot, state: u32, op: u32, next: u32, reply: u32) -> u32;
+    fn selfcheck_model_order(
+        slot: &mut Slot,
+        order: *mut PlacedCall,
+        room: usize,
+        written: &mut usize,
+    ) -> u32;
 }
 
 const LEGAL: u32 = 0;
@@ -88,6 +116,10 @@ const REFUSED: u32 = 3;
 const NO_MEMORY: u32 = 6;
 const NO_ROOM: u32 = 8;
 const UNFIT: u32 = 9;
+const ASK: u32 = 10;
+const PAUSED: u32 = 11;
+const CONTRADICTS: u32 = 12;
+const LEAVES_NOT: u32 = 13;
 
 const fn number(text: &str) -> u32 {
     match u32::from_str_radix(text, 10) {
@@ -327,6 +359,17 @@ const _: unsafe extern "C" fn(&mut Slot, u64, u64) -> u32 = selfcheck_announce;
 const _: [unsafe extern "C" fn(&mut Slot, u64) -> u32; 2] = [selfcheck_answered, selfcheck_publish];
 const _: unsafe extern "C" fn(&mut Slot, *mut u8, usize, &mut usize) -> u32 = selfcheck_witness;
 
+const _: unsafe extern "C" fn(u32, &mut Slot) -> u32 = selfcheck_model_open;
+const _: [unsafe extern "C" fn(&mut Slot, u32, u32) -> u32; 3] = [
+    selfcheck_model_begin,
+    selfcheck_model_end,
+    selfcheck_model_leaves,
+];
+const _: unsafe extern "C" fn(&mut Slot, u64, &mut ModelQuestion) -> u32 = selfcheck_model_next;
+const _: unsafe extern "C" fn(&mut Slot, u32, u32, u32, u32) -> u32 = selfcheck_model_tell;
+const _: unsafe extern "C" fn(&mut Slot, *mut PlacedCall, usize, &mut usize) -> u32 =
+    selfcheck_model_order;
+
 // Compiles only where a type lacks a trait: else the path below might mean either of two impls.
 macro_rules! lacks {
     ($($type:ty: $($trait:path),+;)+) => {$($(
@@ -356,6 +399,7 @@ lacks! {
     Announced: Sync, Clone, Copy;
     Wrong: Sync, Clone, Copy;
     Watching: Sync, Clone, Copy;
+    ModelCheck: Sync, Clone, Copy;
 }
 
 impl Slot {
@@ -523,6 +567,108 @@ impl Wrong {
                 status => no_such_status(status),
             }
         }
+    }
+}
+
+/// A check of a history by a model whose steps are asked for. States, operations and replies are
+/// numbers, of which 0 is that of the initial state.
+#[derive(Debug)]
+pub(crate) struct ModelCheck(Slot);
+
+/// What a check of a model says.
+#[derive(Clone, Copy, Debug)]
+pub(crate) enum ModelAnswer {
+    Legal,
+    Illegal,
+    Asks { state: u32, op: u32 },
+    Paused,
+}
+
+/// Why a check of a model takes no more.
+#[derive(Clone, Copy, Debug)]
+pub(crate) enum ModelFault {
+    /// Another step was told there.
+    Contradicts,
+    /// A step breaks a promise.
+    LeavesNot,
+    NoMemory,
+}
+
+fn taken(status: u32) -> Result<(), ModelFault> {
+    match status {
+        DONE => Ok(()),
+        NO_MEMORY => Err(ModelFault::NoMemory),
+        CONTRADICTS => Err(ModelFault::Contradicts),
+        LEAVES_NOT => Err(ModelFault::LeavesNot),
+        status => no_such_status(status),
+    }
+}
+
+impl ModelCheck {
+    /// The check of a history of 1 to 16 callers.
+    pub(crate) fn open(callers: u32) -> Result<ModelCheck, ModelFault> {
+        check_version();
+        let mut slot = Slot::empty();
+        // SAFETY: the slot is this function's own, and new.
+        taken(unsafe { selfcheck_model_open(callers, &mut slot) })?;
+        Ok(ModelCheck(slot))
+    }
+
+    /// The caller's next call, of at most 256, begins. Its last one has ended.
+    pub(crate) fn begin(&mut self, caller: u32, op: u32) -> Result<(), ModelFault> {
+        // SAFETY: the slot is this check's own.
+        taken(unsafe { selfcheck_model_begin(&mut self.0, caller, op) })
+    }
+
+    /// The caller's call ends.
+    pub(crate) fn end(&mut self, caller: u32, reply: u32) -> Result<(), ModelFault> {
+        // SAFETY: the slot is this check's own.
+        taken(unsafe { selfcheck_model_end(&mut self.0, caller, reply) })
+    }
+
+    /// Promises that the operation changes no state at which it has this reply.
+    pub(crate) fn leaves(&mut self, op: u32, reply: u32) -> Result<(), ModelFault> {
+        // SAFETY: the slot is this check's own.
+        taken(unsafe { selfcheck_model_leaves(&mut self.0, op, reply) })
+    }
+
+    pub(crate) fn next(&mut self, steps: u64) -> Result<ModelAnswer, ModelFault> {
+        let mut question = ModelQuestion::default();
+        // SAFETY: the slot is this check's own, and the question this function's own.
+        match unsafe { selfcheck_model_next(&mut self.0, steps, &mut question) } {
+            LEGAL => Ok(ModelAnswer::Legal),
+            ILLEGAL => Ok(ModelAnswer::Illegal),
+            ASK => Ok(ModelAnswer::Asks {
+                state: question.state,
+                op: question.op,
+            }),
+            PAUSED => Ok(ModelAnswer::Paused),
+            NO_MEMORY => Err(ModelFault::NoMemory),
+            status => no_such_status(status),
+        }
+    }
+
+    pub(crate) fn tell(
+        &mut self,
+        state: u32,
+        op: u32,
+        next: u32,
+        reply: u32,
+    ) -> Result<(), ModelFault> {
+        // SAFETY: the slot is this check's own.
+        taken(unsafe { selfcheck_model_tell(&mut self.0, state, op, next, reply) })
+    }
+
+    /// The order of a history with so many calls, which is legal.
+    pub(crate) fn order(&mut self, calls: usize) -> Result<Vec<PlacedCall>, ModelFault> {
+        let (mut order, mut written) = (vec![PlacedCall::default(); calls], 0);
+        // SAFETY: the slot is this check's own; the pointer and the length are those of a buffer of this function's own,
+        // as the count is, and none overlaps another.
+        taken(unsafe {
+            selfcheck_model_order(&mut self.0, order.as_mut_ptr(), order.len(), &mut written)
+        })?;
+        order.truncate(written);
+        Ok(order)
     }
 }
 

@@ -1,8 +1,8 @@
-//! Recorders of objects of a kind.
+//! Recorders of objects.
 
 use crate::book::Book;
 use crate::history::History;
-use crate::kind::{Keyed, Kind, Operation};
+use crate::kind::{Keyed, Kind};
 use crate::record::{Begun, Line, Own, Record};
 use crate::reply::Reply;
 use std::collections::BTreeMap;
@@ -16,6 +16,20 @@ use std::sync::Arc;
 pub const MAX_CALLERS: usize = 16;
 /// How many calls each of them may have.
 pub const MAX_CALLS: usize = 256;
+
+/// What a recorder records calls of: a [`Kind`], or a [`Model`](crate::Model).
+pub trait Recorded {
+    /// Its operations.
+    type Op;
+
+    /// What it replies to them.
+    type Reply;
+
+    /// Whether the operation changes no object, whatever its reply is.
+    fn is_read_only(_op: &Self::Op) -> bool {
+        false
+    }
+}
 
 /// Records the calls that threads make to one object.
 ///
@@ -43,26 +57,29 @@ pub const MAX_CALLS: usize = 256;
 /// A reply of a form that the kind never gives to the operation, such as `None` to a read of a
 /// register, is found before an order is looked for, and makes the book illegal, whatever the other
 /// calls are.
-#[derive(Clone, Debug)]
-pub struct Recorder<K: Kind> {
-    record: Arc<Record<K::Op, Reply>>,
+///
+/// Calls that are to be judged by a [`Model`](crate::Model) have its operations and replies, and
+/// their [`history`](Recorder::history) takes the place of the book.
+#[derive(Debug)]
+pub struct Recorder<T: Recorded> {
+    record: Arc<Record<T::Op, T::Reply>>,
 }
 
 /// A caller that stays with one thread. Its calls are handed in where it is dropped.
 #[derive(Debug)]
-pub struct Caller<K: Kind>(Own<K::Op, Reply>);
+pub struct Caller<T: Recorded>(Own<T::Op, T::Reply>);
 
 /// A call that was invoked by a [`Caller`] and hasn't returned. Where it is dropped, it never does.
 #[derive(Debug)]
 #[must_use = "a call that isn't told to return never does"]
-pub struct Pending<'a, K: Kind>(Begun<'a, K::Op, Reply>);
+pub struct Pending<'a, T: Recorded>(Begun<'a, T::Op, T::Reply>);
 
 /// A call that was invoked on a [`Recorder`] and hasn't returned. Where it is dropped, it never
 /// does. Any thread may have it.
 #[derive(Debug)]
 #[must_use = "a call that isn't told to return never does"]
-pub struct PendingCall<K: Kind> {
-    record: Arc<Record<K::Op, Reply>>,
+pub struct PendingCall<T: Recorded> {
+    record: Arc<Record<T::Op, T::Reply>>,
     line: Line,
 }
 
@@ -123,16 +140,24 @@ impl fmt::Display for Incomplete {
 
 impl Error for Incomplete {}
 
-impl<K: Kind> Default for Recorder<K> {
+impl<T: Recorded> Default for Recorder<T> {
     fn default() -> Self {
         Recorder::new()
     }
 }
 
-impl<K: Kind> Recorder<K> {
+// Written out, since what is derived would clone only where the kind or the model does.
+impl<T: Recorded> Clone for Recorder<T> {
+    fn clone(&self) -> Self {
+        let record = Arc::clone(&self.record);
+        Recorder { record }
+    }
+}
+
+impl<T: Recorded> Recorder<T> {
     /// A recorder of no calls.
     #[must_use]
-    pub fn new() -> Recorder<K> {
+    pub fn new() -> Recorder<T> {
         let record = Record::new(None);
         Recorder { record }
     }
@@ -141,21 +166,21 @@ impl<K: Kind> Recorder<K> {
     /// wait, so that so many are open at once at the most. Where more threads call than a book has
     /// callers, their calls fit it only so. A call that never returns lets the next one in.
     #[must_use]
-    pub fn with_open_calls(most: NonZero<usize>) -> Recorder<K> {
+    pub fn with_open_calls(most: NonZero<usize>) -> Recorder<T> {
         let record = Record::new(Some(most));
         Recorder { record }
     }
 
     /// A further caller that stays with a thread.
     #[must_use]
-    pub fn caller(&self) -> Caller<K> {
+    pub fn caller(&self) -> Caller<T> {
         Caller(self.record.caller())
     }
 
     /// Makes a call and records it, with what it gives as the reply.
     ///
     /// Where the closure panics, the call never returns, which is what happened.
-    pub fn call<R: Copy + Into<Reply>>(&self, op: K::Op, call: impl FnOnce() -> R) -> R {
+    pub fn call<R: Clone + Into<T::Reply>>(&self, op: T::Op, call: impl FnOnce() -> R) -> R {
         let Ok(value) = self.try_call(op, || Ok::<_, Infallible>(call()));
         value
     }
@@ -166,20 +191,20 @@ impl<K: Kind> Recorder<K> {
     /// # Errors
     ///
     /// Those of the closure.
-    pub fn try_call<R: Copy + Into<Reply>, E>(
+    pub fn try_call<R: Clone + Into<T::Reply>, E>(
         &self,
-        op: K::Op,
+        op: T::Op,
         call: impl FnOnce() -> Result<R, E>,
     ) -> Result<R, E> {
         let _permit = self.record.permit();
         let line = self.record.begin(op);
         let value = call()?;
-        self.record.end(line, |_| value.into());
+        self.record.end(line, |_| value.clone().into());
         Ok(value)
     }
 
     /// Invokes a call: to be written right before the object's own, for what doesn't fit a closure.
-    pub fn invoke(&self, op: K::Op) -> PendingCall<K> {
+    pub fn invoke(&self, op: T::Op) -> PendingCall<T> {
         PendingCall {
             record: Arc::clone(&self.record),
             line: self.record.begin(op),
@@ -189,17 +214,32 @@ impl<K: Kind> Recorder<K> {
     /// Makes a call and records it, with what the future gives as the reply. The call begins where
     /// this is first polled, and so the future is to do nothing before. Where this is dropped amid
     /// it, the call never returns.
-    pub async fn call_async<R: Copy + Into<Reply>>(
+    pub async fn call_async<R: Clone + Into<T::Reply>>(
         &self,
-        op: K::Op,
+        op: T::Op,
         call: impl Future<Output = R>,
     ) -> R {
         let line = self.record.begin(op);
         let value = call.await;
-        self.record.end(line, |_| value.into());
+        self.record.end(line, |_| value.clone().into());
         value
     }
 
+    /// All calls, to be judged by a model. What is called meanwhile is in it as far as it has come.
+    ///
+    /// # Errors
+    ///
+    /// Where a [`Caller`] is in use.
+    pub fn history(&self) -> Result<History<T::Op, T::Reply>, Incomplete>
+    where
+        T::Op: Clone,
+        T::Reply: Clone,
+    {
+        self.record.history(T::is_read_only)
+    }
+}
+
+impl<K: Kind> Recorder<K> {
     /// The book of all calls. What is called meanwhile is in it as far as it has come.
     ///
     /// # Errors
@@ -244,17 +284,13 @@ impl<K: Kind> Recorder<K> {
         let parts = self.history()?.by_key(|op| K::key(*op)).into_iter();
         Ok(parts.map(|(key, part)| (key, Prefix::of(&part))).collect())
     }
-
-    fn history(&self) -> Result<History<K::Op, Reply>, Incomplete> {
-        self.record.history(|op| op.is_read_only())
-    }
 }
 
-impl<K: Kind> Caller<K> {
+impl<T: Recorded> Caller<T> {
     /// Makes a call and records it, with what it gives as the reply.
     ///
     /// Where the closure panics, the call never returns, which is what happened.
-    pub fn call<R: Copy + Into<Reply>>(&mut self, op: K::Op, call: impl FnOnce() -> R) -> R {
+    pub fn call<R: Clone + Into<T::Reply>>(&mut self, op: T::Op, call: impl FnOnce() -> R) -> R {
         let Ok(value) = self.try_call(op, || Ok::<_, Infallible>(call()));
         value
     }
@@ -264,33 +300,33 @@ impl<K: Kind> Caller<K> {
     /// # Errors
     ///
     /// Those of the closure.
-    pub fn try_call<R: Copy + Into<Reply>, E>(
+    pub fn try_call<R: Clone + Into<T::Reply>, E>(
         &mut self,
-        op: K::Op,
+        op: T::Op,
         call: impl FnOnce() -> Result<R, E>,
     ) -> Result<R, E> {
         let pending = self.invoke(op);
         let value = call()?;
-        pending.ret(value);
+        pending.0.ret(|_| value.clone().into());
         Ok(value)
     }
 
     /// Invokes a call: to be written right before the object's own, for what doesn't fit a closure.
-    pub fn invoke(&mut self, op: K::Op) -> Pending<'_, K> {
+    pub fn invoke(&mut self, op: T::Op) -> Pending<'_, T> {
         Pending(self.0.invoke(op))
     }
 }
 
-impl<K: Kind> Pending<'_, K> {
+impl<T: Recorded> Pending<'_, T> {
     /// Returns with this reply: to be written right after the object's own call.
-    pub fn ret(self, reply: impl Into<Reply>) {
+    pub fn ret(self, reply: impl Into<T::Reply>) {
         self.0.ret(|_| reply.into());
     }
 }
 
-impl<K: Kind> PendingCall<K> {
+impl<T: Recorded> PendingCall<T> {
     /// Returns with this reply: to be written right after the object's own call.
-    pub fn ret(self, reply: impl Into<Reply>) {
+    pub fn ret(self, reply: impl Into<T::Reply>) {
         self.record.end(self.line, |_| reply.into());
     }
 }

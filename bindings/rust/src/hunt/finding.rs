@@ -2,6 +2,7 @@ use super::again::Again;
 use super::trial::{Found, Trial};
 use crate::book::Book;
 use crate::kind::Kind;
+use crate::schedule::{Ran, Who};
 use std::fmt;
 use std::path::{Path, PathBuf};
 
@@ -133,20 +134,28 @@ pub(crate) struct Steps<'a, K: Kind>(pub(crate) &'a Trial<K>);
 impl<K: Kind> fmt::Display for Steps<'_, K> {
     fn fmt(&self, f: &mut fmt::Formatter<'_>) -> fmt::Result {
         let Trial { script, ran, .. } = self.0;
-        let mut last = None;
-        for step in &ran.steps {
-            if last.is_some_and(|last| last != &step.who) {
-                writeln!(f)?;
-            }
-            last = Some(&step.who);
-            match (&step.who, step.call, step.operated.name) {
-                (crate::schedule::Who::Caller(caller), Some(call), "call") => {
-                    let (_, op) = script.callers[*caller][call];
-                    writeln!(f, "{} calls {op}", step.who)?;
-                }
-                _ => writeln!(f, "{step}")?,
-            }
-        }
-        Ok(())
+        write_steps(f, ran, |caller, call| script.callers[caller][call].1)
     }
+}
+
+/// Writes the steps of a run whose callers make these calls.
+pub(crate) fn write_steps<D: fmt::Display>(
+    f: &mut fmt::Formatter<'_>,
+    ran: &Ran,
+    op_of: impl Fn(usize, usize) -> D,
+) -> fmt::Result {
+    let mut last = None;
+    for step in &ran.steps {
+        if last.is_some_and(|last| last != &step.who) {
+            writeln!(f)?;
+        }
+        last = Some(&step.who);
+        match (&step.who, step.call, step.operated.name) {
+            (Who::Caller(caller), Some(call), "call") => {
+                writeln!(f, "{} calls {}", step.who, op_of(*caller, call))?;
+            }
+            _ => writeln!(f, "{step}")?,
+        }
+    }
+    Ok(())
 }

@@ -42,7 +42,7 @@
 
 mod again;
 mod error;
-mod finding;
+pub(crate) mod finding;
 mod folder;
 mod hunted;
 mod hunter;
@@ -51,7 +51,7 @@ mod script;
 mod scripted;
 mod settings;
 mod small;
-mod trial;
+pub(crate) mod trial;
 mod values;
 
 pub use again::{Again, NoRun};

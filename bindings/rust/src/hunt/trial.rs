@@ -2,7 +2,7 @@ use super::script::Script;
 use crate::book::Book;
 use crate::fault::{Fault, Verdict};
 use crate::kind::Kind;
-use crate::recorder::{Caller, Recorder};
+use crate::recorder::{Caller, Recorded, Recorder};
 use crate::reply::Reply;
 use crate::schedule::pool::Job;
 use crate::schedule::run::{self, Plan};
@@ -14,7 +14,7 @@ use std::panic::Location;
 use std::sync::Arc;
 
 /// An object, as what it replies to operations.
-pub(crate) type Object<K> = Arc<dyn Fn(<K as Kind>::Op) -> Reply + Send + Sync>;
+pub(crate) type Object<K> = Arc<dyn Fn(<K as Recorded>::Op) -> Reply + Send + Sync>;
 pub(crate) type Maker<K> = Arc<dyn Fn() -> Object<K> + Send + Sync>;
 
 /// What is wrong with a run.
@@ -117,15 +117,30 @@ pub(crate) fn recorder_of<K: Kind>(script: &Script<K>) -> (Recorder<K>, Vec<Call
     (recorder, callers)
 }
 
-// Makes the calls of one caller, each after a step of its own.
-fn lives<K: Kind>(mut caller: Caller<K>, calls: &[(usize, K::Op)], object: &Object<K>) {
-    for (number, (_, op)) in calls.iter().enumerate() {
+/// Makes the calls of one caller, each after a step of its own.
+pub(crate) fn lives<O, R>(calls: Vec<O>, mut call: impl FnMut(O) -> R) {
+    for (number, op) in calls.into_iter().enumerate() {
         if let Some(seat) = Seat::current() {
             seat.begins_call(number);
             seat.step(Operated::on_none("call"), Location::caller());
         }
-        caller.call(*op, || object(*op));
+        call(op);
     }
+}
+
+/// What the main thread of a run does: makes the callers' lives, and waits until they have ended.
+pub(crate) fn main_of(make: impl FnOnce() -> Vec<Job> + Send + 'static) -> Job {
+    Box::new(move || {
+        let lives = make();
+        let Some(seat) = Seat::current() else { return };
+        let callers = lives.into_iter().enumerate();
+        let numbers: Vec<_> = callers
+            .map(|(number, life)| seat.run.spawn(|_| Who::Caller(number), life))
+            .collect();
+        for number in numbers {
+            joins(&seat, number, Location::caller());
+        }
+    })
 }
 
 /// Runs a script under a schedule.
@@ -136,18 +151,14 @@ pub(crate) fn try_planned<K: Kind<Op: Send + Sync + 'static>>(
 ) -> Result<Trial<K>, Fault> {
     let (recorder, callers) = recorder_of(script);
     let (maker, calls) = (Arc::clone(maker), script.callers.clone());
-    let body: Job = Box::new(move || {
+    let body = main_of(move || {
         let object = maker();
-        let Some(seat) = Seat::current() else { return };
-        let mut numbers = Vec::with_capacity(calls.len());
-        for (number, (caller, calls)) in callers.into_iter().zip(calls).enumerate() {
+        let life = |(mut caller, calls): (Caller<K>, Vec<(usize, K::Op)>)| {
             let object = Arc::clone(&object);
-            let life: Job = Box::new(move || lives(caller, &calls, &object));
-            numbers.push(seat.run.spawn(|_| Who::Caller(number), life));
-        }
-        for number in numbers {
-            joins(&seat, number, Location::caller());
-        }
+            let call = move |(_, op)| caller.call(op, || object(op));
+            Box::new(move || lives(calls, call)) as Job
+        };
+        callers.into_iter().zip(calls).map(life).collect()
     });
     let ran = run::run(plan, body);
     Trial::judged(script.clone(), ran, &recorder)

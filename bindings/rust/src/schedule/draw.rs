@@ -1,8 +1,9 @@
 //! A generator of numbers (Steele, Lea and Flood 2014), since those of the standard library have
 //! other seeds in each process.
 
+/// Random numbers of a run, which are those of its seed.
 #[derive(Clone, Debug)]
-pub(crate) struct Draw(u64);
+pub struct Draw(u64);
 
 impl Draw {
     /// The generator of one of the runs under a seed.
@@ -20,12 +21,12 @@ impl Draw {
     }
 
     /// A number below another one, which isn't 0.
-    pub(crate) fn below(&mut self, bound: u64) -> u64 {
+    pub fn below(&mut self, bound: u64) -> u64 {
         ((u128::from(self.number()) * u128::from(bound)) >> 64) as u64
     }
 
     /// A place in a list of this length, which isn't 0.
-    pub(crate) fn place(&mut self, length: usize) -> usize {
+    pub fn place(&mut self, length: usize) -> usize {
         self.below(length as u64) as usize
     }
 }
