@@ -1,5 +1,5 @@
-/* Verdicts on the texts of books and certificates, smaller books, explanations and pictures, and calls that check
- * themselves or that monitors judge, by a proved library. docs/FORMATS.md has the texts.
+/* Verdicts on the texts of books and certificates, smaller books, explanations and pictures, calls that check themselves
+ * or that monitors judge, and checks of histories by models, by a proved library. docs/FORMATS.md has the texts.
  *
  * Link libselfcheck.a or libselfcheck.so, which takes memory from malloc.
  *
@@ -36,7 +36,11 @@ enum selfcheck_status {
     SELFCHECK_REFUSED = 3,   /* the text isn't one of the wanted form: the refusal says why */
     SELFCHECK_NO_MEMORY = 6, /* nothing is said of the text, or of the reply */
     SELFCHECK_NO_ROOM = 8,   /* the buffer is too short, and `written` says how long a one is needed */
-    SELFCHECK_UNFIT = 9      /* the slot isn't as the call wants it, or there is no such table: nothing has changed */
+    SELFCHECK_UNFIT = 9,     /* the slot isn't as the call wants it, or there is no such table: nothing has changed */
+    SELFCHECK_ASK = 10,      /* the question is written: what its operation does at its state is to be told */
+    SELFCHECK_PAUSED = 11,   /* the steps are used up, and nothing is said yet: a further call goes on */
+    SELFCHECK_CONTRADICTS = 12, /* another step was told of this state and operation: nothing has changed */
+    SELFCHECK_LEAVES_NOT = 13   /* the step breaks a promise, or a told step breaks this one: nothing has changed */
 };
 
 /* What is wrong with a text, by the names of docs/FORMATS.md. */
@@ -97,7 +101,7 @@ SELFCHECK_EXPORT uint32_t selfcheck_picture(const uint8_t *text, size_t length, 
  * that are published without a judgement, and monitors, which are callers of the table that make no calls, judge them in
  * rounds.
  *
- * A slot is a place for one handle: of a table, of one of its callers, or of one of its monitors.
+ * A slot is a place for one handle: of a table, of one of its callers, of one of its monitors, or of a check by a model.
  * It is all zero before its first use, and then the library alone writes to it. It isn't copied,
  * but may be moved, and is given to one call at a time: threads that pass it on order their calls
  * by a lock, by a start or a join. While it has a handle, `in_use` is 1. */
@@ -150,6 +154,63 @@ SELFCHECK_EXPORT uint32_t selfcheck_judge(struct selfcheck_slot *monitor);
  * wasn't ILLEGAL; but for DONE the buffer is as it was. */
 SELFCHECK_EXPORT uint32_t selfcheck_witness(struct selfcheck_slot *holder, uint8_t *buffer,
     size_t room, size_t *written);
+
+/* Checks of histories by a model: a sequential object of one's own. No function goes to the library. Where its check comes
+ * to a step of the model that it doesn't know, it asks for it, and is told the step. selfcheck_model.h is the loop that
+ * does so for a model of two functions.
+ *
+ * States, operations and replies are numbers, which the program gives to what they stand for, the same number to the
+ * same thing always; 0 is the initial state. A history is told as calls begin and end, one after another; a caller has one
+ * unanswered call at the most. A verdict holds for every sequential object that agrees with what was told. What was told
+ * stays where more calls begin or end, and a verdict is for the history so far. */
+
+/* What a check asks for: what this operation does at this state. */
+struct selfcheck_question {
+    uint32_t state, op;
+};
+
+/* A call in an order: its caller, and its number among the caller's calls, from 0. */
+struct selfcheck_placed {
+    uint32_t caller, number;
+};
+
+/* Opens a check of a history of 1 to 16 callers, before its first call, into an empty slot. DONE, NO_MEMORY or UNFIT. */
+SELFCHECK_EXPORT uint32_t selfcheck_model_open(uint32_t callers, struct selfcheck_slot *slot);
+
+/* The caller's next call begins, with this operation. UNFIT where there is no such caller, its last call hasn't ended, or
+ * it has made 256 calls. DONE, NO_MEMORY or UNFIT. */
+SELFCHECK_EXPORT uint32_t selfcheck_model_begin(struct selfcheck_slot *check, uint32_t caller,
+    uint32_t op);
+
+/* The caller's call that has begun ends, with this reply. UNFIT where there is none. DONE, NO_MEMORY or UNFIT. */
+SELFCHECK_EXPORT uint32_t selfcheck_model_end(struct selfcheck_slot *check, uint32_t caller,
+    uint32_t reply);
+
+/* Promises that the operation changes no state at which it has this reply, which makes the check faster. Told steps are
+ * held against it; it isn't known of the others. LEAVES_NOT where a told step breaks it. DONE, LEAVES_NOT, NO_MEMORY, or
+ * UNFIT where the slot has no check. */
+SELFCHECK_EXPORT uint32_t selfcheck_model_leaves(struct selfcheck_slot *check, uint32_t op,
+    uint32_t reply);
+
+/* Goes on with the check, by at most so many steps. LEGAL: the history has an order that is legal for each object that
+ * agrees with what was told. ILLEGAL: for no such object it has one. ASK: the question is written, of a step that wasn't
+ * told; once it is told the check goes on. PAUSED: the steps are used up, and less is left to try. NO_MEMORY: the history
+ * and what was told are as before. UNFIT where the slot has no check. But for ASK the question is as it was. */
+SELFCHECK_EXPORT uint32_t selfcheck_model_next(struct selfcheck_slot *check, uint64_t steps,
+    struct selfcheck_question *question);
+
+/* Tells a step of the model, asked for or not: at this state the operation leads to the state `next`, and has this reply.
+ * CONTRADICTS where another step was told there, LEAVES_NOT where the step breaks a promise. DONE, CONTRADICTS,
+ * LEAVES_NOT, NO_MEMORY, or UNFIT where the slot has no check. */
+SELFCHECK_EXPORT uint32_t selfcheck_model_tell(struct selfcheck_slot *check, uint32_t state,
+    uint32_t op, uint32_t next, uint32_t reply);
+
+/* Writes the legal order that the check has found into the buffer, which has room for so many calls, and the number of
+ * its calls into `written`. An unanswered call needn't be in it. NO_ROOM where they are more: `written` says how many. UNFIT
+ * where the slot has no check whose last answer was LEGAL, or a call has begun or ended since. But for DONE the buffer is as
+ * it was. DONE, NO_MEMORY, NO_ROOM or UNFIT. */
+SELFCHECK_EXPORT uint32_t selfcheck_model_order(struct selfcheck_slot *check,
+    struct selfcheck_placed *order, size_t room, size_t *written);
 
 /* Lets the slot's handle go; an announced call stays unanswered. The slot is then empty. A table's memory is freed with
  * the last of its slots. DONE, or UNFIT where it was empty. */
@@ -281,6 +342,12 @@ static inline uint32_t selfcheck_witness_inline(struct selfcheck_slot *holder, u
     return selfcheck_witness(holder, selfcheck_buffer(buffer, room), room, written);
 }
 
+static inline uint32_t selfcheck_model_order_inline(struct selfcheck_slot *check,
+    struct selfcheck_placed *order, size_t room, size_t *written) {
+    static struct selfcheck_placed none;
+    return selfcheck_model_order(check, room == 0 ? &none : order, room, written);
+}
+
 /* A step of a schedule. Where C code is called from Rust or Python, and a hunt of the binding there runs it, the turn may
  * go to another thread at each `selfcheck_point()`: put one before each access to what threads share. C code between two
  * points is one step, so it mustn't wait for another thread without a point in the loop. In no hunt a point is one load
@@ -310,6 +377,7 @@ static inline void selfcheck_point_of(const char *file, int line) {
 #define selfcheck_picture selfcheck_picture_inline
 #define selfcheck_open selfcheck_open_inline
 #define selfcheck_witness selfcheck_witness_inline
+#define selfcheck_model_order selfcheck_model_order_inline
 
 #ifdef __cplusplus
 }

@@ -83,15 +83,17 @@ static inline const struct selfcheck_kind *selfcheck_kind_of(const char *name) {
         {"pqueue", 0, {{"insert", 1, 0}, {"min", 0, 0}, {NULL, 0, 0}}},
         {"casreg", 0, {{"write", 1, 0}, {"read", 0, 1}, {"cas", 2, 0}}},
         {"map", 1, {{"put", 2, 0}, {"get", 1, 1}, {"del", 1, 0}}},
+        {"model", 0, {{"op", 1, 0}, {NULL, 0, 0}, {NULL, 0, 0}}},
     };
     for (size_t at = 0; at < sizeof kinds / sizeof *kinds; at++)
         if (strcmp(kinds[at].name, name) == 0) return &kinds[at];
     return NULL;
 }
 
-/* A recorder for so many calls to an object of the kind of this name, as selfcheck_open has it.
- * Null where there is no such kind, and for want of memory. It is freed by selfcheck_recorder_free.
- * */
+/* A recorder for so many calls to an object of the kind of this name, as selfcheck_open has it, or
+ * by the name "model" to one that selfcheck_model.h judges, since selfcheck_verify reads no book of
+ * it. Null where there is no such kind, and for want of memory. It is freed by
+ * selfcheck_recorder_free. */
 static inline struct selfcheck_recorder *selfcheck_recorder_new(const char *kind, size_t calls) {
     const struct selfcheck_kind *known = selfcheck_kind_of(kind);
     struct selfcheck_recorder *made;
@@ -277,25 +279,13 @@ static inline size_t selfcheck_quiet(const struct selfcheck_recorded_call *calls
     return quiet;
 }
 
-/* Writes the book of the recorder's calls with this key into the buffer, and its length into
- * `written`: of a set or a map, whose calls together have a legal order exactly where those of each
- * key have one (Herlihy and Wing 1990, theorem 1); or of all its calls where the key is null. What
- * is called meanwhile is in it as far as it has come. Where the calls don't fit a book, or were
- * more than the recorder is for, it is the book of the first of them: up to the first one that
- * finds no caller, or to the last moment before it at which no call was open, where that leaves
- * half of these at least. If it has no legal order, the whole history has none. The extent says how
- * many calls it has, and how many not.
- *
- * DONE, NO_MEMORY, NO_ROOM, with which `written` says how much is needed, or UNFIT where a call's
- * operation is none of the kind's, or the kind has no keys. A book takes some 200 bytes a call at
- * the most. */
-static inline uint32_t selfcheck_recorded_of(struct selfcheck_recorder *recorder,
-    const uint32_t *key, uint8_t *buffer, size_t room, size_t *written,
+/* The calls of a recorder that fit a book, of one key or of all, in the order of their invocations
+ * and each with its caller, as selfcheck_recorded_of has them. They are the caller's to free. */
+static inline uint32_t selfcheck_recorded_calls(struct selfcheck_recorder *recorder,
+    const uint32_t *key, struct selfcheck_recorded_call **found, unsigned *callers,
     struct selfcheck_extent *extent) {
     size_t now = selfcheck_tick(recorder), end = now < recorder->room ? now : recorder->room;
     size_t count = 0, placed = 0;
-    unsigned callers = 0;
-    struct selfcheck_writer writer = {(char *)buffer, room, 0};
     struct selfcheck_recorded_call *calls =
         (struct selfcheck_recorded_call *)calloc(end + 1, sizeof *calls);
     size_t *numbers = (size_t *)calloc(end + 1, sizeof *numbers);
@@ -317,24 +307,50 @@ static inline uint32_t selfcheck_recorded_of(struct selfcheck_recorder *recorder
             calls[numbers[event->low]].reply = event->high;
         }
     }
-    if (status == SELFCHECK_DONE) {
-        count = selfcheck_forget(recorder->kind, calls, count, SIZE_MAX);
-        extent->left_out = count + __atomic_load_n(&recorder->beyond, __ATOMIC_RELAXED);
-        while (callers < SELFCHECK_MAX_CALLERS && (placed < count || callers == 0))
-            placed = selfcheck_place(calls, count, ++callers);
-        if (placed < count) {
-            count = selfcheck_quiet(calls, placed);
-            count = selfcheck_forget(recorder->kind, calls, count, calls[count].invoked);
-        }
-        extent->kept = count;
-        extent->left_out -= count;
-        selfcheck_write_book(&writer, recorder->kind, calls, count, callers);
-        *written = writer.written;
-        if (writer.written > room) status = SELFCHECK_NO_ROOM;
-    }
-    free(calls);
     free(numbers);
-    return status;
+    if (status != SELFCHECK_DONE) {
+        free(calls);
+        return status;
+    }
+    count = selfcheck_forget(recorder->kind, calls, count, SIZE_MAX);
+    extent->left_out = count + __atomic_load_n(&recorder->beyond, __ATOMIC_RELAXED);
+    *callers = 0;
+    while (*callers < SELFCHECK_MAX_CALLERS && (placed < count || *callers == 0))
+        placed = selfcheck_place(calls, count, ++*callers);
+    if (placed < count) {
+        count = selfcheck_quiet(calls, placed);
+        count = selfcheck_forget(recorder->kind, calls, count, calls[count].invoked);
+    }
+    extent->kept = count;
+    extent->left_out -= count;
+    *found = calls;
+    return SELFCHECK_DONE;
+}
+
+/* Writes the book of the recorder's calls with this key into the buffer, and its length into
+ * `written`: of a set or a map, whose calls together have a legal order exactly where those of each
+ * key have one (Herlihy and Wing 1990, theorem 1); or of all its calls where the key is null. What
+ * is called meanwhile is in it as far as it has come. Where the calls don't fit a book, or were
+ * more than the recorder is for, it is the book of the first of them: up to the first one that
+ * finds no caller, or to the last moment before it at which no call was open, where that leaves
+ * half of these at least. If it has no legal order, the whole history has none. The extent says how
+ * many calls it has, and how many not.
+ *
+ * DONE, NO_MEMORY, NO_ROOM, with which `written` says how much is needed, or UNFIT where a call's
+ * operation is none of the kind's, or the kind has no keys. A book takes some 200 bytes a call at
+ * the most. */
+static inline uint32_t selfcheck_recorded_of(struct selfcheck_recorder *recorder,
+    const uint32_t *key, uint8_t *buffer, size_t room, size_t *written,
+    struct selfcheck_extent *extent) {
+    struct selfcheck_recorded_call *calls;
+    unsigned callers;
+    struct selfcheck_writer writer = {(char *)buffer, room, 0};
+    uint32_t status = selfcheck_recorded_calls(recorder, key, &calls, &callers, extent);
+    if (status != SELFCHECK_DONE) return status;
+    selfcheck_write_book(&writer, recorder->kind, calls, extent->kept, callers);
+    free(calls);
+    *written = writer.written;
+    return writer.written > room ? SELFCHECK_NO_ROOM : SELFCHECK_DONE;
 }
 
 static inline uint32_t selfcheck_recorded(struct selfcheck_recorder *recorder, uint8_t *buffer,

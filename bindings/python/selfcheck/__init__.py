@@ -15,6 +15,7 @@ The verdict on a book is proved; the recorder is tested. docs/FORMATS.md has the
 
 import contextlib
 import ctypes
+import functools
 import itertools
 import os
 import sys
@@ -23,17 +24,23 @@ import threading
 from .history import MAX_CALLERS, MAX_CALLS, Known, Prefix, prefix_of
 
 __all__ = [
+    "BrokenPromise",
     "Caller",
+    "ContradictoryModel",
     "Enforced",
     "EnforcedCaller",
     "Illegal",
     "Incomplete",
     "NoCallLeft",
+    "Placed",
     "Prefix",
     "Recorder",
     "Refused",
+    "Verdict",
+    "WithOutput",
     "certify",
     "explain",
+    "judge",
     "order",
     "picture",
     "smaller",
@@ -62,13 +69,19 @@ class Refused(ValueError):
         self.what = what
 
 
-class Incomplete(Exception):
-    """The calls of a recorder don't fit a book: how many of the first do, whose book `prefix` gives, and how many don't."""
+_WAYS = "whose book `prefix` gives", "of a set or a map `by_key` gives a book for each key"
+_WAYS_OF_MODEL = "which `verify(prefix=True)` judges", "for a model with `key` the limits hold for each key"
 
-    def __init__(self, kept, left_out):
+
+class Incomplete(Exception):
+    """The calls of a recorder don't fit a book: how many of the first do, whose book `prefix` gives, and how many don't.
+    Of a recorder with a model it is a history that they don't fit, and `verify(prefix=True)` judges the first calls."""
+
+    def __init__(self, kept, left_out, of_model=False):
+        ways = _WAYS_OF_MODEL if of_model else _WAYS
         super().__init__(
-            f"a book has {MAX_CALLERS} callers with {MAX_CALLS} calls each: the first {kept} calls fit, whose book `prefix` "
-            f"gives, and {left_out} don't; of a set or a map `by_key` gives a book for each key"
+            f"a {'history' if of_model else 'book'} has {MAX_CALLERS} callers with {MAX_CALLS} calls each: the first {kept} "
+            f"calls fit, {ways[0]}, and {left_out} don't; {ways[1]}"
         )
         self.kept = kept
         self.left_out = left_out
@@ -212,6 +225,10 @@ _KINDS = {
 }
 
 
+# Operations that change no object, whatever they reply.
+_READ_ONLY = {"read", "has", "get"}
+
+
 class _Operation:
     """An operation with its arguments. Raises `ValueError` and `TypeError` where it is none of the kind's."""
 
@@ -223,10 +240,25 @@ class _Operation:
         if len(arguments) != count:
             raise TypeError(f"{op} has {count} arguments")
         numbers = [_number(value) for value in arguments]
-        self.text = " ".join([op, *map(str, numbers)])
+        self.told = " ".join([op, *map(str, numbers)])
+        self.is_read_only = op in _READ_ONLY
         first, second = [*numbers, 0, 0][:2]
         # as a table has them: the code of the operation and the first argument, and the second one
         self.words = ((list(operations).index(op) + 1 << 32) + first, second)
+
+
+class _ModelOperation:
+    """An operation of a model, as the tuple of its name and its arguments. Raises `TypeError` where it can't be hashed."""
+
+    is_read_only = False
+
+    def __init__(self, op, arguments):
+        self.told = (op, *arguments)
+        hash(self.told)
+
+    def reply(self, value):
+        hash(value)
+        return value
 
 
 def _clock():
@@ -275,14 +307,19 @@ class Recorder(_Calls):
 
     A reply of a form that the kind never gives to the operation, such as a value to a put of a queue, is found before
     an order is looked for, and makes the book illegal, whatever the other calls are.
+
+    In the place of a kind there may be a model, a sequential object of one's own (see `selfcheck.model`): then operations
+    have any names and arguments, replies are any values, and `verify` judges the calls, of which there is no book.
     """
 
     def __init__(self, kind, open_calls=None):
-        if kind not in _KINDS:
+        if isinstance(kind, str) and kind not in _KINDS:
             raise ValueError(f"no kind {kind!r}: {', '.join(_KINDS)}")
         if open_calls is not None and open_calls < 1:
             raise ValueError(f"{open_calls} calls can't be open at once")
         self._kind = kind
+        self._model = None if isinstance(kind, str) else as_model(kind)
+        self._operation = functools.partial(_Operation, kind) if self._model is None else _ModelOperation
         self._lock = threading.Lock()
         self._callers = 0
         self._calls = []
@@ -322,11 +359,25 @@ class Recorder(_Calls):
             raise Incomplete(kept, left_out)
         return book
 
+    def verify(self, steps=None, prefix=False, recheck=False):
+        """The `Verdict` on the calls by the recorder's model, as `judge` gives it. Where the model has `key`, there is one
+        on the calls with each key, and the limits of a history hold for each key. What is called meanwhile is in it as far
+        as it has come. Raises `Incomplete` where the calls don't fit a history; with `prefix` the first ones are judged,
+        as `prefix` has them for a book: if these are illegal, all are, and else nothing is said of those left out."""
+        if self._model is None:
+            raise TypeError("the calls to a kind have a book: selfcheck.verify(recorder.book())")
+        return verdict_of(self._model, self._known(), self._callers, self._beyond, steps, prefix, recheck)
+
     def prefix(self):
         """The book of all calls where they fit one, and else that of the first of them: those before the first that finds
         no caller. Of these it leaves out the last ones again where half of them at least come before a moment at which no
         call was open, but such as never return: so no call of the book lacks a reply for the cut alone."""
+        self._owes_book()
         return prefix_of(self._kind, self._known(), self._callers, self._beyond)
+
+    def _owes_book(self):
+        if self._model is not None:
+            raise TypeError("the calls that a model judges have no book: recorder.verify()")
 
     def by_key(self):
         """The prefix of the calls with each key of a set or a map: so the limits of a book hold for each key.
@@ -335,6 +386,7 @@ class Recorder(_Calls):
         It is so of any book each of whose views holds at most one unanswered call of each caller, and in a recorder's book
         a caller has at most one, its last. Calls that the recorder no longer keeps are left out of each key.
         """
+        self._owes_book()
         if self._kind not in ("set", "map"):
             raise TypeError(f"the calls of a {self._kind} have no keys")
         parts = {}
@@ -347,13 +399,13 @@ class Recorder(_Calls):
         return [call.at(moment) for call in self._calls if call.invoked < moment]
 
     def _invoke(self, own, op, arguments):
-        operation = _Operation(self._kind, op, arguments)
+        operation = self._operation(op, arguments)
         invoked = self._tick()
         if invoked >= _LAST_MOMENT:
             with self._lock:
                 self._beyond += 1
             return lambda value: None
-        call = _Call(operation.text, own, invoked)
+        call = _Call(operation.told, operation.is_read_only, own, invoked)
         # one step of a list; a book that is made before it knows nothing that comes after it
         self._calls.append(call)
 
@@ -366,10 +418,11 @@ class Recorder(_Calls):
 
 
 class _Call:
-    __slots__ = ("op", "own", "invoked", "returned", "reply")
+    __slots__ = ("op", "is_read_only", "own", "invoked", "returned", "reply")
 
-    def __init__(self, op, own, invoked):
+    def __init__(self, op, is_read_only, own, invoked):
         self.op = op
+        self.is_read_only = is_read_only
         self.own = own
         self.invoked = invoked
         self.returned = self.reply = None
@@ -377,7 +430,7 @@ class _Call:
     def at(self, moment):
         """What is known of it at a moment."""
         returned = self.returned
-        return Known(self.invoked, returned, self.op, self.reply, self.own).at(moment)
+        return Known(self.invoked, returned, self.op, self.reply, self.own, self.is_read_only).at(moment)
 
 
 class Caller(_Calls):
@@ -394,3 +447,5 @@ class Caller(_Calls):
 
 # last, since it takes what stands above
 from .enforced import Enforced, EnforcedCaller, Illegal, NoCallLeft  # noqa: E402
+from .model import BrokenPromise, ContradictoryModel, Placed, Verdict, WithOutput, judge  # noqa: E402
+from .model import as_model, verdict_of  # noqa: E402

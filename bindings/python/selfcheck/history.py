@@ -1,7 +1,7 @@
 """Histories: recorded calls with their moments, and the callers that they have in a book."""
 
 import bisect
-from typing import NamedTuple, Optional
+from typing import Any, NamedTuple, Optional
 
 MAX_CALLERS = 16
 MAX_CALLS = 256
@@ -19,18 +19,16 @@ class Prefix(NamedTuple):
     left_out: int
 
 
-# Operations that change no object, whatever they reply.
-_READ_ONLY = {"read", "has", "get"}
-
-
 class Known(NamedTuple):
-    """What is known of a call: its moments and texts, and which caller that stays with a thread has made it."""
+    """What is known of a call: its moments, operation and reply, which caller that stays with a thread has made it, and
+    whether its operation changes no object, whatever it replies."""
 
     invoked: int
     returned: Optional[int]
-    op: str
-    reply: Optional[str]
+    op: Any
+    reply: Any
     own: Optional[int]
+    is_read_only: bool
 
     def at(self, moment):
         """What is known of it at a moment, after its invocation."""
@@ -43,16 +41,22 @@ class Known(NamedTuple):
     def counts(self):
         """Whether it may change a verdict. A call that only reads and has no reply doesn't: an order that has it is one
         without it too."""
-        return self.returned is not None or self.op.split()[0] not in _READ_ONLY
+        return self.returned is not None or not self.is_read_only
+
+
+def pages_of(calls, own):
+    """The calls of each caller, for as many of the first calls as fit a book, and how many are left out. So many callers
+    stay with threads."""
+    calls = sorted(call for call in calls if call.counts())
+    pages = _all_pages(calls, own) or _first_pages(calls)
+    return pages, len(calls) - sum(map(len, pages))
 
 
 def prefix_of(kind, calls, own, beyond):
     """The book of as many of the first calls as fit one. So many callers stay with threads, and so many further calls
     aren't recorded."""
-    calls = sorted(call for call in calls if call.counts())
-    pages = _all_pages(calls, own) or _first_pages(calls)
-    kept = sum(map(len, pages))
-    return Prefix(_book(kind, pages), kept, len(calls) + beyond - kept)
+    pages, left_out = pages_of(calls, own)
+    return Prefix(_book(kind, pages), sum(map(len, pages)), left_out + beyond)
 
 
 def _all_pages(calls, own):
