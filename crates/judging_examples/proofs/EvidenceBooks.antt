@@ -209,7 +209,7 @@ later_keeps_answers v w a b call inside answered =
 
 pub read_leaves : IsReadOnly (kind_next kinds.Register) needless_read first_call
 unfolding kind_next
-read_leaves = λ list replied. refl
+read_leaves = (omega arith, λ reply may list replied. refl)
 
 pub take_stays : all_without kinds.Queue (keys_from_to 5 5) needless_put ≡ (1 ∷ []) ∷ []
 unfolding is_known_word entry_of entries

@@ -19,8 +19,10 @@ pub fn parts_by_no_rule()
     // evidence.
     ensures increment { (names : List (List ℕ))
         → ¬ IsEvidence kinds.Counter three_increments names last_increment }
-    // Of a write and a read after it, the read alone is no evidence.
-    ensures read { (names : List (List ℕ)) → ¬ IsEvidence kinds.Register misread names read_alone }
+    // Of a write to a register with compare-and-set and a read after it, the read alone is no
+    // evidence.
+    ensures read { (names : List (List ℕ))
+        → ¬ IsEvidence kinds.CasRegister misread names read_alone }
     // A lone call without its answer is no evidence.
     ensures answer { (names : List (List ℕ))
         → ¬ IsEvidence kinds.Counter one_miscount names unanswered_increment }

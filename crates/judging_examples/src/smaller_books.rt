@@ -14,7 +14,7 @@ ghost use Rattle.smaller_book.specs.Part.{count_below};
 ghost use Rattle.smaller_book.specs.Numbers.{composed};
 ghost use Rattle.smaller_book.specs.ReadOnly.{IsReadOnly};
 ghost use Rattle.smaller_book.specs.Minimal.{numbers_except, all_but};
-ghost use Rattle.smaller_book.specs.Keys.{key_of_step, keys_from_to, all_without, items_without};
+ghost use Rattle.smaller_book.specs.Keys.{key_of_step, keys_from_to, all_without, items_without, KeysMayGo};
 ghost use Rattle.smaller_book.specs.Earliest.{IsTried};
 ghost use Rattle.judging_examples.specs.SmallerBooks.{put_twice, of_two_keys, two_open, one_open, two_puts};
 
@@ -53,13 +53,16 @@ pub fn numbers_that_stay()
     ensures through { composed ((0 ∷ 2 ∷ 3 ∷ []) ∷ []) ((0 ∷ 2 ∷ []) ∷ []) ≡ (0 ∷ 3 ∷ []) ∷ [] }
 {}
 
-/// An answered call that changes no list is read-only, and an unanswered call isn't. A take isn't
-/// read-only, whether it replies 6 or 0: the reply 0 says that nothing was found or that the item 0
-/// was taken, and a list may begin with the item 6 or 0.
+/// A call that changes no list is read-only, whether it is answered or not, and an unanswered call
+/// that changes a list isn't. A take isn't read-only, whether it replies 6 or 0: the reply 0 says
+/// that nothing was found or that the item 0 was taken, and a list may begin with the item 6 or 0.
 pub fn calls_that_leave()
     // An answered call of an object that keeps nothing is read-only.
     ensures replies { IsReadOnly tenfold_next mistaken (record { caller = 1; number = 0 }) }
-    // An unanswered call isn't read-only.
+    // An unanswered call of an object that keeps nothing is read-only.
+    ensures changes_nothing { IsReadOnly tenfold_next overtaken
+        (record { caller = 0; number = 2 }) }
+    // An unanswered put isn't read-only.
     ensures unanswered { ¬ IsReadOnly line_next overtaken (record { caller = 0; number = 2 }) }
     // A take with the reply 6 isn't read-only: it changes a list that begins with 6.
     ensures takes { ¬ Leaves line_next 0 6 }
@@ -75,8 +78,8 @@ pub fn reads_leave()
     ensures writes { ¬ Leaves (kind_next kinds.Register) (operation words.write 9) reply_done }
 {}
 
-/// The keys that operations are about: a put, and a take that shows a value, are about the value; a
-/// take that finds nothing or has no reply is about no key.
+/// The keys that operations are about: a put or a write, and a take or a read that shows a value,
+/// are about the value; a take that finds nothing or has no reply is about no key.
 pub fn keys_of_operations()
     // The key of a put of 5 is 5.
     ensures puts { key_of_step kinds.Queue (operation words.enq 5) None ≡ Some 5 }
@@ -92,8 +95,14 @@ pub fn keys_of_operations()
     // The key of a get of key 3 of a map is 3, also where it replies the value 5.
     ensures of_a_map { key_of_step kinds.Map (operation words.get 3)
         (Some (reply_value 5)) ≡ Some 3 }
-    // A write of a register has no key.
-    ensures of_a_register { key_of_step kinds.Register (operation words.write 5)
+    // The key of a write of 5 to a register is 5.
+    ensures writes { key_of_step kinds.Register (operation words.write 5)
+        (Some reply_done) ≡ Some 5 }
+    // The key of a read of a register that shows 5 is 5.
+    ensures reads { key_of_step kinds.Register (operation words.read 0)
+        (Some (reply_value 5)) ≡ Some 5 }
+    // A write of a register with compare-and-set has no key.
+    ensures no_key { key_of_step kinds.CasRegister (operation words.write 5)
         (Some reply_done) ≡ None }
     // An operation that the kind doesn't know has no key.
     ensures unknown { key_of_step kinds.Queue (operation words.has 5)
@@ -142,6 +151,10 @@ pub fn open_calls()
     ensures two { ¬ HasOneOpen two_open }
     // A book whose views hold one unanswered call of each caller at most has one open.
     ensures one { HasOneOpen one_open }
+    // Of a book that hasn't one open, calls of a queue may not go by keys.
+    ensures keys_stay { ¬ KeysMayGo kinds.Queue two_open }
+    // Of a book that hasn't one open, calls of a register may go by keys.
+    ensures keys_go { KeysMayGo kinds.Register two_open }
 {}
 
 /// At a cut without the last put of a caller, the view of another caller's take holds one

@@ -157,10 +157,10 @@ legal_wholes_have_legal_parts key list_of objects product k book names part is o
           (λ same. unnamed ((of_key.calls call (unwrap_or (operation_of book call) 0)
           (word_is book call is_call)).1 same)) matched;
       has = λ whole few call matched is_call named agrees.
-          inl (matched_with key list_of objects product k whole few
+          let made = matched_with key list_of objects product k whole few
           (unwrap_or (operation_of book call) 0) is
           ((of_key.calls call (unwrap_or (operation_of book call) 0)
-          (word_is book call is_call)).0 named) matched);
+          (word_is book call is_call)).0 named) matched in inl ((λ answered. made.0), made.1);
     } in
     let found = has_one_in_part (AreMatched list_of k) both book names part
     (zero ∷ product.init) (suc zero ∷ list_of k product.init) of_key.is_part followed

@@ -1,7 +1,6 @@
 -- What evidence tells of a book, and which calls it keeps.
 use Rattle.std.proofs.Common.{◌≡◌, ℕ, ◌<◌, ◌∙◌, Bool, true, false, List, [], ◌∷◌, length, get_or, unwrap_or, Option, Some, None, refl, sym, ap, subst, inl, inr, arith}
 use Rattle.std.specs.Prelude.{option_map, if◌then◌else◌}
-use Rattle.std.specs.Option.{IsSomeAnd}
 use Rattle.std.specs.List.{range_with_len}
 use Rattle.std.proofs.lemmas.Bool.{true≢false}
 use Rattle.std.proofs.lemmas.List.FromFn.{get_or-range_with_len, length-range_with_len}
@@ -29,12 +28,13 @@ use Rattle.smaller_book.specs.Earliest.{all_numbers}
 use Rattle.smaller_book.specs.Keys.{value_shown, key_by_kind, key_of_step, key_of_call, is_among, CarriesOverWithoutSome}
 use Rattle.smaller_book.specs.Evidence.{IsStep, AreSteps, EvidenceIsAPart, EvidenceCarriesOver, EvidenceTells, EvidenceKeepsTheRest}
 use Rattle.smaller_book.proofs.Counts.{counted_from_below, find_number}
-use Rattle.smaller_book.proofs.Following.{some_that, record_was}
+use Rattle.smaller_book.proofs.Following.{record_was}
 use Rattle.smaller_book.proofs.ReadOnly.{has_one_without_read_only}
 use Rattle.smaller_book.proofs.LeastCuts.{numbers_of-all, original-all, carried_to_cut}
 use Rattle.smaller_book.proofs.CarryingOver.{carries_from_all, carries_twice}
 use Rattle.smaller_book.proofs.KeyRows.{unnamed_goes}
 use Rattle.smaller_book.proofs.KeyLaw.{has_one_without_keys}
+use Rattle.smaller_book.proofs.Removing.{original_is_call}
 use Rattle.smaller_book.proofs.PartsOfParts.{numbers_of-composed, get_or-picked, original-composed}
 use Rattle.smaller_book.proofs.Steps.{book_at_some_cut, step_part, steps_part, evidence_part}
 
@@ -57,7 +57,7 @@ step_carries kind book names part step =
             lacks.read_only)
         | inr lacks ↦ (
           lacks.keys,
-          has_one_without_keys kind lacks.keys book part lacks.one_open
+          has_one_without_keys kind lacks.keys book part lacks.may_go
               (subst (λ (ns : List (List ℕ)). IsPart book ns part) lacks.named lacks.is_part),
         )
       ]
@@ -114,20 +114,17 @@ all_named book call inside =
 was_read_only : (next : List ℕ → ℕ → List ℕ × ℕ) (book : List Page) (names : List (List ℕ))
     (part : List Page) → IsPart book names part → (call : Call) → IsCall part call
     → IsReadOnly next part call → IsReadOnly next book (original names call)
-was_read_only next book names part is call inside leaves =
-    let known = some_that (record_of part call)
-    (λ (r : Record). Leaves next (unwrap_or (operation_of part call) 0) r.reply) leaves in
-    let was = record_was book names part is call known.0 known.1 in
-    let word : unwrap_or (operation_of part call) 0
-    ≡ unwrap_or (operation_of book (original names call)) 0 =
-    ap (λ (o : Option ℕ). unwrap_or o 0) (is.operations call inside) in
-    let there : Leaves next (unwrap_or (operation_of book (original names call)) 0) was.0.reply =
-    subst (λ (op : ℕ). Leaves next op was.0.reply) word
-    (subst (λ (reply : ℕ). Leaves next (unwrap_or (operation_of part call) 0) reply)
-    was.2.reply known.2) in
-    subst (λ o. IsSomeAnd o (λ (r : Record).
-    Leaves next (unwrap_or (operation_of book (original names call)) 0) r.reply))
-    (sym was.1) there
+was_read_only next book names part is call inside (_, leaves) = (
+  original_is_call book names part is call inside,
+  λ reply may.
+      let word : unwrap_or (operation_of part call) 0
+      ≡ unwrap_or (operation_of book (original names call)) 0 =
+      ap (λ (o : Option ℕ). unwrap_or o 0) (is.operations call inside) in
+      subst (λ (op : ℕ). Leaves next op reply) word
+      (leaves reply (λ (r : Record) known.
+      let was = record_was book names part is call r known in
+      was.2.reply ∙ may was.0 was.1)),
+)
 
 shown_none : (is_put : Bool) (value : ℕ) (reply : Option ℕ)
     → (if is_put then Some value else value_shown reply) ≡ None
@@ -145,7 +142,8 @@ kind_key_none kinds.Pqueue word reply none =
     shown_none (is_operation_of word words.insert) (argument_of word) reply none
 kind_key_none kinds.IntSet word reply none = none
 kind_key_none kinds.Map word reply none = none
-kind_key_none kinds.Register word reply none = none
+kind_key_none kinds.Register word reply none =
+    shown_none (is_operation_of word words.write) (argument_of word) reply none
 kind_key_none kinds.Counter word reply none = none
 kind_key_none kinds.CasRegister word reply none = none
 

@@ -98,22 +98,22 @@ record Stays (names : List (List ℕ)) (place : Place) (k : ℕ) : Type 0 where
   inside : k < length (numbers_of names place.caller)
   same : get_or (numbers_of names place.caller) k 0 ≡ place.number
 
-abbrev renumbered : Place → ℕ → Place
-renumbered place k = record { caller = place.caller; number = k; reply = place.reply }
+abbrev renumbered : Place → ℕ → ℕ → Place
+renumbered place k reply = record { caller = place.caller; number = k; reply = reply }
 
-was_there : (names : List (List ℕ)) (place : Place) (k : ℕ) → Stays names place k
-    → original names (call_at (renumbered place k)) ≡ call_at place
-was_there names place k stays =
-    same_call (original names (call_at (renumbered place k))) (call_at place) refl stays.same
+was_there : (names : List (List ℕ)) (place : Place) (k reply : ℕ) → Stays names place k
+    → original names (call_at (renumbered place k reply)) ≡ call_at place
+was_there names place k reply stays =
+    same_call (original names (call_at (renumbered place k reply))) (call_at place) refl stays.same
 
 same_operation : (book : List Page) (names : List (List ℕ)) (part : List Page)
-    → IsPart book names part → (place : Place) (k : ℕ) → Stays names place k
-    → (step_at part (renumbered place k)).0 ≡ (step_at book place).0
-same_operation book names part is place k stays =
-    let inside : IsCall part (call_at (renumbered place k)) =
+    → IsPart book names part → (place : Place) (k reply : ℕ) → Stays names place k
+    → (step_at part (renumbered place k reply)).0 ≡ (step_at book place).0
+same_operation book names part is place k reply stays =
+    let inside : IsCall part (call_at (renumbered place k reply)) =
     omega (arith, is.calls place.caller, stays.inside) in
-    ap (λ o. unwrap_or o 0) (is.operations (call_at (renumbered place k)) inside
-    ∙ ap (operation_of book) (was_there names place k stays))
+    ap (λ o. unwrap_or o 0) (is.operations (call_at (renumbered place k reply)) inside
+    ∙ ap (operation_of book) (was_there names place k reply stays))
 
 -- The part's cut is exact for a caller: it counts those calls of the caller in the book's cut that
 -- the part has, and no others.
@@ -156,21 +156,25 @@ precedes_in_book book names part is place k stays a answered =
 
 -- A place that may stand next in the book and whose call is in the part may stand next in the part,
 -- after a cut that follows the book's and is exact for its caller, and at a list at which the
--- object gives the same reply.
+-- object gives the same reply where the call is answered.
 stands_in_part : (book : List Page) (names : List (List ℕ)) (part : List Page)
     (next : List ℕ → ℕ → List ℕ × ℕ) (cut small whole few : List ℕ) (place : Place) (k : ℕ)
     → IsPart book names part → Follows book names cut small → IsExact names cut small place.caller
     → Stays names place k
-    → (next few (step_at book place).0).1 ≡ (next whole (step_at book place).0).1
-    → MayStandNext book next cut whole place → MayStandNext part next small few (renumbered place k)
+    → (IsAnswered book (call_at place)
+    → (next few (step_at book place).0).1 ≡ (next whole (step_at book place).0).1)
+    → MayStandNext book next cut whole place
+    → MayStandNext part next small few (renumbered place k (next few (step_at book place).0).1)
 stands_in_part book names part next cut small list few place k is follows exact stays alike may =
     let count : get_or small place.caller 0 ≡ k =
     count_is names cut small place k (is.rising place.caller) exact stays may.may_come.next in
+    let reply : ℕ = (next few (step_at book place).0).1 in
+    let here : Call = call_at (renumbered place k reply) in
     record {
       may_come = record {
         is_call = omega (arith, is.calls place.caller, stays.inside);
         next = sym count;
-        preceded = λ (a : Call) (p : Precedes part a (call_at (renumbered place k))). elim p [
+        preceded = λ (a : Call) (p : Precedes part a here). elim p [
           | inl answered ↦
               let says : Record → Type 0 = λ r. get_or r.view place.caller 0 ≤ k in
               let known = some_that (record_of part a) says answered in
@@ -181,12 +185,14 @@ stands_in_part book names part next cut small list few place k is follows exact 
           | inr own ↦ omega (arith, own.1, count, ap (λ (i : ℕ). get_or small i 0) own.0)
         ];
       };
-      recorded = λ (r : Record) (known : record_of part (call_at (renumbered place k)) ≡ Some r).
-          let whole = record_was book names part is (call_at (renumbered place k)) r known in
-          whole.2.reply ∙ may.recorded whole.0
-          (ap (record_of book) (sym (was_there names place k stays)) ∙ whole.1);
-      reply = ap (λ (op : ℕ). (next few op).1) (same_operation book names part is place k stays)
-          ∙ (alike ∙ may.reply);
+      recorded = λ (r : Record) (known : record_of part here ≡ Some r).
+          let whole = record_was book names part is here r known in
+          let there : record_of book (call_at place) ≡ Some whole.0 =
+          ap (record_of book) (sym (was_there names place k reply stays)) ∙ whole.1 in
+          whole.2.reply ∙ (may.recorded whole.0 there
+          ∙ (sym may.reply ∙ sym (alike (slice_get_within _ place.number whole.0 there))));
+      reply = ap (λ (op : ℕ). (next few op).1)
+          (same_operation book names part is place k reply stays);
     }
 
 -- What holds of a caller's counts in the two cuts still holds where both cuts get other counts of
@@ -338,11 +344,13 @@ pub record IsFollowed (R : List ℕ → List ℕ → Type 0) (next : List ℕ �
   pub lacks : (whole few : List ℕ) (call : Call) → R whole few → IsCall book call
       → ¬ IsNamed names call → AgreesAt book next whole call
       → R (next whole (word_at book call)).0 few
-  -- a call that the part has keeps it, made on both lists with the same reply; or the call is
-  -- unanswered and the book has one open, and the call keeps it, changing the first list alone
+  -- a call that the part has keeps it, made on both lists, with the same reply where it is
+  -- answered; or the call is unanswered and the book has one open, and the call keeps it, changing
+  -- the first list alone
   pub has : (whole few : List ℕ) (call : Call) → R whole few → IsCall book call → IsNamed names call
       → AgreesAt book next whole call
-      → (((next few (word_at book call)).1 ≡ (next whole (word_at book call)).1)
+      → ((IsAnswered book call
+      → (next few (word_at book call)).1 ≡ (next whole (word_at book call)).1)
       × R (next whole (word_at book call)).0 (next few (word_at book call)).0)
       ⊎ (HasOneOpen book × (IsAnswered book call → ⊥) × R (next whole (word_at book call)).0 few)
 
@@ -376,11 +384,12 @@ continues_in_part R book names part next cut small whole few
                   (next few (step_at book place).0).0 order is lists wider
                   (follows_on book names cut small place found.0
                   (is.rising i) follows exact stays may.may_come.next inside) alike.1 later in
+                  let reply : ℕ = (next few (step_at book place).0).1 in
                   let same : (next few (step_at book place).0).0
-                  ≡ list_after part next few (renumbered place found.0)
+                  ≡ list_after part next few (renumbered place found.0 reply)
                   = ap (λ (op : ℕ). (next few op).0)
-                  (sym (same_operation book names part is place found.0 stays)) in (
-                    renumbered place found.0 ∷ rest.0,
+                  (sym (same_operation book names part is place found.0 reply stays)) in (
+                    renumbered place found.0 reply ∷ rest.0,
                     (
                       stands_in_part book names part next cut small whole few place found.0 is
                           follows exact stays alike.0 may,
@@ -403,7 +412,7 @@ continues_in_part R book names part next cut small whole few
       ]
     ]
 
-no_call_below : (xs : List ℕ) → count_below xs 0 ≡ 0
+pub no_call_below : (xs : List ℕ) → count_below xs 0 ≡ 0
 no_call_below [] = refl
 no_call_below (x ∷ xs) = cond-false (ltb x 0) (1 + count_below xs 0) 0 (le-ltb x 0 (omega arith))
 

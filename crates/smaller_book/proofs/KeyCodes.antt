@@ -58,6 +58,14 @@ unfolding is_known_word entry_of entries
 stack_by_code word reply known =
     moved_by_code word reply words.push (of_two word words.push words.pop refl refl known)
 
+-- The key of a word that a register knows, with its reply, can be read by the word's code.
+pub register_by_code : (word : ℕ) (reply : Option ℕ) → is_known_word kinds.Register word ≡ true
+    → (if code_of word == 1 then Some (argument_of word) else value_shown reply)
+    ≡ key_by_kind kinds.Register word reply
+unfolding is_known_word entry_of entries
+register_by_code word reply known =
+    moved_by_code word reply words.write (of_two word words.write words.read refl refl known)
+
 -- The key of a word that a priority queue knows, with its reply, can be read by the word's code.
 pub pqueue_by_code : (word : ℕ) (reply : Option ℕ) → is_known_word kinds.Pqueue word ≡ true
     → (if code_of word == 1 then Some (argument_of word) else value_shown reply)

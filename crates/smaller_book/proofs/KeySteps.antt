@@ -12,9 +12,10 @@ use Rattle.seq_objects.specs.declared.kind.Kind.TheVariants as kinds
 use Rattle.seq_objects.specs.Words as words
 use Rattle.seq_objects.specs.Words.{OperationEntry, entries, entry_of, is_known_word, is_operation_of, code_of, has_arguments, argument_of, extra_of}
 use Rattle.seq_objects.specs.Replies.{reply_done, reply_none, reply_value, reply_bad, reply_no, reply_yes, value_of, shown_value}
-use Rattle.seq_objects.specs.Items.{first_taken, last_taken, inserted, place_of, place_for}
+use Rattle.seq_objects.specs.Items.{first_taken, last_taken, inserted, place_of, place_for, first_or_zero}
 use Rattle.seq_objects.specs.QueueSteps.{queue_after}
 use Rattle.seq_objects.specs.StackSteps.{stack_after}
+use Rattle.seq_objects.specs.RegisterSteps.{register_after-write, register_after-read, register_after-other}
 use Rattle.seq_objects.specs.IntSetSteps.{set_after, added, removed, taken_out}
 use Rattle.seq_objects.specs.MapSteps.{map_operation, map_after, item_of, key_of, place_of_key, put_at, put_in, value_at, without}
 use Rattle.seq_objects.specs.MapLaws.{HasKeysOnce, got}
@@ -25,7 +26,9 @@ use Rattle.broken_rules.proofs.Ordering.{after_enq, after_deq}
 use Rattle.broken_rules.proofs.Covering.{after_push, after_pop}
 use Rattle.broken_rules.proofs.Rising.{placed, inserted_is, after_insert, after_min, after_other}
 use Rattle.broken_rules.proofs.ObjectStanding.{times-insert, times-remove, times-placed, is_there, added_other, removed_other, taken_out_tells, added_tells, after_add, after_remove, after_has}
-use Rattle.smaller_book.specs.Keys.{value_shown, key_by_kind, key_of_step, key_of_item, is_among, items_without, Rises, IsWellFormed}
+use Rattle.book_base.specs.Book.{Page}
+use Rattle.book_base.specs.Pruning.{HasOneOpen}
+use Rattle.smaller_book.specs.Keys.{value_shown, key_by_kind, key_of_step, key_of_item, is_among, items_without, Rises, IsWellFormed, KeysMayGo}
 use Rattle.smaller_book.proofs.Filtering.{filter-kept, filter-gone, filter-all, above-filter, keys_once-filter, times-filter}
 
 -- A relation of a list with all items and one without the items of some keys, which each step of
@@ -892,6 +895,112 @@ map_kept keys whole few word related among = elim (cases_Bool (is_known_word kin
       )
 ]
 
+-- ---- registers
+
+register_writes : (list : List ℕ) (word : ℕ) → is_operation_of word words.write ≡ true
+    → kind_next kinds.Register list word ≡ (argument_of word ∷ [], reply_done)
+unfolding kind_next
+register_writes list word is = register_after-write list word is
+
+register_reads : (list : List ℕ) (word : ℕ) → is_operation_of word words.read ≡ true
+    → kind_next kinds.Register list word ≡ (list, reply_value (first_or_zero list))
+unfolding kind_next
+register_reads list word is =
+    register_after-read list word (apart word words.read words.write (omega arith) is) is
+
+register_else : (list : List ℕ) (word : ℕ) → is_operation_of word words.write ≡ false
+    → is_operation_of word words.read ≡ false
+    → kind_next kinds.Register list word ≡ (list, reply_bad)
+unfolding kind_next
+register_else list word not_write not_read = register_after-other list word not_write not_read
+
+write_key : (word : ℕ) (reply : Option ℕ) → is_operation_of word words.write ≡ true
+    → key_of_step kinds.Register word reply ≡ Some (argument_of word)
+unfolding is_known_word entry_of entries
+write_key word reply is =
+    known_key kinds.Register word reply
+    (known_first (is_operation_of word) words.write (words.read ∷ []) is)
+    ∙ cond-true (is_operation_of word words.write) (Some (argument_of word)) (value_shown reply) is
+
+read_key : (word reply : ℕ) → is_operation_of word words.read ≡ true
+    → key_of_step kinds.Register word (Some reply) ≡ shown_value reply
+unfolding is_known_word entry_of entries
+read_key word reply is =
+    known_key kinds.Register word (Some reply) (known_later (is_operation_of word) words.write
+    (words.read ∷ []) (known_first (is_operation_of word) words.read [] is))
+    ∙ cond-false (is_operation_of word words.write) (Some (argument_of word)) (shown_value reply)
+    (apart word words.read words.write (omega arith) is)
+
+-- The value that a register's list holds.
+abbrev pub held_value : List ℕ → ℕ
+held_value list = value_of (first_or_zero list)
+
+-- The two lists are the same, or the first one holds one of these values.
+abbrev pub IsSameOrGone : (ℕ → Bool) → List ℕ → List ℕ → Type 0
+IsSameOrGone keys whole few = (whole ≡ few) ⊎ (keys (held_value whole) ≡ true)
+
+register_stays : (list : List ℕ) (word : ℕ) → is_operation_of word words.write ≡ false
+    → (kind_next kinds.Register list word).0 ≡ list
+register_stays list word not_write = elim (cases_Bool (is_operation_of word words.read)) [
+  | inl reads ↦ ap (λ (step : List ℕ × ℕ). step.0) (register_reads list word reads)
+  | inr other ↦ ap (λ (step : List ℕ × ℕ). step.0) (register_else list word not_write other)
+]
+
+register_gone : (keys : ℕ → Bool) (whole few : List ℕ) (word : ℕ) → IsSameOrGone keys whole few
+    → is_among keys
+    (key_of_step kinds.Register word (Some (kind_next kinds.Register whole word).1)) ≡ true
+    → IsSameOrGone keys (kind_next kinds.Register whole word).0 few
+register_gone keys whole few word related among =
+    elim (cases_Bool (is_operation_of word words.write)) [
+      | inl writes ↦
+          let goes : keys (argument_of word) ≡ true = ap (is_among keys)
+          (sym (write_key word (Some (kind_next kinds.Register whole word).1) writes)) ∙ among in
+          subst (λ (step : List ℕ × ℕ). IsSameOrGone keys step.0 few)
+          (sym (register_writes whole word writes)) (inr (ap keys (argument_value word) ∙ goes))
+      | inr not_write ↦ subst (λ (list : List ℕ). IsSameOrGone keys list few)
+          (sym (register_stays whole word not_write)) related
+    ]
+
+register_kept : (keys : ℕ → Bool) (whole few : List ℕ) (word : ℕ) → IsSameOrGone keys whole few
+    → is_among keys
+    (key_of_step kinds.Register word (Some (kind_next kinds.Register whole word).1)) ≡ false
+    → ((kind_next kinds.Register few word).1 ≡ (kind_next kinds.Register whole word).1)
+    × IsSameOrGone keys (kind_next kinds.Register whole word).0
+    (kind_next kinds.Register few word).0
+register_kept keys whole few word related among =
+    let P : List ℕ × ℕ → List ℕ × ℕ → Type 0 =
+    λ other step. (other.1 ≡ step.1) × IsSameOrGone keys step.0 other.0 in
+    let by_steps : (other step : List ℕ × ℕ) → kind_next kinds.Register few word ≡ other
+    → kind_next kinds.Register whole word ≡ step → P other step
+    → P (kind_next kinds.Register few word) (kind_next kinds.Register whole word)
+    = λ other step e f holds. subst (λ s. P (kind_next kinds.Register few word) s) (sym f)
+    (subst (λ s. P s step) (sym e) holds) in
+    elim (cases_Bool (is_operation_of word words.write)) [
+      | inl writes ↦
+          by_steps (argument_of word ∷ [], reply_done) (argument_of word ∷ [], reply_done)
+          (register_writes few word writes) (register_writes whole word writes) (refl, inl refl)
+      | inr not_write ↦ elim (cases_Bool (is_operation_of word words.read)) [
+        | inl reads ↦
+            let shown : is_among keys (shown_value (reply_value (first_or_zero whole))) ≡ false
+            = ap (λ (step : List ℕ × ℕ). is_among keys (shown_value step.1))
+            (sym (register_reads whole word reads))
+            ∙ (ap (is_among keys)
+            (sym (read_key word (kind_next kinds.Register whole word).1 reads)) ∙ among) in
+            let stays : keys (held_value whole) ≡ false =
+            sym (ap (is_among keys) (shown_item (first_or_zero whole))) ∙ shown in
+            by_steps (few, reply_value (first_or_zero few))
+            (whole, reply_value (first_or_zero whole)) (register_reads few word reads)
+            (register_reads whole word reads) (elim related [
+              | inl same ↦
+                  (ap (λ (l : List ℕ). reply_value (first_or_zero l)) (sym same), inl same)
+              | inr gone ↦ absurd (true≢false (sym gone ∙ stays))
+            ])
+        | inr other ↦
+            by_steps (few, reply_bad) (whole, reply_bad) (register_else few word not_write other)
+            (register_else whole word not_write other) (refl, related)
+      ]
+    ]
+
 -- ---- the other kinds
 
 -- An operation of a kind without keys is about no key, and so about none of these.
@@ -914,14 +1023,14 @@ keyless_kept kind whole few word same = (
 -- ---- all kinds
 
 -- By the kind of the object: the second list has what the first one has, but for the items of these
--- keys.
+-- keys; of a register it is the first one, where this doesn't hold one of them.
 abbrev pub Restricts : Kind → (ℕ → Bool) → List ℕ → List ℕ → Type 0
 Restricts kinds.Queue keys whole few = IsRest keys any_list whole few
 Restricts kinds.Stack keys whole few = IsRest keys any_list whole few
 Restricts kinds.Pqueue keys whole few = IsRest keys Rises whole few
 Restricts kinds.IntSet keys whole few = HasSameValues keys whole few
 Restricts kinds.Map keys whole few = HasSameKeys keys whole few
-Restricts kinds.Register keys whole few = whole ≡ few
+Restricts kinds.Register keys whole few = IsSameOrGone keys whole few
 Restricts kinds.Counter keys whole few = whole ≡ few
 Restricts kinds.CasRegister keys whole few = whole ≡ few
 
@@ -967,9 +1076,9 @@ keeps_keys kinds.Map keys = record {
   kept = map_kept keys;
 }
 keeps_keys kinds.Register keys = record {
-  begins = λ list formed. sym (filter-all (λ (item : ℕ). true) list (λ x. refl));
-  gone = λ whole few word same among. keyless_gone (is_known_word kinds.Register word) keys among;
-  kept = λ whole few word same among. keyless_kept kinds.Register whole few word same;
+  begins = λ list formed. inl (sym (filter-all (λ (item : ℕ). true) list (λ x. refl)));
+  gone = register_gone keys;
+  kept = register_kept keys;
 }
 keeps_keys kinds.Counter keys = record {
   begins = λ list formed. sym (filter-all (λ (item : ℕ). true) list (λ x. refl));
@@ -982,3 +1091,44 @@ keeps_keys kinds.CasRegister keys = record {
       λ whole few word same among. keyless_gone (is_known_word kinds.CasRegister word) keys among;
   kept = λ whole few word same among. keyless_kept kinds.CasRegister whole few word same;
 }
+
+register_unanswered : (keys : ℕ → Bool) (whole few : List ℕ) (word : ℕ)
+    → IsSameOrGone keys whole few
+    → is_among keys (key_of_step kinds.Register word None) ≡ false
+    → IsSameOrGone keys (kind_next kinds.Register whole word).0
+    (kind_next kinds.Register few word).0
+register_unanswered keys whole few word related among =
+    elim (cases_Bool (is_operation_of word words.write)) [
+      | inl writes ↦
+          let reply : ℕ = (kind_next kinds.Register whole word).1 in
+          (register_kept keys whole few word related
+          (ap (is_among keys)
+          (write_key word (Some reply) writes ∙ sym (write_key word None writes))
+          ∙ among)).1
+      | inr not_write ↦
+          subst (λ (list : List ℕ). IsSameOrGone keys list (kind_next kinds.Register few word).0)
+          (sym (register_stays whole word not_write))
+          (subst (λ (list : List ℕ). IsSameOrGone keys whole list)
+          (sym (register_stays few word not_write)) related)
+    ]
+
+-- Where calls of keys may be left out of a book, it has one open, or a step of an operation that is
+-- about none of the keys before a reply is known keeps the relation, made on both lists.
+pub unanswered_kept : (kind : Kind) (keys : ℕ → Bool) (book : List Page) → KeysMayGo kind book
+    → (whole few : List ℕ) (word : ℕ) → Restricts kind keys whole few
+    → is_among keys (key_of_step kind word None) ≡ false
+    → HasOneOpen book
+    ⊎ Restricts kind keys (kind_next kind whole word).0 (kind_next kind few word).0
+unanswered_kept kinds.Queue keys book may whole few word related among = inl may
+unanswered_kept kinds.Stack keys book may whole few word related among = inl may
+unanswered_kept kinds.Pqueue keys book may whole few word related among = inl may
+unanswered_kept kinds.IntSet keys book may whole few word related among =
+    inr (set_kept keys whole few word related among).1
+unanswered_kept kinds.Map keys book may whole few word related among =
+    inr (map_kept keys whole few word related among).1
+unanswered_kept kinds.Register keys book may whole few word related among =
+    inr (register_unanswered keys whole few word related among)
+unanswered_kept kinds.Counter keys book may whole few word related among =
+    inr (keyless_kept kinds.Counter whole few word related).1
+unanswered_kept kinds.CasRegister keys book may whole few word related among =
+    inr (keyless_kept kinds.CasRegister whole few word related).1

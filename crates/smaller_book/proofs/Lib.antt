@@ -1,6 +1,8 @@
 pub mod Counts
 pub mod Following
 pub mod ReadOnly
+pub mod LeavingAlways
+pub mod Restoring
 pub mod Slices
 pub mod Filtering
 pub mod CarryingOver

@@ -254,17 +254,3 @@ size-less book call part inside is =
     = ap (λ (xs : List ℕ). length xs + 1) (numbers_of-own book call inside)
     ∙ length-numbers_except (calls_of book i) call.number inside in
     size-less_at book (all_but book call) part i is (omega (arith, own, is.calls i))
-
--- A read-only call is answered.
-pub read_only_is_answered : (next : List ℕ → ℕ → List ℕ × ℕ) (book : List Page) (call : Call)
-    → IsReadOnly next book call → IsAnswered book call
-read_only_is_answered next book call leaves =
-    let known = some_that (record_of book call)
-    (λ (r : Record). Leaves next (unwrap_or (operation_of book call) 0) r.reply) leaves in
-    slice_get_within (page_of book call.caller).records call.number known.0 known.1
-
--- In a valid book a read-only call is a call of the book.
-pub read_only_is_call : (next : List ℕ → ℕ → List ℕ × ℕ) (book : List Page) (call : Call)
-    → IsValid book → IsReadOnly next book call → IsCall book call
-read_only_is_call next book call valid leaves =
-    omega (arith, valid.answers call.caller, read_only_is_answered next book call leaves)

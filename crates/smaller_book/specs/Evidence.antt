@@ -6,14 +6,13 @@ use Rattle.book_base.specs.declared.call.Record.{Record}
 use Rattle.book_base.specs.Cut.{Holds}
 use Rattle.book_base.specs.Book.{Page, IsAnswered, record_of, IsValid}
 use Rattle.book_base.specs.Order.{HasLegalOrder}
-use Rattle.book_base.specs.Pruning.{HasOneOpen}
 use Rattle.seq_objects.specs.declared.kind.Kind.{Kind}
 use Rattle.seq_objects.specs.Objects.{kind_next, kind_spec}
 use Rattle.smaller_book.specs.Part.{original, IsNamed, IsPart, KeepsAnswers}
 use Rattle.smaller_book.specs.Numbers.{composed}
 use Rattle.smaller_book.specs.ReadOnly.{IsReadOnly, LacksReadOnlyAlone}
 use Rattle.smaller_book.specs.Earliest.{all_numbers, IsAtSomeCut}
-use Rattle.smaller_book.specs.Keys.{key_of_call, all_without, CarriesOverWithoutSome}
+use Rattle.smaller_book.specs.Keys.{key_of_call, all_without, KeysMayGo, CarriesOverWithoutSome}
 
 -- The part is the book at some cut, and each of its calls has the number that it has in the book.
 pub record IsCutBack (book : List Page) (names : List (List ℕ)) (part : List Page) : Type 0 where
@@ -29,11 +28,11 @@ pub record LacksReadOnlyCalls (kind : Kind) (book : List Page) (names : List (Li
   pub answers : KeepsAnswers book names part
   pub read_only : LacksReadOnlyAlone (kind_next kind) book names
 
--- Each view of the book holds at most one unanswered call of each caller. The part has all calls of
--- the book but those that are about some keys, answered where the book has them answered.
+-- Calls of keys may be left out of the book. The part has all calls of the book but those that are
+-- about some keys, answered where the book has them answered.
 pub record LacksKeys (kind : Kind) (book : List Page) (names : List (List ℕ))
     (part : List Page) : Type 0 where
-  pub one_open : HasOneOpen book
+  pub may_go : KeysMayGo kind book
   pub keys : ℕ → Bool
   pub named : names ≡ all_without kind keys book
   pub is_part : IsPart book names part

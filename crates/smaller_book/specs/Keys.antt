@@ -1,5 +1,5 @@
--- The rule of keys: where each view holds at most one unanswered call of each caller, all calls
--- that are about some keys may be left out together.
+-- The rule of keys: all calls that are about some keys may be left out together; of a queue, a
+-- stack or a priority queue where each view holds at most one unanswered call of each caller.
 use Rattle.std.specs.Prelude.{ℕ, ◌≤◌, ◌&&◌, nat_le, Bool, false, not, List, [], ◌∷◌, map, filter, length, unwrap_or, Option, Some, None, option_map, if◌then◌else◌}
 use Rattle.std.specs.List.{range_with_len, AllByRecursion}
 use Rattle.book_base.specs.declared.call.Call.{Call}
@@ -30,15 +30,16 @@ value_moved put word reply =
     if is_operation_of word put then Some (argument_of word) else value_shown reply
 
 -- The key that an operation which the kind knows is about, with its reply where it has one: of a
--- queue, a stack or a priority queue the value that is put in or shown, of a set or a map the
--- argument; operations of the other kinds are about no key.
+-- queue, a stack or a priority queue the value that is put in or shown, of a register the value
+-- that is written or read, of a set or a map the argument; operations of the other kinds are about
+-- no key.
 abbrev pub key_by_kind : Kind → ℕ → Option ℕ → Option ℕ
 key_by_kind kinds.Queue word reply = value_moved words.enq word reply
 key_by_kind kinds.Stack word reply = value_moved words.push word reply
 key_by_kind kinds.Pqueue word reply = value_moved words.insert word reply
 key_by_kind kinds.IntSet word reply = Some (argument_of word)
 key_by_kind kinds.Map word reply = Some (argument_of word)
-key_by_kind kinds.Register word reply = None
+key_by_kind kinds.Register word reply = value_moved words.write word reply
 key_by_kind kinds.Counter word reply = None
 key_by_kind kinds.CasRegister word reply = None
 
@@ -48,7 +49,8 @@ abbrev pub key_of_step : Kind → ℕ → Option ℕ → Option ℕ
 key_of_step kind word reply = if is_known_word kind word then key_by_kind kind word reply else None
 
 -- The key that a call of a book is about, by its operation and its recorded reply. An unanswered
--- take of a queue, a stack or a priority queue is about no key.
+-- take of a queue, a stack or a priority queue and an unanswered read of a register are about no
+-- key.
 abbrev pub key_of_call : Kind → List Page → Call → Option ℕ
 key_of_call kind book call = key_of_step kind (unwrap_or (operation_of book call) 0)
     (option_map (λ r. r.reply) (record_of book call))
@@ -120,10 +122,23 @@ CarriesOverWithout kind keys book part = (list : List ℕ) → IsWellFormed kind
 abbrev pub CarriesOverWithoutSome : Kind → List Page → List Page → Type 0
 CarriesOverWithoutSome kind book part = (keys : ℕ → Bool) × CarriesOverWithout kind keys book part
 
--- Each view holds at most one unanswered call of each caller. If the book then has a legal order
--- from a well-formed list on, the part without all calls that are about these keys has one from
--- that list without the items of these keys.
+-- All calls of a key may be left out of a book. An unanswered take of a queue, a stack or a
+-- priority queue is about no key and stays; so there each view has to hold at most one unanswered
+-- call of each caller.
+abbrev pub KeysMayGo : Kind → List Page → Type 0
+KeysMayGo kinds.Queue book = HasOneOpen book
+KeysMayGo kinds.Stack book = HasOneOpen book
+KeysMayGo kinds.Pqueue book = HasOneOpen book
+KeysMayGo kinds.IntSet book = Unit {0}
+KeysMayGo kinds.Map book = Unit {0}
+KeysMayGo kinds.Register book = Unit {0}
+KeysMayGo kinds.Counter book = Unit {0}
+KeysMayGo kinds.CasRegister book = Unit {0}
+
+-- Where calls of keys may be left out of a book that has a legal order from a well-formed list on,
+-- the part without all calls that are about these keys has one from that list without the items of
+-- these keys.
 abbrev pub HasOneWithoutKeys : Type 0
 HasOneWithoutKeys = (kind : Kind) (keys : ℕ → Bool) (book part : List Page)
-    → HasOneOpen book → IsPart book (all_without kind keys book) part
+    → KeysMayGo kind book → IsPart book (all_without kind keys book) part
     → CarriesOverWithout kind keys book part

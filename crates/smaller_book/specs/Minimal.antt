@@ -15,7 +15,7 @@ use Rattle.smaller_book.specs.declared.TheConstants.{FEW_CALLS}
 use Rattle.smaller_book.specs.Part.{size_of, IsPart, KeepsAnswers}
 use Rattle.smaller_book.specs.ReadOnly.{IsReadOnly}
 use Rattle.smaller_book.specs.Earliest.{IsEarliest}
-use Rattle.smaller_book.specs.Keys.{key_of_call, keys_from_to, all_without}
+use Rattle.smaller_book.specs.Keys.{key_of_call, keys_from_to, all_without, KeysMayGo}
 use Rattle.smaller_book.specs.Evidence.{IsEvidence}
 
 -- The numbers below `count` other than `number`, which is one of them.
@@ -58,8 +58,8 @@ pub record IsMinimal (kind : Kind) (book : List Page) : Type 0 where
   -- for each of its read-only calls, the book without this one call has a legal order
   pub read_only : (call : Call) → IsReadOnly (kind_next kind) book call → IsNeeded kind book call
   -- for each key that one of its calls is about, the book without all calls of this key has a legal
-  -- order, where each view holds at most one unanswered call of each caller
-  pub keys : HasOneOpen book → (call : Call) (key : ℕ) → IsCall book call
+  -- order, where calls of keys may be left out of it
+  pub keys : KeysMayGo kind book → (call : Call) (key : ℕ) → IsCall book call
       → key_of_call kind book call ≡ Some key → IsKeyNeeded kind book key
 
 -- A smaller book: a part that is evidence of a book, has no legal order, and has fewer calls.

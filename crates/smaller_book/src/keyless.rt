@@ -2,20 +2,18 @@
 ghost use Rattle.std.specs.Prelude.{◌≡◌, ℕ, ◌<◌, All, length, Some, IfOk, IfSome, IfNone};
 ghost use Rattle.book_base.specs.declared.call.Call.{Call};
 ghost use Rattle.book_base.specs.Book.{calls_of, IsCall};
-ghost use Rattle.book_base.specs.Pruning.{HasOneOpen};
 ghost use Rattle.smaller_book.specs.Part.{IsPart, KeepsAnswers};
 ghost use Rattle.smaller_book.specs.Numbers.{numbers_in};
-ghost use Rattle.smaller_book.specs.Keys.{key_of_call, is_among, keys_from_to, row_without, all_without};
+ghost use Rattle.smaller_book.specs.Keys.{key_of_call, is_among, keys_from_to, row_without, all_without, KeysMayGo};
 ghost use Rattle.smaller_book.specs.Evidence.{IsEvidence};
 ghost use Rattle.smaller_book.specs.Minimal.{IsKeyNeeded, IsSmaller};
 
 use crate::composing::smaller_still;
 use crate::judging::is_illegal;
-use crate::keys::{key_of, keys_of};
+use crate::keys::{key_of, keys_may_go, keys_of};
 use crate::numbered::part;
 use crate::removal::{Smaller, has_fewer, push_if};
 use book_base::{Book, Call, NoMemory};
-use search_hints::has_one_open;
 use seq_objects::Kind;
 use std::alloc::Global;
 
@@ -86,8 +84,8 @@ fn without_chunk(
 }
 
 // The book without the calls of the keys from `first` to `last`. No book is answered where it has
-// no such calls, where it has a legal order without them, or where one of its views holds several
-// unanswered calls of one caller.
+// no such calls, where it has a legal order without them, or where calls of keys may not be left
+// out of it.
 fn without_some(
     alloc: Global,
     kind: Kind,
@@ -98,7 +96,7 @@ fn without_some(
     ensures { IfOk result (λ found. IfSome found (λ smaller.
         IsSmaller kind book.now (numbers_in smaller.numbers.items) smaller.book)) }
 {
-    if !has_one_open(book) {
+    if !keys_may_go(kind, book) {
         return Ok(None);
     }
     let smaller = part_without(alloc, kind, book, first, last)?;
@@ -113,16 +111,17 @@ fn without_some(
 }
 
 /// The book without all calls of one key, the first key whose removal leaves a book without a legal
-/// order. No book is answered where there is no such key, or where a view holds several unanswered
-/// calls of one caller.
+/// order. No book is answered where there is no such key, or where calls of keys may not be left
+/// out of the book.
 pub fn without_one_key(alloc: Global, kind: Kind, book: &Book) -> Result<Option<Smaller>, NoMemory>
     ensures smaller { IfOk result (λ found. IfSome found (λ smaller.
         IsSmaller kind book.now (numbers_in smaller.numbers.items) smaller.book)) }
-    ensures none { IfOk result (λ found. IfNone found (HasOneOpen book.now → (call : Call) (key : ℕ)
+    ensures none { IfOk result
+        (λ found. IfNone found (KeysMayGo kind book.now → (call : Call) (key : ℕ)
         → IsCall book.now call → key_of_call kind book.now call ≡ Some key
         → IsKeyNeeded kind book.now key)) }
 {
-    if !has_one_open(book) {
+    if !keys_may_go(kind, book) {
         return Ok(None);
     }
     let mut needed = Vec::new(alloc);
@@ -146,7 +145,7 @@ fn without_key_of_caller(
     caller: u32,
     needed: &mut Vec<u64>,
 ) -> Result<Option<Smaller>, NoMemory>
-    requires open { HasOneOpen book.now }
+    requires may { KeysMayGo kind book.now }
     requires caller { caller < length book.now }
     requires needed { All (IsKeyNeeded kind book.now) needed.old.items }
     ensures needed { IfOk result (λ found. IfNone found
@@ -177,7 +176,7 @@ fn without_key_of(
     call: Call,
     needed: &mut Vec<u64>,
 ) -> Result<Option<Smaller>, NoMemory>
-    requires open { HasOneOpen book.now }
+    requires may { KeysMayGo kind book.now }
     requires call { IsCall book.now call }
     requires needed { All (IsKeyNeeded kind book.now) needed.old.items }
     ensures needed { IfOk result (λ found. IfNone found
@@ -203,7 +202,7 @@ fn without_new_key(
     key: u64,
     needed: &mut Vec<u64>,
 ) -> Result<Option<Smaller>, NoMemory>
-    requires open { HasOneOpen book.now }
+    requires may { KeysMayGo kind book.now }
     requires call { IsCall book.now call }
     requires key { key_of_call kind book.now call ≡ Some key }
     requires needed { All (IsKeyNeeded kind book.now) needed.old.items }
@@ -234,7 +233,7 @@ fn without_key(
     call: Call,
     key: u64,
 ) -> Result<Option<Smaller>, NoMemory>
-    requires open { HasOneOpen book.now }
+    requires may { KeysMayGo kind book.now }
     requires call { IsCall book.now call }
     requires key { key_of_call kind book.now call ≡ Some key }
     ensures smaller { IfOk result (λ found. IfSome found (λ smaller.
@@ -265,7 +264,7 @@ fn part_without(
         KeepsAnswers book.now (all_without kind (keys_from_to first last) book.now) smaller.book) }
     ensures numbers { IfOk result (λ smaller.
         numbers_in smaller.numbers.items ≡ all_without kind (keys_from_to first last) book.now) }
-    ensures evidence { IfOk result (λ smaller. HasOneOpen book.now
+    ensures evidence { IfOk result (λ smaller. KeysMayGo kind book.now
         → IsEvidence kind book.now (numbers_in smaller.numbers.items) smaller.book) }
 {
     let _callers = book.callers();

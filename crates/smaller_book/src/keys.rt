@@ -1,10 +1,11 @@
 //! The keys that calls are about.
-ghost use Rattle.std.specs.Prelude.{◌≡◌, ◌<◌, ◌==◌, true, length, Some, option_map, if◌then◌else◌};
+ghost use Rattle.std.specs.Prelude.{◌≡◌, ◌<◌, ◌==◌, true, false, length, Some, option_map, if◌then◌else◌, IsTrue};
 ghost use Rattle.book_base.specs.Book.{IsCall, record_of};
 ghost use Rattle.seq_objects.specs.Words.{code_of, argument_of, is_known_word};
-ghost use Rattle.smaller_book.specs.Keys.{value_shown, key_by_kind, key_of_step, key_of_call};
+ghost use Rattle.smaller_book.specs.Keys.{value_shown, key_by_kind, key_of_step, key_of_call, KeysMayGo};
 
 use book_base::{Book, Call, NoMemory, OpWord, SeqObject, low};
+use search_hints::has_one_open;
 use seq_objects::Kind;
 use std::alloc::Global;
 
@@ -18,7 +19,8 @@ const VALUE_TAG: u64 = 2;
 const PUT: u64 = 1;
 
 /// The key that a call is about, where it is about one: of a queue, a stack or a priority queue the
-/// value that the call puts in or shows, of a set or a map the argument.
+/// value that the call puts in or shows, of a register the value that it writes or shows, of a set
+/// or a map the argument.
 pub fn key_of(kind: Kind, book: &Book, call: Call) -> Option<u64>
     requires { IsCall book.now call }
     ensures { result ≡ key_of_call kind book.now call }
@@ -27,6 +29,25 @@ pub fn key_of(kind: Kind, book: &Book, call: Call) -> Option<u64>
     let op = book.op(call);
     let reply = reply_of(book, call);
     key_of_step(kind, op, reply)
+}
+
+/// Whether all calls of a key may be left out of a book.
+pub fn keys_may_go(kind: Kind, book: &Book) -> bool
+    // The answer is `true` only where they may be left out.
+    ensures may { IsTrue result → KeysMayGo kind book.now }
+    // The answer is `false` only where the rule of keys doesn't serve the book.
+    ensures stay { result ≡ false → ¬ KeysMayGo kind book.now }
+{
+    match kind {
+        Kind::Queue => has_one_open(book),
+        Kind::Stack => has_one_open(book),
+        Kind::Pqueue => has_one_open(book),
+        Kind::IntSet => true,
+        Kind::Map => true,
+        Kind::Register => true,
+        Kind::Counter => true,
+        Kind::CasRegister => true,
+    }
 }
 
 // The reply to a call, where it is answered.
@@ -89,14 +110,14 @@ fn key_by_kind(kind: Kind, op: OpWord, reply: Option<u64>) -> Option<u64>
         Kind::Pqueue => value_moved(op, reply),
         Kind::IntSet => Some(argument(op)),
         Kind::Map => Some(argument(op)),
-        Kind::Register => None,
+        Kind::Register => value_moved(op, reply),
         Kind::Counter => None,
         Kind::CasRegister => None,
     }
 }
 
-// The value that an operation of code 1 puts in, or that the reply to another operation shows,
-// where there is one.
+// The value that an operation of code 1 puts in or writes, or that the reply to another operation
+// shows, where there is one.
 fn value_moved(op: OpWord, reply: Option<u64>) -> Option<u64>
     ensures { result ≡ (if code_of op == 1 then Some (argument_of op) else value_shown reply) }
 {

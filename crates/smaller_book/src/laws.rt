@@ -1,19 +1,23 @@
 //! Laws of parts of a book. Each is the contract of a function with nothing in it.
 
-ghost use Rattle.smaller_book.specs.ReadOnly.{HasOneWithoutReadOnly};
+ghost use Rattle.smaller_book.specs.ReadOnly.{HasOneWithoutReadOnly, HasOneExactlyWithoutOpenReadOnly};
 ghost use Rattle.smaller_book.specs.Keys.{HasOneWithoutKeys};
 ghost use Rattle.smaller_book.specs.Evidence.{EvidenceIsAPart, EvidenceCarriesOver, EvidenceTells, EvidenceKeepsTheRest};
 ghost use Rattle.smaller_book.specs.Minimal.{MinimalAtMoments, ClosedCutsAreMoments, FewCallsAtCuts, SeveralOpenAtCuts};
 
-/// Read-only calls may be left out: where a book has a legal order, each part that lacks only
-/// read-only calls has one.
+/// Read-only calls may be left out of a book, whether they are answered or not.
 pub fn read_only_calls_may_be_left_out()
-    ensures { HasOneWithoutReadOnly }
+    // Where a book has a legal order, each part that lacks only read-only calls has one.
+    ensures all { HasOneWithoutReadOnly }
+    // Where a part lacks only unanswered read-only calls, the book has a legal order exactly where
+    // the part has one.
+    ensures unanswered { HasOneExactlyWithoutOpenReadOnly }
 {}
 
-/// All calls of some keys may be left out, where each view holds at most one unanswered call of
-/// each caller: where the book has a legal order from a well-formed list on, the part without these
-/// calls has one from that list without the items of these keys.
+/// All calls of some keys may be left out; of a queue, a stack or a priority queue where each view
+/// holds at most one unanswered call of each caller. Where the book has a legal order from a
+/// well-formed list on, the part without these calls has one from that list without the items of
+/// these keys.
 pub fn calls_of_keys_may_be_left_out()
     ensures { HasOneWithoutKeys }
 {}

@@ -65,7 +65,7 @@ fn without_singles_of(
         IsSmaller kind book.now (numbers_in smaller.numbers.items) smaller.book)) }
 {
     let mut fewest = found;
-    let count = book.answers(caller);
+    let count = book.calls(caller);
     for tried in 0..count {
         let call = Call {
             caller,
@@ -99,8 +99,8 @@ fn without_single_too(
     }
 }
 
-// The book without this call, where the call is an answered read-only one and the book has no legal
-// order without it.
+// The book without this call, where the call is read-only and the book has no legal order without
+// it.
 fn without_single(
     alloc: Global,
     kind: Kind,
@@ -110,7 +110,7 @@ fn without_single(
     ensures { IfOk result (λ found. IfSome found (λ smaller.
         IsSmaller kind book.now (numbers_in smaller.numbers.items) smaller.book)) }
 {
-    if call.caller >= book.callers() || call.number >= book.answers(call.caller) {
+    if call.caller >= book.callers() || call.number >= book.calls(call.caller) {
         return Ok(None);
     }
     if is_read_only(kind, book, call) {
@@ -286,18 +286,11 @@ fn numbers_of_caller(
     Ok(numbers)
 }
 
-// Whether a call is in a slice, is answered, and is read-only.
+// Whether a call is in a slice and is read-only.
 fn is_read_only_of(kind: Kind, book: &Book, call: Call, size: u64, slice: u64) -> bool
     requires call { IsCall book.now call }
     requires size { 0 < size }
     ensures { IsTrue result → IsReadOnly (kind_next kind) book.now call }
 {
-    let _callers = book.callers();
-    if call.number / size != slice {
-        return false;
-    }
-    if call.number >= book.answers(call.caller) {
-        return false;
-    }
-    is_read_only(kind, book, call)
+    call.number / size == slice && is_read_only(kind, book, call)
 }

@@ -2,16 +2,16 @@
 ghost use Rattle.std.specs.Prelude.{◌≡◌, ℕ, ◌+◌, ◌-◌, ◌<◌, ◌≤◌, ◌++◌, [], ◌∷◌, ◌↔◌, length, if◌then◌else◌, IfOk, IfSome, IfNone, OnOk, IsTrue};
 ghost use Rattle.std.specs.List.{range_with_len};
 ghost use Rattle.book_base.specs.declared.call.Call.{Call};
-ghost use Rattle.book_base.specs.Book.{calls_of, IsAnswered, IsCall};
+ghost use Rattle.book_base.specs.Book.{calls_of, IsCall};
 ghost use Rattle.seq_objects.specs.Objects.{kind_next};
 ghost use Rattle.smaller_book.specs.Numbers.{numbers_in};
-ghost use Rattle.smaller_book.specs.ReadOnly.{IsReadOnly};
+ghost use Rattle.smaller_book.specs.ReadOnly.{LeavesAlways, IsReadOnly};
 ghost use Rattle.smaller_book.specs.Minimal.{numbers_except, row_but, all_but, IsNeeded, IsSmaller};
 
 use crate::judging::is_illegal;
 use crate::numbered::part;
-use book_base::{Book, Call, NoMemory, SeqObject};
-use seq_objects::Kind;
+use book_base::{Book, Call, NoMemory, OpWord, SeqObject};
+use seq_objects::{DONE, Kind, NONE, YES, wrapping_value_reply};
 use std::alloc::Global;
 
 /// A smaller book, with the numbers that its calls have in the book from which it was made: a list
@@ -62,15 +62,35 @@ fn without_one_of(
         → IsReadOnly (kind_next kind) book.now (record { caller = caller; number = number })
         → IsNeeded kind book.now (record { caller = caller; number = number }))) }
 {
-    for number in 0..book.answers(caller) {
-        let call = Call { caller, number };
-        if is_read_only(kind, book, call)
-            && let Some(smaller) = without(alloc, kind, book, call)?
-        {
-            return Ok(Some(smaller));
+    for number in 0..book.calls(caller) {
+        let found = without_if_read_only(alloc, kind, book, Call { caller, number })?;
+        match found {
+            Some(smaller) => return Ok(Some(smaller)),
+            None => {}
         }
     }
     Ok(None)
+}
+
+// The book without this call, where the call is read-only and the book has no legal order without
+// it.
+fn without_if_read_only(
+    alloc: Global,
+    kind: Kind,
+    book: &Book,
+    call: Call,
+) -> Result<Option<Smaller>, NoMemory>
+    requires { IsCall book.now call }
+    ensures smaller { IfOk result (λ found. IfSome found (λ smaller.
+        IsSmaller kind book.now (numbers_in smaller.numbers.items) smaller.book)) }
+    ensures none { IfOk result (λ found. IfNone found
+        (IsReadOnly (kind_next kind) book.now call → IsNeeded kind book.now call)) }
+{
+    if is_read_only(kind, book, call) {
+        without(alloc, kind, book, call)
+    } else {
+        Ok(None)
+    }
 }
 
 /// The book without this read-only call, if that smaller book has no legal order.
@@ -100,16 +120,32 @@ pub fn without(
     }
 }
 
-/// Whether an answered call is read-only: its operation doesn't change any list at which it has the
-/// recorded reply.
+/// Whether a call is read-only: its operation doesn't change any list at which it has the recorded
+/// reply, or no list at all where the call is unanswered.
 pub fn is_read_only(kind: Kind, book: &Book, call: Call) -> bool
-    requires { IsAnswered book.now call }
+    requires { IsCall book.now call }
     ensures { IsTrue result ↔ IsReadOnly (kind_next kind) book.now call }
 {
     let _callers = book.callers();
-    let record = book.record(call);
     let op = book.op(call);
-    kind.leaves(op, record.reply)
+    if call.number < book.answers(call.caller) {
+        let record = book.record(call);
+        kind.leaves(op, record.reply)
+    } else {
+        leaves_always(kind, op)
+    }
+}
+
+// Whether an operation changes no list. Each operation of each kind that changes a list does so
+// with one of these replies.
+#[tactic(auto, using(crate::proofs::LeavingAlways::leaves_always))]
+fn leaves_always(kind: Kind, op: OpWord) -> bool
+    ensures { IsTrue result ↔ LeavesAlways (kind_next kind) op }
+{
+    kind.leaves(op, DONE)
+        && kind.leaves(op, NONE)
+        && kind.leaves(op, YES)
+        && kind.leaves(op, wrapping_value_reply(0))
 }
 
 // For each caller of a book the numbers of its calls, with `call` left out.

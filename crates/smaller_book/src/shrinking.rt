@@ -3,12 +3,11 @@ ghost use Rattle.std.specs.Prelude.{◌≡◌, ◌<◌, ℕ, Some, IfOk, IfSome,
 ghost use Rattle.book_base.specs.declared.call.Call.{Call};
 ghost use Rattle.book_base.specs.Book.{IsCall};
 ghost use Rattle.book_base.specs.Order.{HasLegalOrder};
-ghost use Rattle.book_base.specs.Pruning.{HasOneOpen};
 ghost use Rattle.seq_objects.specs.Objects.{kind_next, kind_spec};
 ghost use Rattle.smaller_book.specs.Part.{size_of};
 ghost use Rattle.smaller_book.specs.Numbers.{numbers_in};
 ghost use Rattle.smaller_book.specs.ReadOnly.{IsReadOnly};
-ghost use Rattle.smaller_book.specs.Keys.{key_of_call};
+ghost use Rattle.smaller_book.specs.Keys.{key_of_call, KeysMayGo};
 ghost use Rattle.smaller_book.specs.Evidence.{IsEvidence};
 ghost use Rattle.smaller_book.specs.Minimal.{IsNeeded, IsKeyNeeded, IsMinimal, IsSmaller, IsShrunk};
 
@@ -26,13 +25,14 @@ use std::alloc::Global;
 /// A part of a book that has no legal order: the part has none either, and no rule makes it
 /// smaller. No part is answered where the book has a legal order.
 ///
-/// The rules are three: the book at an earlier cut, the book without an answered read-only call of
-/// the object, and the book without all calls of one key, where each view holds at most one
-/// unanswered call of each caller. A key is a value of a queue, a stack or a priority queue, or the
-/// argument of an operation of a set or a map. Where more than `FEW_CALLS` calls are left, and each
-/// view holds at most one unanswered call of each caller, only such earlier cuts are tried at which
-/// each view of the book still holds at most one. The calls are numbered anew with new views, and
-/// the numbers that they had come with the book.
+/// The rules are three: the book at an earlier cut, the book without a read-only call of the
+/// object, answered or not, and the book without all calls of one key. A key is a value of a queue,
+/// a stack, a priority queue or a register, or the argument of an operation of a set or a map.
+/// Calls of a queue, a stack or a priority queue go by keys only where each view holds at most one
+/// unanswered call of each caller. Where more than `FEW_CALLS` calls are left, and each view holds
+/// at most one unanswered call of each caller, only such earlier cuts are tried at which each view
+/// of the book still holds at most one. The calls are numbered anew with new views, and the numbers
+/// that they had come with the book.
 pub fn shrink(alloc: Global, kind: Kind, book: &Book) -> Result<Option<Smaller>, NoMemory>
     // Where no book is answered, the book has a legal order.
     ensures none { IfOk result (λ found. IfNone found (HasLegalOrder (kind_spec kind) book.now)) }
@@ -105,7 +105,8 @@ fn next_smaller(alloc: Global, kind: Kind, book: &Book) -> Result<Option<Smaller
         size_of smaller.book < size_of book.now)) }
     ensures read_only { IfOk result (λ found. IfNone found ((call : Call)
         → IsReadOnly (kind_next kind) book.now call → IsNeeded kind book.now call)) }
-    ensures keys { IfOk result (λ found. IfNone found (HasOneOpen book.now → (call : Call) (key : ℕ)
+    ensures keys { IfOk result
+        (λ found. IfNone found (KeysMayGo kind book.now → (call : Call) (key : ℕ)
         → IsCall book.now call → key_of_call kind book.now call ≡ Some key
         → IsKeyNeeded kind book.now key)) }
 {
@@ -122,7 +123,8 @@ fn without_calls(alloc: Global, kind: Kind, book: &Book) -> Result<Option<Smalle
         IsSmaller kind book.now (numbers_in smaller.numbers.items) smaller.book)) }
     ensures read_only { IfOk result (λ found. IfNone found ((call : Call)
         → IsReadOnly (kind_next kind) book.now call → IsNeeded kind book.now call)) }
-    ensures keys { IfOk result (λ found. IfNone found (HasOneOpen book.now → (call : Call) (key : ℕ)
+    ensures keys { IfOk result
+        (λ found. IfNone found (KeysMayGo kind book.now → (call : Call) (key : ℕ)
         → IsCall book.now call → key_of_call kind book.now call ≡ Some key
         → IsKeyNeeded kind book.now key)) }
 {

@@ -59,11 +59,13 @@ not_read_only : (i k : ℕ)
     → IsReadOnly (kind_next kinds.Counter) one_miscount (record { caller = i; number = k }) → ⊥
 unfolding kind_next
 not_read_only zero zero leaves =
-    let same : ◌≡◌ {A = List ℕ} (2 ∷ []) (1 ∷ []) = leaves (1 ∷ []) refl in
+    let same : ◌≡◌ {A = List ℕ} (2 ∷ []) (1 ∷ []) =
+    leaves.1 (reply_value 1) (λ r e. sym (ap (λ (s : Record). s.reply) (same_Some miscount r e)))
+    (1 ∷ []) refl in
     let apart : ◌≡◌ {A = ℕ} 2 1 = ap (λ (xs : List ℕ). get_or xs 0 0) same in
     omega (arith, apart)
-not_read_only zero (suc k) leaves = leaves
-not_read_only (suc i) k leaves = leaves
+not_read_only zero (suc k) leaves = omega (arith, leaves.0)
+not_read_only (suc i) k leaves = omega (arith, leaves.0)
 
 no_key : (is_known : Bool) (key : ℕ) → (if is_known then None else None) ≡ Some key → ⊥
 no_key true key e = none-some key e

@@ -42,7 +42,7 @@ returns-clause-take c =
     keys_evidence kinds.Queue needless_put second_alone later_take
     (two_are_valid puts takes reply_done (reply_value 6)) (later_is_valid takes (reply_value 6))
     (record {
-      one_open = two_have_one_open puts takes reply_done (reply_value 6);
+      may_go = two_have_one_open puts takes reply_done (reply_value 6);
       keys = keys_from_to 5 5;
       named = sym take_stays;
       is_part = later_is_part puts takes reply_done (reply_value 6);

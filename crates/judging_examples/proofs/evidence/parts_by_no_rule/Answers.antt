@@ -11,7 +11,7 @@ use Rattle.judging_examples.specs.Books.{answer}
 use Rattle.seq_objects.specs.declared.kind.Kind.{Kind}
 use Rattle.seq_objects.specs.declared.kind.Kind.TheVariants as kinds
 use Rattle.seq_objects.specs.Words.{is_known_word, entry_of, entries}
-use Rattle.seq_objects.specs.Replies.{reply_value}
+use Rattle.seq_objects.specs.Replies.{reply_done, reply_value}
 use Rattle.seq_objects.specs.Objects.{kind_next}
 use Rattle.smaller_book.specs.Part.{original, IsPart, KeepsAnswers}
 use Rattle.smaller_book.specs.ReadOnly.{IsReadOnly}
@@ -37,7 +37,9 @@ last_view (suc number) r e = absurd (none-some r e)
 increment_changes : ¬ IsReadOnly (kind_next kinds.Counter) three_increments first_call
 unfolding kind_next
 increment_changes leaves =
-    let same : ◌≡◌ {A = List ℕ} (1 ∷ []) (0 ∷ []) = leaves (0 ∷ []) refl in
+    let same : ◌≡◌ {A = List ℕ} (1 ∷ []) (0 ∷ []) =
+    leaves.1 (reply_value 0) (λ r e. sym (ap (λ (s : Record). s.reply) (same_Some _ r e)))
+    (0 ∷ []) refl in
     let apart : ◌≡◌ {A = ℕ} 1 0 = ap (λ (xs : List ℕ). get_or xs 0 0) same in
     omega (arith, apart)
 
@@ -61,24 +63,26 @@ read_view : (number : ℕ) (r : Record)
 read_view zero r e = subst (λ (s : Record). Holds s.view first_call) (same_Some _ r e) (omega arith)
 read_view (suc number) r e = absurd (none-some r e)
 
-write_changes : ¬ IsReadOnly (kind_next kinds.Register) misread first_call
+write_changes : ¬ IsReadOnly (kind_next kinds.CasRegister) misread first_call
 unfolding kind_next
 write_changes leaves =
-    let same : ◌≡◌ {A = List ℕ} (5 ∷ []) (0 ∷ []) = leaves (0 ∷ []) refl in
+    let same : ◌≡◌ {A = List ℕ} (5 ∷ []) (0 ∷ []) =
+    leaves.1 reply_done (λ r e. sym (ap (λ (s : Record). s.reply) (same_Some _ r e)))
+    (0 ∷ []) refl in
     let apart : ◌≡◌ {A = ℕ} 5 0 = ap (λ (xs : List ℕ). get_or xs 0 0) same in
     omega (arith, apart)
 
-write_has_no_key : key_of_call kinds.Register misread first_call ≡ None
+write_has_no_key : key_of_call kinds.CasRegister misread first_call ≡ None
 unfolding is_known_word entry_of entries
 write_has_no_key = refl
 
 pub returns-clause-read : goal.returns-clause-read
 returns-clause-read c names evidence =
     let call : Call = record { caller = 1; number = 0 } in
-    let is = evidence_part kinds.Register misread names read_alone evidence in
+    let is = evidence_part kinds.CasRegister misread names read_alone evidence in
     let small : Record = answer (reply_value 6) (0 ∷ 1 ∷ []) in
     let was = record_was misread names read_alone is call small refl in
-    let named = evidence_keeps_the_rest kinds.Register misread names read_alone evidence
+    let named = evidence_keeps_the_rest kinds.CasRegister misread names read_alone evidence
     call first_call was.0 (omega arith) was.1 (read_view _ was.0 was.1) write_changes
     write_has_no_key in
     omega (arith, is.calls 0, named.1)

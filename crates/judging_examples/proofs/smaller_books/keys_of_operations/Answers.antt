@@ -26,9 +26,17 @@ pub returns-clause-of_a_map : goal.returns-clause-of_a_map
 unfolding is_known_word entry_of entries
 returns-clause-of_a_map c = refl
 
-pub returns-clause-of_a_register : goal.returns-clause-of_a_register
+pub returns-clause-writes : goal.returns-clause-writes
 unfolding is_known_word entry_of entries
-returns-clause-of_a_register c = refl
+returns-clause-writes c = refl
+
+pub returns-clause-reads : goal.returns-clause-reads
+unfolding is_known_word entry_of entries
+returns-clause-reads c = refl
+
+pub returns-clause-no_key : goal.returns-clause-no_key
+unfolding is_known_word entry_of entries
+returns-clause-no_key c = refl
 
 pub returns-clause-unknown : goal.returns-clause-unknown
 unfolding is_known_word entry_of entries

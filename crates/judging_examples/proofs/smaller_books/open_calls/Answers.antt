@@ -32,5 +32,11 @@ returns-clause-two c = λ holds.
     let it : Record = answer (reply_value 7) (2 ∷ 1 ∷ []) in
     omega (arith, holds call it 0 refl)
 
+pub returns-clause-keys_stay : goal.returns-clause-keys_stay
+returns-clause-keys_stay c = λ holds.
+    let call : Call = record { caller = 1; number = 0 } in
+    let it : Record = answer (reply_value 7) (2 ∷ 1 ∷ []) in
+    omega (arith, holds call it 0 refl)
+
 pub returns-clause-one : goal.returns-clause-one
 returns-clause-one c call r i known = few call.caller call.number r i known

@@ -32,7 +32,7 @@ returns-clause-answers c =
     c.in_ok-smaller.ensures.answers)
 
 pub returns-clause-evidence : goal.returns-clause-evidence
-returns-clause-evidence c one_open =
+returns-clause-evidence c may =
     let kind = c.args.kind in
     let book = c.args.book.now in
     let small : List Page = c.in_ok-smaller.smaller in
@@ -42,7 +42,7 @@ returns-clause-evidence c one_open =
     (keys_evidence kind book names small c.callers-callers.ensures.valid
     c.callers-of_part.ensures.valid
     (record {
-      one_open = one_open;
+      may_go = may;
       keys = keys;
       named = refl;
       is_part = returns-clause-part c;

@@ -15,7 +15,7 @@ returns-then-branch-clause-smaller c =
     let goes : is_among (keys_from_to key key) (key_of_call kind book c.args.call) ≡ true =
     ap (is_among (keys_from_to key key)) c.requires.key ∙ own_key key in
     record {
-      evidence = c.in_ok-smaller.ensures.evidence c.requires.open;
+      evidence = c.in_ok-smaller.ensures.evidence c.requires.may;
       illegal = c.in_ok-is_illegal.ensures.illegal c.if-branch.true;
       fewer = size-less_without kind
           (keys_from_to key key) book c.args.call smaller.book c.requires.call goes is;

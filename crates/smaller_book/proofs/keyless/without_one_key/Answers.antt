@@ -31,7 +31,7 @@ loop-caller-preserved c =
     )
 
 pub returns-clause-none : goal.returns-clause-none
-returns-clause-none c one_open call key inside known =
+returns-clause-none c may call key inside known =
     let here = caller_from_call c.args.book.now call.caller call.number inside in
     c.loop-caller.invariant.1 call key
     (omega (arith, here, c.callers-caller-end.ensures.count)) inside known

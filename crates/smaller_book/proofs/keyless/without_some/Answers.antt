@@ -13,7 +13,7 @@ returns-then-branch c =
     let fewer = c.has_fewer.ensures c.if-not-has_fewer.false in
     record {
       evidence = c.in_ok-smaller.ensures.evidence
-          (c.has_one_open.ensures.one c.if-not-has_one_open.false);
+          (c.keys_may_go.ensures.may c.if-not-keys_may_go.false);
       illegal = c.in_ok-is_illegal.ensures.illegal c.if-branch.true;
       fewer = size-less_at book (all_without kind keys book) smaller.book fewer.0 is fewer.1;
     }

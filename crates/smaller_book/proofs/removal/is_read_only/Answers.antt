@@ -1,16 +1,23 @@
-use Rattle.std.proofs.Common.{ℕ, Option, Some, unwrap_or, sym, subst}
-use Rattle.std.specs.Prelude.{◌↔◌, IsTrue, IsSomeAnd}
-use Rattle.book_base.specs.declared.call.Record.{Record}
-use Rattle.book_base.specs.Book.{operation_of}
-use Rattle.book_base.specs.Reaching.{Leaves}
-use Rattle.seq_objects.specs.Objects.{kind_spec}
+use Rattle.std.proofs.Common.{arith}
+use Rattle.book_base.specs.Book.{IsAnswered}
+use Rattle.seq_objects.specs.Objects.{kind_next}
+use Rattle.smaller_book.proofs.ReadOnly.{answered_read_only, unanswered_read_only}
 use Rattle.smaller_book.proofs.removal.is_read_only.Goals as goal
 
-pub returns : goal.returns
-returns c =
-    let next = (kind_spec c.args.kind).next in
-    let P : Option ℕ → Option Record → Type 0 = λ op known. IsTrue c.leaves.result
-    ↔ IsSomeAnd known (λ r. Leaves next (unwrap_or op 0) r.reply) in
-    subst (λ known. P (operation_of c.args.book.now c.args.call) known)
-    (sym c.record-record.ensures.record)
-    (subst (λ op. P op (Some c.record-record.result)) (sym c.op-op.ensures) c.leaves.ensures)
+pub returns-then-call-answers : goal.returns-then-call-answers
+returns-then-call-answers c =
+    let is = answered_read_only (kind_next c.args.kind) c.args.book.now c.args.call c.op-op.result
+    c.record-record.result c.requires c.op-op.ensures c.record-record.ensures.record in (
+      λ true_is. is.0 (c.leaves.ensures.0 true_is),
+      λ only. c.leaves.ensures.1 (is.1 only),
+    )
+
+pub returns-else-call-answers : goal.returns-else-call-answers
+returns-else-call-answers c =
+    let unanswered : ¬ IsAnswered c.args.book.now c.args.call =
+    λ answered. omega (arith, answered, c.if-call-answers.false, c.answers.ensures) in
+    let is = unanswered_read_only (kind_next c.args.kind) c.args.book.now c.args.call
+    c.op-op.result c.requires c.op-op.ensures unanswered in (
+      λ true_is. is.0 (c.leaves_always.ensures.0 true_is),
+      λ only. c.leaves_always.ensures.1 (is.1 only),
+    )

@@ -5,19 +5,17 @@ use Rattle.smaller_book.specs.Part.{IsPart, KeepsAnswers}
 use Rattle.smaller_book.specs.Numbers.{numbers_in, AreNumbersOf}
 use Rattle.smaller_book.specs.Evidence.{IsEvidence}
 use Rattle.smaller_book.specs.Minimal.{all_but}
-use Rattle.smaller_book.proofs.Removing.{all_but_are_numbers, lacks_one_alone, read_only_is_call, size-less}
+use Rattle.smaller_book.proofs.Removing.{all_but_are_numbers, lacks_one_alone, size-less}
 use Rattle.smaller_book.proofs.Steps.{read_only_evidence}
 use Rattle.smaller_book.proofs.removal.without.Goals as goal
 
 pub all_numbers_but-requires : goal.all_numbers_but-requires
-all_numbers_but-requires c = read_only_is_call
-    (kind_next c.args.kind) c.args.book.now c.args.call c.callers-callers.ensures.valid c.requires
+all_numbers_but-requires c = c.requires.0
 
 pub part-requires : goal.part-requires
 part-requires c =
     let book = c.args.book.now in
-    let inside : IsCall book c.args.call = read_only_is_call
-    (kind_next c.args.kind) book c.args.call c.callers-callers.ensures.valid c.requires in
+    let inside : IsCall book c.args.call = c.requires.0 in
     subst (λ rows. AreNumbersOf book (numbers_in rows)) (sym c.deref.ensures.value)
     (subst (AreNumbersOf book) (sym c.in_ok-numbers.ensures)
     (all_but_are_numbers book c.args.call inside))
@@ -27,8 +25,7 @@ returns-then-branch-clause-smaller c =
     let book = c.args.book.now in
     let call = c.args.call in
     let small : List Page = c.in_ok-smaller.smaller in
-    let inside : IsCall book call = read_only_is_call
-    (kind_next c.args.kind) book call c.callers-callers.ensures.valid c.requires in
+    let inside : IsCall book call = c.requires.0 in
     let is : IsPart book (numbers_in c.in_ok-numbers.numbers.items) small =
     subst (λ rows. IsPart book (numbers_in rows) small) c.deref.ensures.value
     c.in_ok-smaller.ensures.part in
