@@ -1,3 +1,4 @@
 pub mod Locks
 pub mod Counters
 pub mod OpenCalls
+pub mod BoundedQueues

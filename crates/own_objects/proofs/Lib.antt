@@ -1,0 +1,4 @@
+mod Runs
+mod Numbered
+mod Truths
+mod Ending

@@ -1,0 +1,3 @@
+pub mod Objects
+pub mod Told
+pub mod Laws
