@@ -1,0 +1,16 @@
+pub mod ModelWordTexts
+pub mod NamedCalls
+pub mod Twins
+pub mod SharpModelBooks
+pub mod WrittenBooks
+pub mod BookFaults
+pub mod Subjects
+pub mod SharpModels
+pub mod BookParts
+pub mod Readings
+pub mod WrittenTexts
+pub mod ReadTexts
+pub mod FaultTexts
+pub mod BookLines
+pub mod ToldTexts
+pub mod Tables

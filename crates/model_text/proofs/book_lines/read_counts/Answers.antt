@@ -1,0 +1,36 @@
+use Rattle.std.proofs.Common.{sym, ◌∙◌, refl}
+use Rattle.std.proofs.lemmas.Result.{err_from_is_err_and}
+use Rattle.book_base.specs.declared.fault.What.TheVariants.{Calls}
+use Rattle.text_fields.specs.Lines.{words_of}
+use Rattle.text_fields.proofs.Sharp.{goes_line, stops_cut, stops_line, only_test}
+use Rattle.book_text.specs.CallLines.{no_call_read}
+use Rattle.model_text.specs.ModelBookRules.{CountsDue, in_calls}
+use Rattle.model_text.specs.ModelRules.{InBook, model_rules}
+use Rattle.model_text.proofs.book_lines.read_counts.Goals as goal
+
+pub returns-in_err-line-clause-refused : goal.returns-in_err-line-clause-refused
+returns-in_err-line-clause-refused c =
+    let p = err_from_is_err_and c.from_residual.result c.from_residual.ensures.1 in
+    rw (p.1, p.2) (stops_cut model_rules
+    (InBook (CountsDue c.args.n)) c.args.lines.now c.in_err-line.field-0.0 refl c.in_err-line.ensures.cut.0)
+
+pub returns-in-Some-clause-found : goal.returns-in-Some-clause-found
+returns-in-Some-clause-found c =
+    goes_line model_rules (InBook (CountsDue c.args.n)) (InBook (in_calls (no_call_read c.in-Some.calls)))
+    c.args.lines.now c.line.new.self c.in_ok-line.field-0.now c.in_ok-line.ensures.line (
+      in_calls (no_call_read c.in-Some.calls),
+      (
+        c.in-Some.calls,
+        c.in-Some.ensures.found.0,
+        sym c.new-words.ensures ∙ c.in-Some.ensures.found.1,
+        refl,
+      ),
+      refl,
+    )
+
+pub returns-in-None-clause-refused : goal.returns-in-None-clause-refused
+returns-in-None-clause-refused c =
+    rw c.number-line.ensures (stops_line model_rules (InBook (CountsDue c.args.n)) c.args.lines.now
+    c.line.new.self c.in_ok-line.field-0.now Calls refl c.in_ok-line.ensures.line
+    (only_test (model_rules.Fails (InBook (CountsDue c.args.n)) (words_of c.in_ok-line.field-0.now)) Calls
+    (refl, λ calls h e. c.in-None.ensures.none calls h (c.new-words.ensures ∙ e)) (λ other h. h.0)))

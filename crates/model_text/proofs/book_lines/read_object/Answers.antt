@@ -1,0 +1,30 @@
+use Rattle.std.proofs.Common.{◌≡◌, true, sym, ◌∙◌, refl}
+use Rattle.std.proofs.lemmas.Result.{err_from_is_err_and}
+use Rattle.book_base.specs.declared.fault.What.TheVariants.{Object}
+use Rattle.text_fields.specs.Lines.{words_of}
+use Rattle.text_fields.proofs.Sharp.{goes_line, stops_cut, stops_line, only_test}
+use Rattle.model_text.specs.ModelBookRules.{ObjectDue, CallersDue}
+use Rattle.model_text.specs.ModelRules.{InBook, model_rules}
+use Rattle.model_text.proofs.book_lines.read_object.Goals as goal
+
+pub returns-in_err-line-clause-refused : goal.returns-in_err-line-clause-refused
+returns-in_err-line-clause-refused c =
+    let p = err_from_is_err_and c.from_residual.result c.from_residual.ensures.1 in
+    rw (p.1, p.2) (stops_cut model_rules (InBook ObjectDue) c.args.lines.now c.in_err-line.field-0.0 refl
+    c.in_err-line.ensures.cut.0)
+
+pub returns-then-are_words-clause-found : goal.returns-then-are_words-clause-found
+returns-then-are_words-clause-found c =
+    goes_line model_rules (InBook ObjectDue) (InBook CallersDue) c.args.lines.now c.line.new.self
+    c.in_ok-line.field-0.now c.in_ok-line.ensures.line
+    (CallersDue, (sym c.new-words.ensures ∙ c.are_words.ensures.0 c.if-are_words.true, refl), refl)
+
+pub returns-else-are_words-clause-refused : goal.returns-else-are_words-clause-refused
+returns-else-are_words-clause-refused c =
+    rw c.number-line.ensures (stops_line model_rules (InBook ObjectDue) c.args.lines.now c.line.new.self
+    c.in_ok-line.field-0.now Object refl c.in_ok-line.ensures.line
+    (only_test (model_rules.Fails (InBook ObjectDue) (words_of c.in_ok-line.field-0.now)) Object (
+      refl,
+      λ e. let is : c.are_words.result ≡ true = c.are_words.ensures.1 (c.new-words.ensures ∙ e) in
+          absurd (cc (is, c.if-are_words.false)),
+    ) (λ other h. h.0)))

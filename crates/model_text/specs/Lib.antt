@@ -1,0 +1,9 @@
+pub mod ModelWords
+pub mod ModelWordLaws
+pub mod ModelBookRules
+pub mod Told
+pub mod Grammar
+pub mod ModelRules
+pub mod Reading
+pub mod Written
+pub mod Laws
