@@ -1,0 +1,13 @@
+pub mod Appending
+pub mod Fronts
+pub mod Joining
+pub mod Events
+pub mod Settling
+pub mod Placing
+pub mod Following
+pub mod Stepping
+pub mod Lateness
+pub mod PendingCalls
+pub mod Lookahead
+pub mod Simulating
+pub mod Plain

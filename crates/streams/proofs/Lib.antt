@@ -1,0 +1,5 @@
+pub mod Returning
+pub mod Pushing
+pub mod Books
+pub mod Making
+pub mod Sketched

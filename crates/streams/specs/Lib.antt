@@ -1,0 +1,5 @@
+pub mod Stream
+pub mod StreamOrder
+pub mod StreamBook
+pub mod BookStream
+pub mod Laws
