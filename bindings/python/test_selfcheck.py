@@ -3,11 +3,16 @@
 import asyncio
 import collections
 import concurrent.futures
+import ctypes
 import itertools
 import os
+import pathlib
+import pickle
 import random
+import signal
 import subprocess
 import sys
+import tempfile
 import threading
 import time
 import unittest
@@ -90,6 +95,62 @@ class Texts(unittest.TestCase):
             self.assertEqual(str(it.exception), "refused 5 ViewOutside")
         with self.assertRaises(selfcheck.Refused):
             selfcheck.verify("")
+
+
+class ManyBooks(unittest.TestCase):
+    LEGAL = LOST_VALUE.replace("deq none", "deq =5")
+
+    def test_one_by_one(self):
+        nowhere = pathlib.Path("/nowhere/some.book")
+        books = [self.LEGAL, LOST_VALUE.encode(), "", None, nowhere, self.LEGAL.encode(), b"\xff"]
+        wanted = [True, False, selfcheck.Refused, TypeError, FileNotFoundError, True, selfcheck.Refused]
+        for threads in (None, 1, 2, 9):
+            judged = selfcheck.verify_many(iter(books), threads)
+            self.assertEqual([it.index for it in judged], list(range(len(books))))
+            said = [it.legal if it.error is None else type(it.error) for it in judged]
+            self.assertEqual(said, wanted)
+            self.assertEqual((judged[2].error.line, judged[2].error.what, judged[2].legal), (1, "Cut", None))
+        self.assertEqual(selfcheck.verify_many([]), [])
+
+    # The verdicts of many books are those of one after the other, by whichever thread.
+    def test_order(self):
+        rnd = random.Random(1)
+        books = [rnd.choice((self.LEGAL, LOST_VALUE)) for _ in range(500)]
+        judged = selfcheck.verify_many(books, 4)
+        self.assertEqual([it.legal for it in judged], [it is self.LEGAL for it in books])
+
+    def test_files(self):
+        with tempfile.TemporaryDirectory() as folder:
+            paths = [pathlib.Path(folder, name) for name in "abc"]
+            for path, text in zip(paths, (LOST_VALUE, self.LEGAL)):
+                path.write_text(text)
+            self.assertEqual([it.legal for it in selfcheck.verify_many(paths)], [False, True, None])
+
+    # What other processes hand back is as it was.
+    def test_pickled(self):
+        for it in selfcheck.verify_many([LOST_VALUE, "book 2\nobject queue\ncallers 0\n"]):
+            again = pickle.loads(pickle.dumps(it))
+            self.assertEqual((again[:2], repr(again.error), str(again.error)), (it[:2], repr(it.error), str(it.error)))
+        self.assertEqual(str(again.error), "refused 3 Callers")
+
+    # Nothing is judged to its end that nobody wants.
+    def test_ends(self):
+        def broken():
+            yield LOST_VALUE
+            raise ZeroDivisionError
+
+        with self.assertRaises(ZeroDivisionError):
+            selfcheck.verify_many(broken(), 3)
+        with self.assertRaises(ValueError):
+            selfcheck.verify_many([], -1)
+        signal.signal(signal.SIGALRM, signal.default_int_handler)
+        signal.setitimer(signal.ITIMER_REAL, 0.2)
+        with self.assertRaises(KeyboardInterrupt):
+            selfcheck.verify_many(itertools.repeat(LOST_VALUE), 2)
+
+    def test_lock(self):
+        self.assertIsInstance(selfcheck._library, ctypes.CDLL)
+        self.assertNotIsInstance(selfcheck._library, ctypes.PyDLL, "it would be called with the interpreter's lock")
 
 
 class Recordings(unittest.TestCase):

@@ -31,6 +31,7 @@ __all__ = [
     "EnforcedCaller",
     "Illegal",
     "Incomplete",
+    "Judged",
     "NoCallLeft",
     "Placed",
     "Prefix",
@@ -45,6 +46,7 @@ __all__ = [
     "picture",
     "smaller",
     "verify",
+    "verify_many",
 ]
 
 __version__ = "0.1.0"
@@ -64,9 +66,12 @@ class Refused(ValueError):
     """The text isn't one of the wanted form: its first line that is wrong, and what is wrong there."""
 
     def __init__(self, line, what):
-        super().__init__(f"refused {line} {what}")
+        super().__init__(line, what)
         self.line = line
         self.what = what
+
+    def __str__(self):
+        return f"refused {self.line} {self.what}"
 
 
 _WAYS = "whose book `prefix` gives", "of a set or a map `by_key` gives a book for each key"
@@ -447,5 +452,6 @@ class Caller(_Calls):
 
 # last, since it takes what stands above
 from .enforced import Enforced, EnforcedCaller, Illegal, NoCallLeft  # noqa: E402
+from .many import Judged, verify_many  # noqa: E402
 from .model import BrokenPromise, ContradictoryModel, Placed, Verdict, WithOutput, judge  # noqa: E402
 from .model import as_model, verdict_of  # noqa: E402
