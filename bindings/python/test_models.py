@@ -177,7 +177,9 @@ class Verdicts(unittest.TestCase):
                 verdict = selfcheck.judge(model, events, recheck=True)
                 self.assertIs(verdict.legal, has_legal_order(source.model, calls, source.model.init()), events)
                 self.assertEqual((verdict.kept, verdict.left_out), (len(calls), 0))
-                self.assertIs(recorded(model, events).verify().legal, verdict.legal, events)
+                recorder = recorded(model, events)
+                self.assertIs(recorder.verify().legal, verdict.legal, events)
+                self.assertIs(selfcheck.judge(model, recorder.events()).legal, verdict.legal, events)
                 counts[verdict.legal] += 1
                 if not hasattr(model, "key"):
                     self.check_order(model, calls, verdict.order)
@@ -536,7 +538,8 @@ class Recordings(unittest.TestCase):
     # A kind has books, and a model verdicts.
     def test_books(self):
         recorder = selfcheck.Recorder(models.Lock())
-        for text in recorder.book, recorder.prefix, recorder.by_key, selfcheck.Recorder("queue").verify:
+        queue = selfcheck.Recorder("queue")
+        for text in recorder.book, recorder.prefix, recorder.by_key, queue.verify, queue.events:
             with self.assertRaises(TypeError):
                 text()
 

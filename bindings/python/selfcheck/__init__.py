@@ -373,6 +373,13 @@ class Recorder(_Calls):
             raise TypeError("the calls to a kind have a book: selfcheck.verify(recorder.book())")
         return verdict_of(self._model, self._known(), self._callers, self._beyond, steps, prefix, recheck)
 
+    def events(self):
+        """The history of the calls to a model, as `judge` takes it, of as many of the first calls as fit one. What is called
+        meanwhile is in it as far as it has come."""
+        if self._model is None:
+            raise TypeError("the calls to a kind have a book: recorder.book()")
+        return events_of(self._known(), self._callers)
+
     def prefix(self):
         """The book of all calls where they fit one, and else that of the first of them: those before the first that finds
         no caller. Of these it leaves out the last ones again where half of them at least come before a moment at which no
@@ -454,4 +461,4 @@ class Caller(_Calls):
 from .enforced import Enforced, EnforcedCaller, Illegal, NoCallLeft  # noqa: E402
 from .many import Judged, verify_many  # noqa: E402
 from .model import BrokenPromise, ContradictoryModel, Placed, Verdict, WithOutput, judge  # noqa: E402
-from .model import as_model, verdict_of  # noqa: E402
+from .model import as_model, events_of, verdict_of  # noqa: E402

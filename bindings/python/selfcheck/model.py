@@ -176,6 +176,11 @@ def verdict_of(model, calls, own, beyond, steps, prefix, recheck):
     return _whole(verdicts, left_out) if key_of else verdicts[None]
 
 
+def events_of(calls, own):
+    """The history of as many of the first calls as fit one, of which so many callers stay with threads."""
+    return _events(pages_of(calls, own)[0])
+
+
 def _events(pages):
     moments = {}
     for caller, page in enumerate(pages):
