@@ -74,6 +74,27 @@ static void try_models(void) {
         }
 }
 
+/* The evidence of a counter of which one is added and two is read, worked by hand. */
+static void try_evidence(void) {
+    static const char wanted[] = "book 2\nobject model\ncallers 1\ncalls 2\n0 0 op 100667392 =1 view 0:1\n"
+        "0 1 op 184549376 =4 view 0:2\nend\nsteps 2\nleaves op 184549376 =4\n0 op 100667392 1 =1\n"
+        "1 op 184549376 1 =3\nend\n";
+    uint8_t text[256] = {0};
+    size_t length = 7;
+    open_check(&counter_model, 1);
+    begin(0, op_of(ADD, 1, 0));
+    end(0, DONE);
+    begin(0, op_of(READ, 0, 0));
+    end(0, VALUE + 2);
+    HOLDS(selfcheck_check_go_on(&check, UINT64_MAX) == SELFCHECK_ILLEGAL);
+    HOLDS(selfcheck_model_evidence(&check.slot, NULL, 0, &length) == SELFCHECK_NO_ROOM && length == strlen(wanted));
+    HOLDS(selfcheck_model_evidence(&check.slot, text, length - 1, &length) == SELFCHECK_NO_ROOM && text[0] == 0);
+    HOLDS(selfcheck_model_evidence(&check.slot, text, sizeof text, &length) == SELFCHECK_DONE);
+    HOLDS(length == strlen(wanted) && memcmp(text, wanted, length) == 0 && text[length] == 0);
+    selfcheck_check_close(&check);
+    HOLDS(selfcheck_model_evidence(&check.slot, text, sizeof text, &length) == SELFCHECK_UNFIT);
+}
+
 /* An order, what is asked for it, and how it is lost. */
 static void try_orders(void) {
     struct selfcheck_placed order[4] = {{9, 9}, {9, 9}, {9, 9}, {9, 9}};
@@ -299,6 +320,7 @@ static void try_recorders(void) {
 
 int main(void) {
     try_models();
+    try_evidence();
     try_orders();
     try_states();
     try_lost();

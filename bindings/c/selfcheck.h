@@ -212,6 +212,13 @@ SELFCHECK_EXPORT uint32_t selfcheck_model_tell(struct selfcheck_slot *check, uin
 SELFCHECK_EXPORT uint32_t selfcheck_model_order(struct selfcheck_slot *check,
     struct selfcheck_placed *order, size_t room, size_t *written);
 
+/* Writes the evidence of the check into the buffer, which has room for so many bytes, and its length into `written`: the
+ * text of the history's book and of what was told of the model, which selfcheck-judge-model judges without the model.
+ * NO_ROOM where it is longer: `written` says how long. UNFIT where the slot has no check. But for DONE the buffer is as it
+ * was. DONE, NO_MEMORY, NO_ROOM or UNFIT. */
+SELFCHECK_EXPORT uint32_t selfcheck_model_evidence(struct selfcheck_slot *check, uint8_t *buffer,
+    size_t room, size_t *written);
+
 /* Lets the slot's handle go; an announced call stays unanswered. The slot is then empty. A table's memory is freed with
  * the last of its slots. DONE, or UNFIT where it was empty. */
 SELFCHECK_EXPORT uint32_t selfcheck_drop(struct selfcheck_slot *slot);
@@ -348,6 +355,11 @@ static inline uint32_t selfcheck_model_order_inline(struct selfcheck_slot *check
     return selfcheck_model_order(check, room == 0 ? &none : order, room, written);
 }
 
+static inline uint32_t selfcheck_model_evidence_inline(struct selfcheck_slot *check,
+    uint8_t *buffer, size_t room, size_t *written) {
+    return selfcheck_model_evidence(check, selfcheck_buffer(buffer, room), room, written);
+}
+
 /* A step of a schedule. Where C code is called from Rust or Python, and a hunt of the binding there runs it, the turn may
  * go to another thread at each `selfcheck_point()`: put one before each access to what threads share. C code between two
  * points is one step, so it mustn't wait for another thread without a point in the loop. In no hunt a point is one load
@@ -378,6 +390,7 @@ static inline void selfcheck_point_of(const char *file, int line) {
 #define selfcheck_open selfcheck_open_inline
 #define selfcheck_witness selfcheck_witness_inline
 #define selfcheck_model_order selfcheck_model_order_inline
+#define selfcheck_model_evidence selfcheck_model_evidence_inline
 
 #ifdef __cplusplus
 }

@@ -3,7 +3,9 @@
 import asyncio
 import collections
 import itertools
+import os
 import random
+import subprocess
 import threading
 import unittest
 import unittest.mock
@@ -184,6 +186,34 @@ class Verdicts(unittest.TestCase):
                 if not hasattr(model, "key"):
                     self.check_order(model, calls, verdict.order)
             self.assertGreaterEqual(min(counts[True], counts[False]), 50, (name, counts))
+
+    # Evidence, worked by hand: a queue of one place that gives what it never held. By the program that judges it without
+    # the model it has the verdict that came with it.
+    def test_evidence(self):
+        events = [("begin", 0, ("put", "a")), ("end", 0, True), ("begin", 1, ("take",)), ("end", 1, "b")]
+        [found] = selfcheck.model.evidence(models.BoundedQueue(1), events)
+        self.assertEqual((found.key, found.legal), (None, False))
+        steps = "0 op 0 1 =0\n1 op 1 0 =2\n"
+        calls = "".join(f"calls{' '.join(['', '1', '1'] + ['0'] * 14)}\n0 0 op 0 =0 view 0:1\n1 0 op 1 =1 view 0:1 1:1\n")
+        self.assertEqual(found.text, f"book 2\nobject model\ncallers 16\n{calls}end\nsteps 2\n{steps}end\n")
+        self.assertEqual(
+            found.names,
+            "op 0 ('put', 'a')\nop 1 ('take',)\nreply 0 True\nreply 1 'b'\nreply 2 'a'\nstate 0 ()\nstate 1 ('a',)\n",
+        )
+        self.assertEqual(selfcheck.model.evidence(models.BoundedQueue(1), events, steps=0), [])
+        program, counts = os.environ.get("SELFCHECK_JUDGE_MODEL"), collections.Counter()
+        for name, (model, ops) in OPS.items():
+            source = Random(name, Product(model) if hasattr(model, "key") else model, ops)
+            for _ in range(30):
+                events = source.events(6)
+                shown, verdict = selfcheck.model.evidence(model, events), selfcheck.judge(model, events)
+                self.assertIs(all(it.legal for it in shown), verdict.legal, events)
+                self.assertLessEqual({it.key for it in shown}, set(verdict.keys) or {None})
+                for it in shown if program else []:
+                    ran = subprocess.run([program], input=it.text, capture_output=True, text=True)
+                    self.assertEqual((ran.stdout, ran.returncode), (["illegal\n", "legal\n"][it.legal], 1 - it.legal), it)
+                counts[verdict.legal] += 1
+        self.assertGreaterEqual(min(counts[True], counts[False]), 20, counts)
 
     def check_order(self, model, calls, order):
         if order is None:

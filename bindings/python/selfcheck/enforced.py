@@ -59,11 +59,12 @@ def _filled(handle, status, lack):
     return handle
 
 
-def _witness(handle):
+def _text_of(handle, export):
+    """The text that an export writes of a slot; None for want of memory."""
     written, room = ctypes.c_size_t(), 1024
     while True:
         buffer = ctypes.create_string_buffer(room)
-        status = _library.selfcheck_witness(handle.slot, buffer, room, written)
+        status = export(handle.slot, buffer, room, written)
         if status != _NO_ROOM:
             return buffer.raw[: written.value].decode() if status == _DONE else None
         room = written.value
@@ -193,7 +194,7 @@ class EnforcedCaller:
             pass
         status = _library.selfcheck_answered(handle.slot, _reply_word(operation.reply(value)))
         if status == _ILLEGAL:
-            raise Illegal(_witness(handle), value)
+            raise Illegal(_text_of(handle, _library.selfcheck_witness), value)
         _filled(handle, status, AssertionError)
         self._handle = handle
         return value

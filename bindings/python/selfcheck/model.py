@@ -38,7 +38,7 @@ import ctypes
 from typing import Any, NamedTuple, Optional
 
 from . import _ILLEGAL, _LEGAL, _NO_MEMORY, Incomplete, _library
-from .enforced import _DONE, _SLOT, _Handle, _filled
+from .enforced import _DONE, _SLOT, _Handle, _filled, _text_of
 from .history import MAX_CALLERS, MAX_CALLS, pages_of
 
 _ASK, _PAUSED, _CONTRADICTS, _LEAVES_NOT = 10, 11, 12, 13
@@ -94,6 +94,18 @@ class Verdict(NamedTuple):
     keys: dict
 
 
+class Evidence(NamedTuple):
+    """The calls with one key, and what the model does at the steps that the verdict needs, as a text, which
+    `selfcheck-judge-model` judges without the model. `legal` is the verdict on these calls. Operations, replies and states
+    are numbers in the text; `names` says what they stand for, in lines of `op`, `reply` or `state`, a number, and its value.
+    """
+
+    key: Any
+    legal: bool
+    text: str
+    names: str
+
+
 class WithOutput:
     """A model of one whose step sees the output, as Porcupine's and Knossos': its `step(state, op, output)` gives whether
     the operation may have this output at this state, and the next state. Of an unanswered call the output is `unanswered`.
@@ -144,7 +156,29 @@ def judge(model, events, steps=None, recheck=False):
     begins while the caller's last one hasn't ended, where none has begun that ends, and where there are more than 16
     callers, or more than 256 calls of a caller with one key.
     """
-    as_model(model)
+    parts = _parts(as_model(model), events)
+    verdicts = {key: _judged(model, part, 0, steps, recheck) for key, part in parts.items()}
+    return _whole(verdicts, 0) if hasattr(model, "key") else verdicts[None]
+
+
+def evidence(model, events, steps=None):
+    """What shows the verdict on a history, as `judge` has it, to whoever doesn't have the model: the `Evidence` of the calls
+    with a key that have no legal order, or of those with each key where all have one. Where the steps were used up before a
+    verdict was known there is none. The list has one element where the model has no keys."""
+    shown = []
+    for key, part in _parts(as_model(model), events).items():
+        check, legal = _decided(model, part, steps)
+        if legal is None:
+            return []
+        found = Evidence(key, legal, check.evidence(), check.names())
+        if not legal:
+            return [found]
+        shown.append(found)
+    return shown
+
+
+def _parts(model, events):
+    """The events of the calls with each key."""
     key_of = getattr(model, "key", None)
     begun, parts = {}, {} if key_of else {None: []}
     for what, caller, value in events:
@@ -154,8 +188,7 @@ def judge(model, events, steps=None, recheck=False):
             begun[caller] = key_of(value) if key_of else None
         key = begun[caller] if what == "begin" else begun.pop(caller)
         parts.setdefault(key, []).append((what, caller, value))
-    verdicts = {key: _judged(model, part, 0, steps, recheck) for key, part in parts.items()}
-    return _whole(verdicts, 0) if key_of else verdicts[None]
+    return parts
 
 
 def verdict_of(model, calls, own, beyond, steps, prefix, recheck):
@@ -197,7 +230,8 @@ def _whole(verdicts, left_out):
     return Verdict(False if False in said else None if None in said else True, None, kept, left_out, asked, verdicts)
 
 
-def _judged(model, events, left_out, steps, recheck):
+def _decided(model, events, steps):
+    """A check of events, and whether they have a legal order."""
     if steps is not None and not 0 <= steps < _ALL_STEPS:
         raise ValueError(f"{steps} is no number of steps below 2^64 - 1")
     if isinstance(model, WithOutput):
@@ -205,7 +239,11 @@ def _judged(model, events, left_out, steps, recheck):
     check = _Check(model)
     for what, caller, value in events:
         check.begin(caller, value) if what == "begin" else check.end(caller, value)
-    legal = check.decide(_ALL_STEPS if steps is None else steps)
+    return check, check.decide(_ALL_STEPS if steps is None else steps)
+
+
+def _judged(model, events, left_out, steps, recheck):
+    check, legal = _decided(model, events, steps)
     if recheck:
         check.again()
     order = check.order() if legal else None
@@ -230,6 +268,7 @@ for _name, _arguments in [
     ("selfcheck_model_leaves", [_SLOT, _NUMBER, _NUMBER]),
     ("selfcheck_model_next", [_SLOT, ctypes.c_uint64, ctypes.POINTER(_Question)]),
     ("selfcheck_model_tell", [_SLOT, _NUMBER, _NUMBER, _NUMBER, _NUMBER]),
+    ("selfcheck_model_evidence", [_SLOT, ctypes.c_char_p, ctypes.c_size_t, ctypes.POINTER(ctypes.c_size_t)]),
     ("selfcheck_model_order", [_SLOT, ctypes.POINTER(_PlacedCall), ctypes.c_size_t, ctypes.POINTER(ctypes.c_size_t)]),
 ]:
     getattr(_library, _name).restype = ctypes.c_uint32
@@ -317,6 +356,16 @@ class _Check:
             raise ContradictoryModel(None, None, first, again)
         for state, op in list(self.told):
             self.ask(state, op)
+
+    def evidence(self):
+        text = _text_of(self.handle, _library.selfcheck_model_evidence)
+        if text is None:
+            raise MemoryError
+        return text
+
+    def names(self):
+        numbers = ("op", self.ops), ("reply", self.replies), ("state", self.states)
+        return "".join(f"{what} {n} {it!r}\n" for what, values in numbers for n, it in enumerate(values.all))
 
     def order(self):
         count = sum(map(len, self.calls))

@@ -107,6 +107,12 @@ unsafe extern "C" {
         room: usize,
         written: &mut usize,
     ) -> u32;
+    fn selfcheck_model_evidence(
+        slot: &mut Slot,
+        buffer: *mut u8,
+        room: usize,
+        written: &mut usize,
+    ) -> u32;
 }
 
 const LEGAL: u32 = 0;
@@ -357,7 +363,7 @@ const _: [unsafe extern "C" fn(&mut Slot, &mut Slot) -> u32; 2] =
     [selfcheck_caller, selfcheck_monitor];
 const _: unsafe extern "C" fn(&mut Slot, u64, u64) -> u32 = selfcheck_announce;
 const _: [unsafe extern "C" fn(&mut Slot, u64) -> u32; 2] = [selfcheck_answered, selfcheck_publish];
-const _: unsafe extern "C" fn(&mut Slot, *mut u8, usize, &mut usize) -> u32 = selfcheck_witness;
+const _: [WritesText; 2] = [selfcheck_witness, selfcheck_model_evidence];
 
 const _: unsafe extern "C" fn(u32, &mut Slot) -> u32 = selfcheck_model_open;
 const _: [unsafe extern "C" fn(&mut Slot, u32, u32) -> u32; 3] = [
@@ -546,27 +552,32 @@ impl Watching {
     }
 }
 
+// An export that writes a text of what a slot has.
+type WritesText = unsafe extern "C" fn(&mut Slot, *mut u8, usize, &mut usize) -> u32;
+
+// The text that is written of the slot; none for want of memory.
+fn text_of(slot: &mut Slot, export: WritesText) -> Option<String> {
+    let mut buffer = vec![0; 1024];
+    loop {
+        let mut written = 0;
+        // SAFETY: nothing else has the slot; the pointer and the length are those of a buffer of this function's own, as
+        // the count is, and none overlaps another.
+        match unsafe { export(slot, buffer.as_mut_ptr(), buffer.len(), &mut written) } {
+            DONE => {
+                buffer.truncate(written);
+                return Some(String::from_utf8(buffer).expect("a text is ASCII"));
+            }
+            NO_ROOM => buffer.resize(written, 0),
+            NO_MEMORY => return None,
+            status => no_such_status(status),
+        }
+    }
+}
+
 impl Wrong {
     /// The text of the book of the error; none for want of memory.
     pub(crate) fn witness(&mut self) -> Option<String> {
-        let mut buffer = vec![0; 1024];
-        loop {
-            let mut written = 0;
-            // SAFETY: the slot is this value's own; the pointer and the length are those of a buffer of this function's
-            // own, as the count is, and none overlaps another.
-            let status = unsafe {
-                selfcheck_witness(&mut self.0, buffer.as_mut_ptr(), buffer.len(), &mut written)
-            };
-            match status {
-                DONE => {
-                    buffer.truncate(written);
-                    return Some(String::from_utf8(buffer).expect("a book is ASCII"));
-                }
-                NO_ROOM => buffer.resize(written, 0),
-                NO_MEMORY => return None,
-                status => no_such_status(status),
-            }
-        }
+        text_of(&mut self.0, selfcheck_witness)
     }
 }
 
@@ -669,6 +680,11 @@ impl ModelCheck {
         })?;
         order.truncate(written);
         Ok(order)
+    }
+
+    /// The text of the history's book and of what was told of the model.
+    pub(crate) fn evidence(&mut self) -> Result<String, ModelFault> {
+        text_of(&mut self.0, selfcheck_model_evidence).ok_or(ModelFault::NoMemory)
     }
 }
 

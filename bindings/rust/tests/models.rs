@@ -12,8 +12,8 @@ use ready::semaphore::{self, Semaphore};
 use ready::store::{self, Store};
 use selfcheck::hunt::Found;
 use selfcheck::model::{
-    ByReply, Draw, HistoryOf, ModelError, ModelVerdict, Placed, Relation, Runs, hunt, recheck,
-    replay, verify, verify_within,
+    ByReply, Draw, HistoryOf, ModelError, ModelVerdict, Placed, Relation, Runs, evidence, hunt,
+    recheck, replay, verify, verify_within,
 };
 use selfcheck::schedule::{Ending, sync::Mutex as TurnMutex};
 use selfcheck::{Model, Queue, QueueOp, Recorded, Recorder, Reply, Verdict};
@@ -642,4 +642,35 @@ fn a_hunt_finds_what_is_wrong_by_its_seed() {
         panic!("{finding}")
     };
     assert_eq!(panic.message(), "no such place");
+}
+
+/// A queue with one place gives what it never held. Its evidence is worked by hand.
+#[test]
+fn evidence_has_the_calls_and_the_steps() {
+    use bounded_queue::{Op, Reply};
+    let model = BoundedQueue { places: 1 };
+    let calls = |taken| {
+        in_turn::<BoundedQueue>([
+            (Op::Put(7), Reply::IsPut(true)),
+            (Op::Take, Reply::Taken(Some(taken))),
+        ])
+    };
+    let shown = evidence(&model, &calls(8), None).unwrap();
+    let [found] = &shown[..] else {
+        panic!("{shown:?}")
+    };
+    assert_eq!((&found.key, found.is_legal), (&None, false));
+    assert_eq!(
+        found.text,
+        "book 2\nobject model\ncallers 1\ncalls 2\n0 0 op 0 =0 view 0:1\n0 1 op 1 =1 view 0:2\nend\n\
+         steps 2\n0 op 0 1 =0\n1 op 1 0 =2\nend\n"
+    );
+    assert_eq!(
+        found.names,
+        "op 0 Put(7)\nop 1 Take\nreply 0 IsPut(true)\nreply 1 Taken(Some(8))\n\
+         reply 2 Taken(Some(7))\nstate 0 []\nstate 1 [7]\n"
+    );
+    let legal = evidence(&model, &calls(7), None).unwrap();
+    assert!(legal.iter().all(|it| it.is_legal) && legal.len() == 1);
+    assert!(evidence(&model, &calls(7), Some(0)).unwrap().is_empty());
 }

@@ -29,7 +29,7 @@ pub use calls::{announce, answered, close, judge, publish, witness};
 pub use handle::Handle;
 pub use held::Held;
 pub use kept::KeptByHandle;
-pub use models::{model_order, open_model, serve};
+pub use models::{model_evidence, model_order, open_model, serve};
 pub use monitor_handle::MonitorHandle;
 pub use opening::{give, open};
 pub use role::CallerRole;

@@ -1,7 +1,7 @@
 ghost use Rattle.std.specs.Prelude.{◌≡◌, ◌↔◌, ◌≤◌, ◌<◌, IsTrue, IsSome, IfSome, IfNone, IfOk, IfErr, Some, None, is_some};
 ghost use Rattle.std.specs.List.{AllByRecursion};
 ghost use Rattle.book_base.specs.declared.TheConstants.{MAX_CALLERS, MAX_CALLS};
-ghost use Rattle.model_checks.specs.Checks.{IsOrderOf, HasOrder};
+ghost use Rattle.model_checks.specs.Checks.{IsOrderOf, HasOrder, IsEvidenceOf};
 ghost use Rattle.call_handles.specs.Handles.{IsSound};
 ghost use Rattle.call_handles.specs.Slots.{handle_in, IsModels, IsOpenedModel, HasServed};
 
@@ -136,4 +136,49 @@ pub fn model_order(alloc: Global, slot: &mut Slot) -> Result<Option<Vec<Call>>, 
         return Ok(None);
     }
     replace_with(slot, alloc, order_in)
+}
+
+// The evidence of a model's check, where the handle is one.
+fn evidence_of(handle: &Handle, alloc: Global) -> Result<Option<Vec<u8>>, NoMemory>
+    requires sound { IsSound handle.now }
+    ensures when { IfOk result
+        (λ found. IsSome found ↔ IsModels (λ _. Unit {0}) (Some handle.now)) }
+    ensures evidence { IfOk result (λ found. IfSome found (λ bytes.
+        IsModels (IsEvidenceOf bytes.items) (Some handle.now))) }
+{
+    match handle {
+        Handle::Model(check) => Ok(Some(check.evidence(alloc)?)),
+        _ => Ok(None),
+    }
+}
+
+fn evidence_in(slot: Slot, alloc: Global) -> (Slot, Result<Option<Vec<u8>>, NoMemory>)
+    requires taken { IsTrue (is_some (handle_in slot)) }
+    ensures when { IfOk result.1
+        (λ found. IsSome found ↔ IsModels (λ _. Unit {0}) (handle_in slot)) }
+    ensures evidence { IfOk result.1 (λ found. IfSome found (λ bytes.
+        IsModels (IsEvidenceOf bytes.items) (handle_in slot))) }
+    ensures unchanged { handle_in result.0 ≡ handle_in slot }
+{
+    let (handle, _) = slot.take(alloc);
+    let found = evidence_of(&handle, alloc);
+    (Slot::of(handle), found)
+}
+
+/// The evidence of the model's check in the slot: the text of its history's book and of what was
+/// told of the model.
+pub fn model_evidence(alloc: Global, slot: &mut Slot) -> Result<Option<Vec<u8>>, NoMemory>
+    // There is a text exactly where the slot has a model's check.
+    ensures when { IfOk result
+        (λ found. IsSome found ↔ IsModels (λ _. Unit {0}) (handle_in slot.old)) }
+    // The text has the check's book, and tells what was told, and nothing else.
+    ensures evidence { IfOk result (λ found. IfSome found (λ bytes.
+        IsModels (IsEvidenceOf bytes.items) (handle_in slot.old))) }
+    // The handle is as it was.
+    ensures unchanged { handle_in slot.new ≡ handle_in slot.old }
+{
+    if !slot.is_taken() {
+        return Ok(None);
+    }
+    replace_with(slot, alloc, evidence_in)
 }

@@ -17,9 +17,9 @@ use Rattle.told_models.specs.Agreement.{Agrees}
 use Rattle.told_models.specs.Completion.{completion}
 use Rattle.told_models.specs.Answers.{IsRightAnswer}
 use Rattle.told_models.proofs.Agreeing.{completions_agree, verdicts_stand}
-use Rattle.told_search.specs.declared.told_search.ToldSearch.{ToldSearch}
-use Rattle.told_search.specs.Searching.{IsSearch}
-use Rattle.told_search.proofs.Walks.{searches_stay}
+use Rattle.told_models.specs.declared.told_search.ToldSearch.{ToldSearch}
+use Rattle.told_models.specs.Searching.{IsSearch}
+use Rattle.told_models.proofs.Walks.{searches_stay}
 use Rattle.model_checks.specs.declared.check.ModelCheck.{ModelCheck}
 use Rattle.model_checks.specs.History.{Begins, Ends, MayBegin, MayEnd, book_with}
 use Rattle.model_checks.specs.Checks.{AreNumbered, AreSmall, IsSoundCheck}

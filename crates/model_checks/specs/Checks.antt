@@ -10,9 +10,12 @@ use Rattle.told_models.specs.declared.answer.Answer.TheVariants as told
 use Rattle.told_models.specs.Table.{Table, told_step}
 use Rattle.told_models.specs.Closed.{IsWordOf}
 use Rattle.told_models.specs.Answers.{IsRightAnswer}
-use Rattle.told_search.specs.declared.told_search.ToldSearch.{ToldSearch}
-use Rattle.told_search.specs.Searching.{IsSearch}
-use Rattle.told_search.specs.Weighing.{weight_of, most_weight}
+use Rattle.told_models.specs.declared.told_search.ToldSearch.{ToldSearch}
+use Rattle.told_models.specs.Searching.{IsSearch}
+use Rattle.told_models.specs.Weighing.{weight_of, most_weight}
+use Rattle.model_text.specs.declared.told_line.ToldLine.{ToldLine}
+use Rattle.model_text.specs.Told.{TellsAlike, told_table}
+use Rattle.model_text.specs.ModelRules.{IsModelText}
 use Rattle.model_checks.specs.Words.{operation_word, IsNumbered}
 use Rattle.model_checks.specs.declared.check.ModelCheck.{ModelCheck}
 use Rattle.model_checks.specs.declared.answer.ModelAnswer.{ModelAnswer}
@@ -59,6 +62,13 @@ HasOrder check = IsSome check.order
 abbrev pub IsOrderOf : List Call → ModelCheck → Type 0
 IsOrderOf calls check = (order : Vec Place Global) × (check.order ≡ Some order)
     × IsRightAnswer check.table check.book (told.Legal order) × (calls ≡ map call_at order.items)
+
+-- The bytes are the evidence of a check: a model's text that has the check's book, and lines that
+-- tell what was told, and nothing else.
+pub record IsEvidenceOf (bytes : List ℕ) (check : ModelCheck) : Type 0 where
+  pub lines : List ToldLine
+  pub text : IsModelText bytes check.book lines
+  pub alike : TellsAlike (told_table lines) check.table
 
 -- The number for how much a check has left to try: that of its search, or the most that a search of
 -- its book begins with.

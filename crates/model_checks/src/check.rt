@@ -5,21 +5,21 @@ ghost use Rattle.book_base.specs.Order.{call_at};
 ghost use Rattle.book_base.specs.Book.{IsValid, calls_of, answers_of, announced, with_answer};
 ghost use Rattle.seq_objects.specs.Replies.{reply_value};
 ghost use Rattle.told_models.specs.Table.{TellsStep, TakesPromise, IsTellFault, IsPromiseFault};
-ghost use Rattle.told_search.specs.Searching.{IsSearch};
-ghost use Rattle.told_search.specs.Weighing.{weight_of};
+ghost use Rattle.told_models.specs.Searching.{IsSearch};
+ghost use Rattle.told_models.specs.Weighing.{weight_of};
 ghost use Rattle.model_checks.specs.declared.answer.ModelAnswer.{ModelAnswer};
 ghost use Rattle.model_checks.specs.Words.{operation_word};
 ghost use Rattle.model_checks.specs.History.{Event, Begins, Ends, MayBegin, MayEnd, book_with, book_without_calls};
-ghost use Rattle.model_checks.specs.Checks.{IsSoundCheck, IsRightFor, HasOrder, IsOrderOf, left_by, HasTried};
+ghost use Rattle.model_checks.specs.Checks.{IsSoundCheck, IsRightFor, HasOrder, IsOrderOf, IsEvidenceOf, left_by, HasTried};
 
 use crate::answer::ModelAnswer;
 use crate::words::{operation_number, operation_word};
 use book_base::{Book, Call, MAX_CALLS, NoMemory, Place};
+use model_text::{lines_of, write_model};
 use seq_objects::wrapping_value_reply;
 use sketch::announced;
 use std::alloc::Global;
-use told_models::{Answer, PromiseFault, TellFault, ToldTable, Transition};
-use told_search::ToldSearch;
+use told_models::{Answer, PromiseFault, TellFault, ToldSearch, ToldTable, Transition};
 
 /// A check of a history by a model whose steps are asked for.
 ///
@@ -232,6 +232,17 @@ impl ModelCheck {
             Some(order) => Ok(Some(calls_of_places(alloc, order)?)),
             None => Ok(None),
         }
+    }
+
+    /// The evidence of the check: the text of the history's book and of what was told of the model.
+    /// Whoever has it judges the book without the model.
+    pub fn evidence(&self, alloc: Global) -> Result<Vec<u8>, NoMemory>
+        // The check is sound.
+        requires sound { IsSoundCheck self.now }
+        // The text has the check's book, and tells what was told, and nothing else.
+        ensures evidence { IfOk result (λ bytes. IsEvidenceOf bytes.items self.now) }
+    {
+        write_model(alloc, &self.book, &lines_of(alloc, &self.table)?)
     }
 
     // Whether a call of a caller may begin.

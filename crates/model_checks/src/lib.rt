@@ -13,3 +13,4 @@ mod words;
 pub use answer::ModelAnswer;
 pub use check::ModelCheck;
 pub use request::{ModelReply, ModelRequest, ModelStep};
+pub use words::{operation_number, operation_word};

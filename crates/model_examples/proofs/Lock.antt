@@ -10,7 +10,6 @@ use Rattle.told_models.specs.Table.{is_same_pair, Extends, TellsStep}
 use Rattle.told_models.specs.Agreement.{Agrees}
 use Rattle.told_models.specs.Completion.{completion}
 use Rattle.told_models.specs.Closed.{IsClosedTo, IsWordOf}
-use Rattle.told_models.specs.Dialogue.{IsDialogue}
 use Rattle.told_models.specs.Answers.{IsRightAnswer}
 use Rattle.told_models.specs.Search.{LeadsInto, AreExpanded}
 use Rattle.told_models.proofs.Telling.{tells_step, extends-tells}
@@ -34,10 +33,6 @@ apart_back a b apart = elim (cases_Bool (is_same_pair b a)) [
       (eq-eqb a.1 b.1 (sym (eqb-true b.1 a.1 parts.1)))) ∙ apart))
 ]
 
-first_tells : TellsStep nothing_told acquired 0 1 (to 1 1)
-first_tells = tells_step nothing_told acquired 0 1 (to 1 1) refl refl refl
-    (λ q apart. ap (λ (b : Bool). cond b (Some (to 1 1)) None) (apart_back (0, 1) q apart))
-
 second_tells : TellsStep acquired refused 1 1 (to 1 0)
 second_tells = tells_step acquired refused 1 1 (to 1 0) refl refl refl
     (λ q apart. ap (λ (b : Bool). cond (is_same_pair q (0, 1)) (Some (to 1 1))
@@ -58,29 +53,12 @@ second_ask = record {
   };
 }
 
-pub lock_dialogue : IsDialogue (λ table state op. IsRightAnswer table (two_calls 1 1 1 0)
-    (Ask state op)) nothing_told (acquired ∷ refused ∷ [])
-lock_dialogue = (
-  0,
-  1,
-  to 1 1,
-  record {
-    untold = refl;
-    word = first_word;
-    near = record { steps = []; few = omega arith; words = tt; reached = refl };
-  },
-  extends-tells nothing_told acquired 0 1 (to 1 1) refl first_tells,
-  refl,
-  (
-    1,
-    1,
-    to 1 0,
-    second_ask,
-    lock_extends,
-    refl,
-    tt,
-  ),
-)
+pub first_ask : IsRightAnswer nothing_told (two_calls 1 1 1 0) (Ask 0 1)
+first_ask = record {
+  untold = refl;
+  word = first_word;
+  near = record { steps = []; few = omega arith; words = tt; reached = refl };
+}
 
 -- the step of the one word leads from each state into both
 lock_leads : (state op : ℕ) → Contains (0 ∷ 1 ∷ []) state → Contains (1 ∷ []) op

@@ -13,7 +13,7 @@ ghost use Rattle.told_models.specs.Table.{Extends, IsTellFault};
 ghost use Rattle.told_models.specs.Agreement.{Agrees};
 ghost use Rattle.told_models.specs.Completion.{completion};
 ghost use Rattle.told_models.specs.Closed.{IsClosedTo, IsWordOf};
-ghost use Rattle.told_models.specs.Dialogue.{IsDialogue, word_lists};
+ghost use Rattle.told_models.specs.Dialogue.{word_lists};
 ghost use Rattle.told_models.specs.Answers.{IsRightAnswer};
 ghost use Rattle.locality.specs.Locality.{IsProduct, IsPartOfKey};
 ghost use Rattle.model_examples.specs.Locks.{nothing_told, acquired, refused, twice, other_lock, two_calls, two_places, to};
@@ -23,10 +23,8 @@ ghost use Rattle.model_examples.specs.OpenCalls.{crossed_calls, crossed_names, c
 /// A lock whose operation 1 acquires it: at the free state 0 the reply is 1, and at the held state
 /// 1 it is 0. Both steps are asked for, and then the table is closed.
 pub fn a_lock_is_told_step_by_step()
-    // The two steps are told in a dialogue about the book.
-    ensures dialogue { IsDialogue (λ table state op.
-        IsRightAnswer table (two_calls 1 1 1 0) (Ask state op)) nothing_told
-        (acquired ∷ refused ∷ []) }
+    // Before anything is told, the step at the free state is asked for.
+    ensures first { IsRightAnswer nothing_told (two_calls 1 1 1 0) (Ask 0 1) }
     // The bound allows two asks.
     ensures bound { word_lists 1 2 ≡ 2 }
     // After the first step another one at the free state contradicts it.

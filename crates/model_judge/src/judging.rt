@@ -7,8 +7,7 @@ ghost use Rattle.model_judge.specs.Verdicts.{IsModelVerdict};
 use book_base::{Book, NoMemory, OpWord, ReadFault};
 use model_text::{read_model, table_of};
 use std::alloc::Global;
-use told_models::{Answer, ToldTable};
-use told_search::ToldSearch;
+use told_models::{Answer, ToldSearch, ToldTable};
 
 /// What is said of the book of a model's text, by the steps in the text.
 #[derive(Clone, Copy, Debug, PartialEq, Eq)]

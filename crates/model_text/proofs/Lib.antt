@@ -14,3 +14,4 @@ pub mod FaultTexts
 pub mod BookLines
 pub mod ToldTexts
 pub mod Tables
+pub mod Listing

@@ -39,7 +39,7 @@ AllBefore told line = AllByRecursion (λ other. comes_before other line ≡ true
 abbrev pub IsRising : List ToldLine → Type 0
 IsRising told = (line : ToldLine) → rises_after told line ≡ true → AllBefore told line
 
-last-push : (told : List ToldLine) (line : ToldLine)
+pub last-push : (told : List ToldLine) (line : ToldLine)
     → slice_get (told ++ line ∷ []) (length (told ++ line ∷ []) - 1) ≡ Some line
 last-push told line =
     let size : length (told ++ line ∷ []) - 1 ≡ length told =

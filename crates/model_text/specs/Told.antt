@@ -80,6 +80,17 @@ told_table told = record {
   promises = flat_map (λ line. promise_by line.subject line.reply) told;
 }
 
+-- the line of a promise: an operation and a reply
+abbrev pub promise_line : ℕ × ℕ → ToldLine
+promise_line promise = record { subject = Leaves promise.0; reply = promise.1 }
+
+-- the line of a step: a state and an operation, and the transition there
+abbrev pub step_line : (ℕ × ℕ) × Transition → ToldLine
+step_line step = record {
+  subject = Step step.0.0 step.0.1 step.1.next;
+  reply = step.1.reply;
+}
+
 -- Two tables tell the same: the same initial state, steps and promises.
 pub record TellsAlike (a b : Table) : Type 0 where
   pub init : a.init ≡ b.init

@@ -40,7 +40,7 @@ pub fn write_model(alloc: Global, book: &Book, told: &[ToldLine]) -> Result<Vec<
 }
 
 /// The text of a model's book.
-fn write_book(alloc: Global, book: &Book) -> Result<Vec<u8>, NoMemory>
+pub fn write_book(alloc: Global, book: &Book) -> Result<Vec<u8>, NoMemory>
     ensures { IfOk result (λ bytes. IsWrittenBook bytes.items book.now) }
 {
     let mut out = Vec::new(alloc);

@@ -8,8 +8,7 @@ use book_base::{Book, NoMemory};
 use frontier_check::Verdict;
 use indexmap::IndexSet;
 use std::alloc::Global;
-use told_models::{Answer, ToldTable};
-use told_search::ToldSearch;
+use told_models::{Answer, ToldSearch, ToldTable};
 
 /// Judges a book by an object of one's own.
 ///

@@ -1,21 +1,22 @@
-ghost use Rattle.std.specs.Prelude.{◌≡◌, ◌↔◌, ◌⊎◌, ◌<◌, ◌≤◌, List, None, drop, length, map, take};
+ghost use Rattle.std.specs.Prelude.{◌≡◌, ◌↔◌, ◌⊎◌, ◌<◌, ◌≤◌, ℕ, List, None, drop, length, map, take};
 ghost use Rattle.book_base.specs.declared.TheConstants.{MAX_CALLERS};
 ghost use Rattle.book_base.specs.declared.call.Call.{Call};
 ghost use Rattle.model_checks.specs.declared.answer.ModelAnswer.{ModelAnswer};
 ghost use Rattle.model_checks.specs.declared.request.ModelReply.{ModelReply};
 ghost use Rattle.model_checks.specs.declared.request.ModelRequest.{ModelRequest};
 ghost use Rattle.model_checks.specs.History.{MayBegin, MayEnd};
-ghost use Rattle.model_checks.specs.Checks.{HasOrder, IsOrderOf};
+ghost use Rattle.model_checks.specs.Checks.{HasOrder, IsOrderOf, IsEvidenceOf};
 ghost use Rattle.call_handles.specs.Slots.{handle_in, IsModels, IsOpenedModel, HasServed};
 ghost use Rattle.selfcheck_c.specs.declared.TheConstants.{LEGAL, ILLEGAL, NO_MEMORY, NO_ROOM};
 ghost use Rattle.selfcheck_c.specs.declared.handles.TheConstants.{DONE, UNFIT};
 ghost use Rattle.selfcheck_c.specs.Models.{named_call};
 
+use crate::buffer::put;
 use crate::handles::{DONE, UNFIT};
 use crate::placed::{PlacedCall, put_calls};
 use crate::{ILLEGAL, LEGAL, NO_MEMORY, NO_ROOM};
 use book_base::NoMemory;
-use call_handles::{Slot, model_order, open_model, serve};
+use call_handles::{Slot, model_evidence, model_order, open_model, serve};
 use model_checks::{ModelAnswer, ModelReply, ModelRequest, ModelStep};
 use std::alloc::Global;
 
@@ -285,6 +286,50 @@ pub extern "C" fn selfcheck_model_order(
             } else {
                 NO_ROOM
             }
+        }
+        Ok(None) => UNFIT,
+        Err(NoMemory) => NO_MEMORY,
+    }
+}
+
+/// Writes into a buffer the evidence of the check: the text of its history's book and of what was
+/// told of the model, which is judged without the model. `written` is the text's length, even where
+/// the buffer can't hold the text and nothing is written.
+#[unsafe(no_mangle)]
+pub extern "C" fn selfcheck_model_evidence(
+    alloc: Global,
+    slot: &mut Slot,
+    buffer: &mut [u8],
+    written: &mut usize,
+) -> u32
+    // With `DONE` the text fits the buffer.
+    ensures held { result ≡ DONE → written.new ≤ length buffer.new }
+    // With `DONE` the first `written` bytes of the buffer are a text that has the history's book,
+    // and tells what was told of the model, and nothing else.
+    ensures evidence { result ≡ DONE → IsModels (IsEvidenceOf (take written.new buffer.new))
+        (handle_in slot.old) }
+    // With `DONE` the bytes of the buffer after the first `written` are as they were.
+    ensures rest { result ≡ DONE → drop written.new buffer.new ≡ drop written.new buffer.old }
+    // With `NO_ROOM` the count `written` is greater than the length of the buffer.
+    ensures no_room { result ≡ NO_ROOM → length buffer.old < written.new }
+    // With `NO_ROOM` there is such a text, `written` bytes long.
+    ensures unheld { result ≡ NO_ROOM → (wanted : List ℕ)
+        × IsModels (IsEvidenceOf wanted) (handle_in slot.old) × (length wanted ≡ written.new) }
+    // With `UNFIT` the slot has no check of a model.
+    ensures unfit { result ≡ UNFIT → ¬ IsModels (λ _. Unit {0}) (handle_in slot.old) }
+    // With each status but `DONE` the buffer is as it was.
+    ensures unwritten { ¬ (result ≡ DONE) → buffer.new ≡ buffer.old }
+    // With each status but `DONE` and `NO_ROOM` the count `written` is as it was.
+    ensures uncounted { ¬ (result ≡ DONE) → ¬ (result ≡ NO_ROOM) → written.new ≡ written.old }
+    // The slot's handle is as it was.
+    ensures kept { handle_in slot.new ≡ handle_in slot.old }
+    // The status is `DONE`, `NO_MEMORY`, `NO_ROOM` or `UNFIT`.
+    ensures ends { (result ≡ DONE) ⊎ (result ≡ NO_MEMORY) ⊎ (result ≡ NO_ROOM) ⊎ (result ≡ UNFIT) }
+{
+    match model_evidence(alloc, slot) {
+        Ok(Some(text)) => {
+            *written = text.len();
+            if put(buffer, &text) { DONE } else { NO_ROOM }
         }
         Ok(None) => UNFIT,
         Err(NoMemory) => NO_MEMORY,

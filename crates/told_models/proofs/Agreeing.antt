@@ -141,30 +141,6 @@ legal_for_all table book ops keeps among closed order legal spec agrees =
     (closed_for_books table ops (number_of_calls book) book among (omega arith) closed)
     (completions_agree table keeps) agrees legal
 
--- at a closed table no object that agrees has a legal order where its completion has none
-pub legal_for_none : (table : Table) (book : List Page) (ops : List ℕ) → KeepsPromises table
-    → ((op : ℕ) → IsWordOf book op → Contains ops op)
-    → IsClosedTo table (Contains ops) (number_of_calls book)
-    → (HasLegalOrder (completion table) book → ⊥) → (spec : SeqSpec) → Agrees table spec
-    → HasLegalOrder spec book → ⊥
-legal_for_none table book ops keeps among closed none spec agrees has =
-    none (
-      has.0,
-      closed_tables_decide table book has.0 spec (completion table)
-          (closed_for_books table ops (number_of_calls book) book among (omega arith) closed)
-          agrees (completions_agree table keeps) has.1,
-    )
-
--- a pair that may be asked for by words of a book may be asked for at the book
-pub ask_of_book : (table : Table) (book : List Page) (ops : List ℕ) (most state op : ℕ)
-    → ((word : ℕ) → Contains ops word → IsWordOf book word)
-    → IsAsk table (Contains ops) most state op → IsAsk table (IsWordOf book) most state op
-ask_of_book table book ops most state op own ask = record {
-  untold = ask.untold;
-  word = own op ask.word;
-  near = near_among table (Contains ops) (IsWordOf book) most most state own (omega arith) ask.near;
-}
-
 pub answers_exclude : AnswersExclude
 answers_exclude table book order keeps legal illegal =
     illegal (completion table) (completions_agree table keeps)

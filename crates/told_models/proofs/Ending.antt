@@ -1,15 +1,12 @@
--- Dialogues end, whatever is told.
+-- Dialogues about a book end: each step that is told leaves less to tell.
 use Rattle.std.proofs.Common.{◌≡◌, ℕ, zero, suc, ◌+◌, ◌*◌, ◌<◌, ◌≤◌, List, [], ◌∷◌, length, sum_by, get_or, Contains, Option, None, Some, refl, sym, ap, subst, ◌∙◌, arith}
 use Rattle.std.specs.Option.{option_map_or}
 use Rattle.std.proofs.lemmas.List.Sums.{sum_by-cons}
 use Rattle.book_base.specs.Book.{Page}
-use Rattle.told_models.specs.declared.answer.Answer.TheVariants.{Ask}
 use Rattle.told_models.specs.declared.table.Transition.{Transition}
 use Rattle.told_models.specs.Table.{Table, told_step, Extends}
 use Rattle.told_models.specs.Closed.{Leads, HaveWords, IsWordOf, number_of_calls}
-use Rattle.told_models.specs.Dialogue.{IsDialogue, word_lists}
-use Rattle.told_models.specs.Answers.{IsRightAnswer}
-use Rattle.told_models.specs.Laws.{DialoguesEnd, FewStatesFewAsks}
+use Rattle.told_models.specs.Dialogue.{IsAsk, word_lists}
 use Rattle.told_models.proofs.Leading.{near_among}
 
 -- a sum is at most as many times a bound as it has numbers, where none is greater than the bound
@@ -159,105 +156,38 @@ left_at-less old new extends ops op among transition (suc most) from (step ∷ s
           leads.0.next steps to (omega arith) known.1 leads.3 untold told,
     ))
 
--- each table of a dialogue with a book has fewer left than the one before it
-dialogue-bounded : (book : List Page) (ops : List ℕ) (table : Table) (tables : List Table)
-    → ((op : ℕ) → IsWordOf book op → Contains ops op)
-    → IsDialogue (λ table state op. IsRightAnswer table book (Ask state op)) table tables
-    → length tables ≤ left_at table ops (number_of_calls book) table.init
-dialogue-bounded book ops table [] among dialogue = omega arith
-dialogue-bounded book ops table (next ∷ later) among dialogue =
+-- A number for how much of an object is left to tell by so many of some operation words.
+pub left_to_tell : List ℕ → ℕ → Table → ℕ
+left_to_tell ops most table = left_at table ops most table.init
+
+-- no more is left than there are lists of these words
+pub left_to_tell-bounded : (ops : List ℕ) (most : ℕ) (table : Table)
+    → left_to_tell ops most table ≤ word_lists (length ops) most
+unfolding left_to_tell
+left_to_tell-bounded ops most table = left_at-bounded table ops most table.init
+
+-- no more is left where more was told
+pub left_to_tell-falls : (ops : List ℕ) (most : ℕ) (old new : Table) → Extends old new
+    → left_to_tell ops most new ≤ left_to_tell ops most old
+unfolding left_to_tell
+left_to_tell-falls ops most old new extends =
+    let same : left_at new ops most new.init ≡ left_at new ops most old.init =
+    ap (left_at new ops most) extends.init in
+    omega (arith, same, left_at-falls old new extends ops most old.init)
+
+-- less is left where a step is told that was asked for
+pub left_to_tell-less : (book : List Page) (ops : List ℕ) (old new : Table) (state op : ℕ)
+    → ((word : ℕ) → IsWordOf book word → Contains ops word)
+    → IsAsk old (IsWordOf book) (number_of_calls book) state op → Extends old new
+    → (transition : Transition) → told_step new state op ≡ Some transition
+    → left_to_tell ops (number_of_calls book) new < left_to_tell ops (number_of_calls book) old
+unfolding left_to_tell
+left_to_tell-less book ops old new state op among ask extends transition told =
     let most = number_of_calls book in
-    let state = dialogue.0 in
-    let op = dialogue.1 in
-    let ask = dialogue.3 in
-    let near = near_among table (IsWordOf book) (Contains ops) most most state among (omega arith)
+    let near = near_among old (IsWordOf book) (Contains ops) most most state among (omega arith)
     ask.near in
-    let rest = dialogue-bounded book ops next later among dialogue.6 in
-    let same : left_at next ops most next.init ≡ left_at next ops most table.init =
-    ap (left_at next ops most) dialogue.4.init in
-    let less = left_at-less table next dialogue.4 ops op (among op ask.word) dialogue.2 most
-    table.init near.steps state near.few near.words near.reached ask.untold dialogue.5 in
-    omega (arith, rest, same, less)
-
-pub dialogues_end : DialoguesEnd
-dialogues_end book ops table tables among dialogue = omega (
-  arith,
-  dialogue-bounded book ops table tables among dialogue,
-  left_at-bounded table ops (number_of_calls book) table.init,
-)
-
--- a pair counts where its step is untold
-untold_pair : Table → ℕ → ℕ → ℕ
-untold_pair table state op = option_map_or (λ (t : Transition). 0) (told_step table state op) 1
-
--- how many of some operation words have an untold step at a state
-untold_words : Table → List ℕ → ℕ → ℕ
-untold_words table ops state = sum_by (untold_pair table state) ops
-
--- no pair counts more than once
-untold_pair-bounded : (table : Table) (state op : ℕ) → untold_pair table state op ≤ 1
-unfolding untold_pair
-untold_pair-bounded table state op = by (told_step table state op)
-  where
-    by : (step : Option Transition) → option_map_or (λ (t : Transition). 0) step 1 ≤ 1
-    by None = omega arith
-    by (Some t) = omega arith
-
--- a pair that counts after more was told counted before
-untold_pair-falls : (old new : Table) → Extends old new → (state op : ℕ)
-    → untold_pair new state op ≤ untold_pair old state op
-unfolding untold_pair
-untold_pair-falls old new extends state op =
-    by (told_step old state op) (told_step new state op) (extends.steps state op)
-  where
-    by : (was is : Option Transition) → ((t : Transition) → was ≡ Some t → is ≡ Some t)
-        → option_map_or (λ (t : Transition). 0) is 1 ≤ option_map_or (λ (t : Transition). 0) was 1
-    by (Some t) is kept =
-        subst (λ (o : Option Transition). option_map_or (λ (t : Transition). 0) o 1 ≤ 0)
-        (sym (kept t refl)) (omega arith)
-    by None None kept = omega arith
-    by None (Some t) kept = omega arith
-
-untold_words-falls : (old new : Table) → Extends old new → (ops : List ℕ) (state : ℕ)
-    → untold_words new ops state ≤ untold_words old ops state
-unfolding untold_words
-untold_words-falls old new extends ops state =
-    sum-at_most (untold_pair new state) (untold_pair old state)
-    (untold_pair-falls old new extends state) ops
-
--- each table of a dialogue has fewer untold pairs than the one before it
-pairs-bounded : (states ops : List ℕ) (table : Table) (tables : List Table)
-    → IsDialogue (λ table state op. (told_step table state op ≡ None) × Contains states state
-    × Contains ops op) table tables
-    → length tables ≤ sum_by (untold_words table ops) states
-unfolding untold_words untold_pair
-pairs-bounded states ops table [] dialogue = omega arith
-pairs-bounded states ops table (next ∷ later) dialogue =
-    let state = dialogue.0 in
-    let op = dialogue.1 in
-    let asked = dialogue.3 in
-    let was : untold_pair table state op ≡ 1 =
-    ap (λ (o : Option Transition). option_map_or (λ (t : Transition). 0) o 1) asked.0 in
-    let is : untold_pair next state op ≡ 0 =
-    ap (λ (o : Option Transition). option_map_or (λ (t : Transition). 0) o 1) dialogue.5 in
-    let here : untold_words next ops state < untold_words table ops state =
-    sum-less (untold_pair next state) (untold_pair table state)
-    (untold_pair-falls table next dialogue.4 state) ops op asked.2.0 asked.2.1 asked.2.2
-    (omega (arith, was, is)) in
-    let less = sum-less (untold_words next ops) (untold_words table ops)
-    (untold_words-falls table next dialogue.4 ops) states state asked.1.0 asked.1.1 asked.1.2
-    here in
-    omega (arith, less, pairs-bounded states ops next later dialogue.6)
-
-pub few_states_few_asks : FewStatesFewAsks
-unfolding untold_words
-few_states_few_asks states ops table tables dialogue =
-    let one : length ops * 1 ≡ length ops = grind arith in
-    let all = sum-bounded (untold_words table ops) (length ops)
-    (λ state. omega (
-      arith,
-      one,
-      sum-bounded (untold_pair table state) 1
-          (untold_pair-bounded table state) ops,
-    )) states in
-    omega (arith, all, pairs-bounded states ops table tables dialogue)
+    let same : left_at new ops most new.init ≡ left_at new ops most old.init =
+    ap (left_at new ops most) extends.init in
+    let less = left_at-less old new extends ops op (among op ask.word) transition most old.init
+    near.steps state near.few near.words near.reached ask.untold told in
+    omega (arith, same, less)

@@ -5,5 +5,11 @@ pub mod Counting
 pub mod Ending
 pub mod Telling
 pub mod Agreeing
-pub mod Words
 pub mod Stepping
+pub mod Frames
+pub mod Sooner
+pub mod Sufficing
+pub mod Weighing
+pub mod Walks
+pub mod Rounds
+pub mod Listing

@@ -1,16 +1,15 @@
 -- Laws of tables and of the objects that agree with them.
-use Rattle.std.specs.Prelude.{◌≡◌, ℕ, ◌*◌, ◌≤◌, List, length, Contains, None, Vec}
+use Rattle.std.specs.Prelude.{ℕ, ◌≤◌, List, Contains, Vec}
 use Rattle.std.specs.declared.alloc.Global.{Global}
 use Rattle.book_base.specs.declared.call.Place.{Place}
 use Rattle.book_base.specs.SeqSpec.{SeqSpec}
 use Rattle.book_base.specs.Book.{Page}
 use Rattle.book_base.specs.Order.{IsLegalOrder}
-use Rattle.told_models.specs.declared.answer.Answer.TheVariants.{Legal, Illegal, Ask}
-use Rattle.told_models.specs.Table.{Table, told_step, KeepsPromises, Extends}
+use Rattle.told_models.specs.declared.answer.Answer.TheVariants.{Legal, Illegal}
+use Rattle.told_models.specs.Table.{Table, KeepsPromises, Extends}
 use Rattle.told_models.specs.Agreement.{Agrees}
 use Rattle.told_models.specs.Completion.{completion}
 use Rattle.told_models.specs.Closed.{IsClosedTo, IsWordOf, number_of_calls}
-use Rattle.told_models.specs.Dialogue.{IsDialogue, word_lists}
 use Rattle.told_models.specs.Answers.{IsRightAnswer}
 
 -- The completion of a table whose steps keep its promises agrees with the table, so that some
@@ -38,23 +37,6 @@ ClosedForBooks = (table : Table) (ops : List ℕ) (most : ℕ) (book : List Page
     → ((op : ℕ) → IsWordOf book op → Contains ops op) → number_of_calls book ≤ most
     → IsClosedTo table (Contains ops) most
     → IsClosedTo table (IsWordOf book) (number_of_calls book)
-
--- A dialogue in which each ask is a right answer on a book has at most as many asks as there are
--- lists of at least one and at most as many operation words as the book has calls, of words that
--- the book's are among, whatever is told.
-abbrev pub DialoguesEnd : Type 0
-DialoguesEnd = (book : List Page) (ops : List ℕ) (table : Table) (tables : List Table)
-    → ((op : ℕ) → IsWordOf book op → Contains ops op)
-    → IsDialogue (λ table state op. IsRightAnswer table book (Ask state op)) table tables
-    → length tables ≤ word_lists (length ops) (number_of_calls book)
-
--- A dialogue in which each ask is for a step that wasn't told, of one of some words at one of some
--- states, has at most as many asks as there are pairs of these states and words.
-abbrev pub FewStatesFewAsks : Type 0
-FewStatesFewAsks = (states ops : List ℕ) (table : Table) (tables : List Table)
-    → IsDialogue (λ table state op. (told_step table state op ≡ None) × Contains states state
-    × Contains ops op) table tables
-    → length tables ≤ length states * length ops
 
 -- The answers `Legal` and `Illegal` on a book exclude one another, where the steps of the table
 -- keep its promises.

@@ -2,8 +2,11 @@ pub mod Table
 pub mod Agreement
 pub mod Completion
 pub mod Closed
-pub mod Words
 pub mod Search
 pub mod Dialogue
 pub mod Answers
 pub mod Laws
+pub mod Searching
+pub mod Walking
+pub mod Weighing
+pub mod SearchLaws

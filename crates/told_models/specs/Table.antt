@@ -2,6 +2,10 @@
 use Rattle.std.specs.Prelude.{◌≡◌, ◌↔◌, ℕ, Bool, IsTrue, nat_eq, ◌&&◌, List, Option, Some, None}
 use Rattle.std.specs.List.{list_any}
 use Rattle.std.specs.Map.{lookup}
+use Rattle.std.specs.declared.cmp.Ordering.{Ordering}
+use Rattle.std.specs.Ordering.{ordering_then, nat_cmp}
+use Rattle.std.specs.BTreeMap.{BTreeMap, get}
+use Rattle.std.specs.BTreeSet.{BTreeSet, contains}
 use Rattle.told_models.specs.declared.table.Transition.{Transition}
 use Rattle.told_models.specs.declared.fault.TellFault.{TellFault}
 use Rattle.told_models.specs.declared.fault.TellFault.TheVariants as tell
@@ -28,6 +32,26 @@ told_step table state op = lookup (is_same_pair (state, op)) table.steps
 -- It is promised that an operation changes no state at which it has this reply.
 abbrev pub IsPromised : Table → ℕ → ℕ → Type 0
 IsPromised table op reply = IsTrue (list_any (is_same_pair (op, reply)) table.promises)
+
+-- pairs of numbers in order: by the first number and then by the second one
+abbrev pub pair_order : ℕ × ℕ → ℕ × ℕ → Ordering
+pair_order a b = ordering_then (nat_cmp a.0 b.0) (nat_cmp a.1 b.1)
+
+-- A map has at a pair of a state and an operation word what was told there, if it has anything.
+abbrev pub HasToldStep : Table → BTreeMap (ℕ × ℕ) Transition → ℕ → ℕ → Type 0
+HasToldStep table map state op = (transition : Transition)
+    → get pair_order map (state, op) ≡ Some transition → told_step table state op ≡ Some transition
+
+-- A map has the steps of a table: at each pair of a state and an operation word the transition that
+-- was told there, and nothing where none was.
+abbrev pub HasSteps : Table → BTreeMap (ℕ × ℕ) Transition → Type 0
+HasSteps table map =
+    (state op : ℕ) → get pair_order map (state, op) ≡ told_step table state op
+
+-- A set has the promises of a table, and nothing else.
+abbrev pub HasPromises : Table → BTreeSet (ℕ × ℕ) → Type 0
+HasPromises table set = (op reply : ℕ)
+    → contains pair_order set (op, reply) ≡ list_any (is_same_pair (op, reply)) table.promises
 
 -- The told steps of a table keep its promises: each with a promised operation and reply leads back
 -- to its own state.

@@ -1,6 +1,7 @@
-//! Laws of tables. Each is the contract of a function with nothing in it.
+//! Laws of tables and searches. Each is the contract of a function with nothing in it.
 
-ghost use Rattle.told_models.specs.Laws.{CompletionsAgree, AgreesWithFewer, ClosedTablesDecide, ClosedForBooks, DialoguesEnd, FewStatesFewAsks, AnswersExclude, VerdictsStand};
+ghost use Rattle.told_models.specs.SearchLaws.{SearchesStay, SearchDialoguesEnd};
+ghost use Rattle.told_models.specs.Laws.{CompletionsAgree, AgreesWithFewer, ClosedTablesDecide, ClosedForBooks, AnswersExclude, VerdictsStand};
 
 /// Each table has an object that agrees with it: a table's steps keep its promises
 /// ([`crate::ToldTable::init`]).
@@ -26,18 +27,6 @@ pub fn closed_tables_serve_all_books()
     ensures { ClosedForBooks }
 {}
 
-/// A dialogue with `judge` ends, whatever is told: it has at most as many asks as there are lists
-/// of at least one and at most as many operation words as the book has calls.
-pub fn dialogues_end()
-    ensures { DialoguesEnd }
-{}
-
-/// A dialogue has at most as many asks as there are pairs of the states and the operation words
-/// that are asked for.
-pub fn few_states_few_asks()
-    ensures { FewStatesFewAsks }
-{}
-
 /// At a table only one of the answers `Legal` and `Illegal` on a book is right.
 pub fn answers_exclude()
     ensures { AnswersExclude }
@@ -46,4 +35,16 @@ pub fn answers_exclude()
 /// A verdict stays right, whatever else is told.
 pub fn verdicts_stand()
     ensures { VerdictsStand }
+{}
+
+/// A search may go on after more was told.
+pub fn searches_stay()
+    ensures { SearchesStay }
+{}
+
+/// A dialogue with a search ends, whatever is told, where each round may make at least one step: it
+/// has at most one round more than the search has left to try and than there are lists of at least
+/// one and at most as many operation words as the book has calls, together.
+pub fn dialogues_end()
+    ensures { SearchDialoguesEnd }
 {}

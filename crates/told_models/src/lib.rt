@@ -1,16 +1,17 @@
 //! Objects of one's own: tables of the steps that were told of an object, the sequential object of
-//! a table, and judgements that ask for the steps that they lack.
+//! a table, and searches for a legal order by a table, which ask for the steps that they lack.
 #![tactic(auto)]
 
 mod answer;
 mod fault;
-mod judging;
 pub mod laws;
-mod table;
 #[cfg(test)]
-mod tests;
+mod search_tests;
+mod table;
+mod told_search;
+mod walk;
 
 pub use answer::Answer;
 pub use fault::{PromiseFault, TellFault};
-pub use judging::judge;
 pub use table::{ToldTable, Transition};
+pub use told_search::ToldSearch;

@@ -1,8 +1,9 @@
-ghost use Rattle.std.specs.Prelude.{◌≡◌, ◌↔◌, ℕ, ◌+◌, ◌<◌, ◌≤◌, true, [], length, Contains, IsTrue, Some, None, IfSome, IfNone, IfOk, OnOk, IfErr, OnErr};
+ghost use Rattle.std.specs.Prelude.{◌≡◌, ◌↔◌, ℕ, ◌+◌, ◌<◌, ◌≤◌, true, [], length, slice_get, Contains, IsTrue, Some, None, IfSome, IfNone, IfOk, OnOk, IfErr, OnErr};
+ghost use Rattle.std.specs.BTreeMap.{get};
 ghost use Rattle.told_models.specs.declared.table.Transition.{Transition};
 ghost use Rattle.told_models.specs.declared.fault.PromiseFault.{PromiseFault};
 ghost use Rattle.book_base.specs.declared.TheConstants.{BAD};
-ghost use Rattle.told_models.specs.Table.{told_step, IsPromised, KeepsPromises, Extends, TellsStep, TakesPromise, IsTellFault, IsPromiseFault};
+ghost use Rattle.told_models.specs.Table.{told_step, is_same_pair, pair_order, IsPromised, HasToldStep, HasSteps, HasPromises, KeepsPromises, Extends, TellsStep, TakesPromise, IsTellFault, IsPromiseFault};
 ghost use Rattle.told_models.specs.Closed.{IsNear, IsClosedTo};
 ghost use Rattle.told_models.specs.Dialogue.{IsAsk};
 ghost use Rattle.told_models.specs.Search.{Continues, LeadsInto, AreExpanded, AreNear};
@@ -13,6 +14,7 @@ use book_base::{BAD, NoMemory, OpWord, SeqObject, State};
 use indexmap::{IndexMap, IndexSet};
 use search_hints::SearchHints;
 use std::alloc::Global;
+use std::collections::{BTreeMap, BTreeSet};
 use std::marker::Model;
 
 /// What an operation does at a state: the number of the next state, and the reply word.
@@ -138,6 +140,57 @@ impl ToldTable {
         ensures { IsTrue result ↔ IsPromised self.now op reply }
     {
         self.promises.contains(&(op, reply))
+    }
+
+    /// The told steps, in the order of their states and then of their operation words.
+    pub fn steps(&self, alloc: Global) -> Result<BTreeMap<(u64, OpWord), Transition>, NoMemory>
+        // The map has at each pair of a state and an operation word the transition that was told
+        // there, and nothing where none was.
+        ensures steps { IfOk result (HasSteps self.now) }
+        // The told steps keep the promises.
+        ensures keeps { KeepsPromises self.now }
+    {
+        let mut steps = BTreeMap::new(alloc);
+        for k in 0..self.steps.len() {
+            self.add_step_at(k, &mut steps)?;
+        }
+        Ok(steps)
+    }
+
+    /// The promises, in the order of their operation words and then of their replies.
+    pub fn promises(&self, alloc: Global) -> Result<BTreeSet<(OpWord, u64)>, NoMemory>
+        // The set has each promise, and nothing else.
+        ensures promises { IfOk result (HasPromises self.now) }
+    {
+        let mut promises = BTreeSet::new(alloc);
+        for k in 0..self.promises.len() {
+            promises.insert(self.promises[k])?;
+        }
+        Ok(promises)
+    }
+
+    // Adds the step at a place of the table to a map of told steps.
+    fn add_step_at(
+        &self,
+        k: usize,
+        steps: &mut BTreeMap<(u64, OpWord), Transition>,
+    ) -> Result<(), NoMemory>
+        ensures added { OnOk result ((state op : ℕ) (transition : Transition)
+            → slice_get self.now.steps k ≡ Some ((state, op), transition)
+            → get pair_order steps.new (state, op) ≡ told_step self.now state op) }
+        ensures kept { OnOk result ((state op : ℕ)
+            → get pair_order steps.old (state, op) ≡ told_step self.now state op
+            → get pair_order steps.new (state, op) ≡ told_step self.now state op) }
+        ensures own { OnOk result (((state op : ℕ) → HasToldStep self.now steps.old state op)
+            → (state op : ℕ) → HasToldStep self.now steps.new state op) }
+    {
+        let Some(((state, op), _)) = self.steps.get_index(k) else {
+            return Ok(());
+        };
+        if let Some(transition) = self.get(*state, *op) {
+            steps.insert((*state, *op), transition)?;
+        }
+        Ok(())
     }
 
     /// A pair of a state and one of these operation words whose step wasn't told, where fewer than

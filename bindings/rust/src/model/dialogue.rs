@@ -39,6 +39,11 @@ impl<T: Debug> Numbered<T> {
     fn text(&self, number: u32) -> String {
         format!("{:?}", self.values[number as usize])
     }
+
+    fn lines(&self, what: &str) -> String {
+        let line = |(number, value)| format!("{what} {number} {value:?}\n");
+        self.values.iter().enumerate().map(line).collect()
+    }
 }
 
 /// The dialogue of a check with a model.
@@ -179,6 +184,14 @@ impl<'a, M: Model> Dialogue<'a, M> {
         let told: Vec<_> = self.told.keys().copied().collect();
         told.into_iter()
             .try_for_each(|(state, op)| self.tell(state, op))
+    }
+
+    /// The calls and the steps that the model was asked for, as a text, and what its numbers mean.
+    pub(crate) fn evidence(&mut self) -> Result<(String, String), ModelError> {
+        let mut names = self.ops.lines("op");
+        names += &self.replies.lines("reply");
+        names += &self.states.lines("state");
+        Ok((self.check.evidence()?, names))
     }
 
     /// The legal order, where the calls are judged to have one.

@@ -88,7 +88,7 @@ mod verdict;
 pub use crate::schedule::draw::Draw;
 pub use hunts::{ModelFinding, Runs, hunt, replay};
 pub use relation::{ByReply, Relation};
-pub use verdict::{ModelError, ModelVerdict, Placed};
+pub use verdict::{Evidence, ModelError, ModelVerdict, Placed};
 
 use crate::history::History;
 use crate::recorder::Recorded;
@@ -188,6 +188,48 @@ pub fn verify_within<M: Model>(
 /// As [`verify`], and where the model now says something else.
 pub fn recheck<M: Model>(model: &M, history: &HistoryOf<M>) -> Result<VerdictOf<M>, ModelError> {
     judge(model, history, None, true)
+}
+
+/// As [`verify`], with what shows the verdict to whoever doesn't have the model: of an illegal
+/// history the evidence of the key whose calls have no legal order, and of a legal one that of each
+/// key; an unknown one has none.
+///
+/// # Errors
+///
+/// As [`verify_within`].
+pub fn evidence<M: Model>(
+    model: &M,
+    history: &HistoryOf<M>,
+    steps: Option<u64>,
+) -> Result<Vec<Evidence>, ModelError> {
+    let mut all = Vec::new();
+    for (key, part) in parts(model, history) {
+        let (pages, left_out) = part.prefix();
+        let mut dialogue = Dialogue::new(model, &pages)?;
+        let Some(is_legal) = dialogue.judge(steps)? else {
+            return Ok(Vec::new());
+        };
+        if is_legal && left_out > 0 {
+            let kept = pages.iter().map(Vec::len).sum();
+            return Err(ModelError::TooLong {
+                key,
+                kept,
+                left_out,
+            });
+        }
+        let (text, names) = dialogue.evidence()?;
+        let evidence = Evidence {
+            key,
+            is_legal,
+            text,
+            names,
+        };
+        if !is_legal {
+            return Ok(vec![evidence]);
+        }
+        all.push(evidence);
+    }
+    Ok(all)
 }
 
 fn judge<M: Model>(

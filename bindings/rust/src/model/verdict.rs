@@ -21,6 +21,20 @@ pub enum ModelVerdict<O, R> {
     },
 }
 
+/// The calls of one key, and what the model does at the steps that the verdict needs, as a text:
+/// `selfcheck-judge-model` judges it without the model.
+#[derive(Clone, Debug, PartialEq, Eq)]
+pub struct Evidence {
+    /// The key, where the model has keys.
+    pub key: Option<String>,
+    /// The verdict on these calls.
+    pub is_legal: bool,
+    /// The text of the calls and the steps. Operations, replies and states are numbers in it.
+    pub text: String,
+    /// What these numbers stand for: lines of `op`, `reply` or `state`, a number, and its value.
+    pub names: String,
+}
+
 /// A call in a legal order.
 #[derive(Clone, Debug, PartialEq, Eq)]
 pub struct Placed<O, R> {

@@ -1,11 +1,11 @@
 use Rattle.std.proofs.Common.{refl}
 use Rattle.model_examples.specs.Locks.{other_lock}
-use Rattle.model_examples.proofs.Lock.{lock_dialogue, lock_extends, lock_closed, lock_agrees, lock_words}
+use Rattle.model_examples.proofs.Lock.{first_ask, lock_extends, lock_closed, lock_agrees, lock_words}
 use Rattle.model_examples.proofs.TwoCalls.{two_calls_are_legal}
 use Rattle.model_examples.proofs.laws.a_lock_is_told_step_by_step.Goals as goal
 
-pub returns-clause-dialogue : goal.returns-clause-dialogue
-returns-clause-dialogue c = lock_dialogue
+pub returns-clause-first : goal.returns-clause-first
+returns-clause-first c = first_ask
 
 pub returns-clause-extends : goal.returns-clause-extends
 returns-clause-extends c = lock_extends

@@ -1,5 +1,5 @@
-use Rattle.told_search.specs.Searching.{IsSearch}
-use Rattle.told_search.specs.Weighing.{weight_of}
+use Rattle.told_models.specs.Searching.{IsSearch}
+use Rattle.told_models.specs.Weighing.{weight_of}
 use Rattle.model_judge.proofs.judging.search.Given as goal
 
 abbrev pub invariant-steps : goal.invariant-steps

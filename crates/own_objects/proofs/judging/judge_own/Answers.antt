@@ -3,8 +3,8 @@ use Rattle.told_models.specs.declared.answer.Answer.TheVariants.{Legal, Illegal}
 use Rattle.told_models.specs.Closed.{IsWordOf, number_of_calls}
 use Rattle.told_models.specs.Dialogue.{IsAsk}
 use Rattle.told_models.specs.Answers.{IsRightAnswer}
-use Rattle.told_search.specs.Weighing.{weight_of}
-use Rattle.told_search.proofs.Walks.{searches_stay}
+use Rattle.told_models.specs.Weighing.{weight_of}
+use Rattle.told_models.proofs.Walks.{searches_stay}
 use Rattle.own_objects.specs.Told.{value_at}
 use Rattle.own_objects.proofs.Ending.{left_to_tell-falls}
 use Rattle.own_objects.proofs.Numbered.{answers_hold_of_it}

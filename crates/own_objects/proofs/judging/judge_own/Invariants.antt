@@ -1,6 +1,6 @@
 use Rattle.std.proofs.Common.{◌+◌}
-use Rattle.told_search.specs.Searching.{IsSearch}
-use Rattle.told_search.specs.Weighing.{weight_of}
+use Rattle.told_models.specs.Searching.{IsSearch}
+use Rattle.told_models.specs.Weighing.{weight_of}
 use Rattle.own_objects.specs.Told.{IsToldOf}
 use Rattle.own_objects.proofs.Ending.{left_to_tell}
 use Rattle.own_objects.proofs.judging.judge_own.Given as goal

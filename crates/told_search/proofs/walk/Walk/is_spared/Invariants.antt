@@ -1,4 +1,0 @@
-use Rattle.told_search.proofs.walk.Walk.is_spared.Given as goal
-
-abbrev pub invariant-loop-other : goal.invariant-loop-other
-invariant-loop-other l = Unit {0}

@@ -1,7 +1,0 @@
-use Rattle.std.proofs.Common.{ℕ, ◌<◌, IfSome, IfNone}
-use Rattle.search_hints.specs.Marks.{IsMarked}
-use Rattle.told_search.proofs.walk.Walk.pick.Given as goal
-
-abbrev pub invariant-loop-caller : goal.invariant-loop-caller
-invariant-loop-caller l = IfSome l.best (IsMarked l.self.waiting)
-    × IfNone l.best ((i : ℕ) → i < l.caller → IsMarked l.self.waiting i → ⊥)

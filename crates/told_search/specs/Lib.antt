@@ -1,4 +1,0 @@
-pub mod Walking
-pub mod Weighing
-pub mod Searching
-pub mod Laws
