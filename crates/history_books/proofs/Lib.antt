@@ -1,0 +1,4 @@
+pub mod Growing
+pub mod Sweeping
+pub mod Ending
+pub mod Widening

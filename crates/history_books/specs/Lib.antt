@@ -1,0 +1,5 @@
+pub mod Calls
+pub mod BookOf
+pub mod Sweep
+pub mod Causes
+pub mod Laws

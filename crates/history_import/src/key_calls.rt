@@ -1,0 +1,204 @@
+//! The calls of one key, as calls of the kind with numbers for their values.
+
+use crate::names::Names;
+use crate::operation::{Operation, Says, has_numbers};
+use crate::options::Options;
+use book_base::{NoMemory, OpWord};
+use history_books::{Answer, TimedCall};
+use history_text::{
+    LogAnswer, LogCall, LogError, LogFault, LogWhat, in_brackets, is_nothing, items,
+};
+use indexmap::IndexSet;
+use seq_objects::{DONE, Kind, NO, NONE, YES, put_number, wrapping_value_reply};
+use std::alloc::Global;
+
+/// The calls of a key, as a book wants them, and the lines of each in the log.
+#[derive(Drop)]
+pub struct KeyCalls<'a> {
+    pub names: Names<'a>,
+    pub calls: Vec<LinedCall>,
+}
+
+/// A call, and its lines in the log: that of its invocation, and that of its answer.
+#[derive(Clone, Copy, Debug)]
+pub struct LinedCall {
+    pub call: TimedCall,
+    pub line: u64,
+    pub end: Option<u64>,
+}
+
+// The fault of a line.
+fn wrong(line: u64, what: LogWhat) -> LogError {
+    LogError::Fault(LogFault { line, what })
+}
+
+// The arguments of a call, as they are written: for a map the call's key comes first.
+fn arguments<'a>(
+    alloc: Global,
+    options: &Options,
+    operation: Operation,
+    call: &LogCall<'a>,
+) -> Result<Vec<&'a [u8]>, LogError> {
+    let mut found = Vec::new(alloc);
+    if options.kind == Kind::Map {
+        if let Some(key) = call.key {
+            found.push(key)?;
+        }
+    }
+    let missing = operation.arguments.saturating_sub(found.len());
+    let list = match call.arguments {
+        Some(list) => Some(list),
+        None if missing > 1 => call.value.and_then(in_brackets),
+        None => None,
+    };
+    match list {
+        Some(list) => {
+            let Some(parts) = items(alloc, false, list)? else {
+                return Err(wrong(call.line, LogWhat::Value));
+            };
+            for part in &parts {
+                found.push(*part)?;
+            }
+        }
+        None if missing == 1 => match call.value {
+            Some(value) => found.push(value)?,
+            None => return Err(wrong(call.line, LogWhat::Value)),
+        },
+        None => {}
+    }
+    if found.len() != operation.arguments {
+        return Err(wrong(call.line, LogWhat::Value));
+    }
+    Ok(found)
+}
+
+// The operation word of an operation with these arguments.
+fn word_of<'a>(
+    alloc: Global,
+    options: &Options,
+    operation: Operation,
+    names: &mut Names<'a>,
+    call: &LogCall<'a>,
+) -> Result<OpWord, LogError> {
+    let mut words: Vec<Vec<u8>> = Vec::new(alloc);
+    for argument in &arguments(alloc, options, operation, call)? {
+        let Some(value) = names.number_of(*argument)? else {
+            return Err(wrong(call.line, LogWhat::Value));
+        };
+        let mut word = Vec::new(alloc);
+        put_number(&mut word, value)?;
+        words.push(word)?;
+    }
+    let second = words.first().map(|word| word.as_slice());
+    let third = words.get(1).map(|word| word.as_slice());
+    match options
+        .kind
+        .op_from_words(operation.name.as_bytes(), second, third)
+    {
+        Some((word, _)) => Ok(word),
+        None => Err(wrong(call.line, LogWhat::Operation)),
+    }
+}
+
+// The reply word of an answer.
+fn reply_of<'a>(
+    operation: Operation,
+    names: &mut Names<'a>,
+    initial: &'a [u8],
+    answer: &LogAnswer<'a>,
+) -> Result<u64, LogError> {
+    let value = answer.value.unwrap_or(initial);
+    match operation.says {
+        Says::Done => Ok(DONE),
+        Says::Success => Ok(if is_no(value) { NO } else { YES }),
+        Says::Whether if is_no(value) => Ok(NO),
+        Says::Whether if is_yes(value) => Ok(YES),
+        Says::Whether => Err(wrong(answer.line, LogWhat::Reply)),
+        Says::Maybe if is_nothing(value) => Ok(NONE),
+        _ => match names.number_of(value)? {
+            Some(number) => Ok(wrapping_value_reply(number)),
+            None => Err(wrong(answer.line, LogWhat::Reply)),
+        },
+    }
+}
+
+fn is_no(value: &[u8]) -> bool {
+    matches!(value, b"false" | b"no" | b"0")
+}
+
+fn is_yes(value: &[u8]) -> bool {
+    matches!(value, b"true" | b"yes" | b"1")
+}
+
+// The fault with the lesser line, of which the first one is taken where the lines are equal.
+pub fn earlier(first: Option<LogFault>, second: LogFault) -> LogFault {
+    match first {
+        Some(first) if first.line <= second.line => first,
+        _ => second,
+    }
+}
+
+// A call of the log as a call of the kind. A lost call that changes nothing is none.
+fn lined<'a>(
+    alloc: Global,
+    options: &Options<'a>,
+    names: &mut Names<'a>,
+    process: u64,
+    call: &LogCall<'a>,
+) -> Result<Option<LinedCall>, LogError> {
+    let Some(operation) = options.operation(call.operation) else {
+        return Err(wrong(call.line, LogWhat::Operation));
+    };
+    let op = word_of(alloc, options, operation, names, call)?;
+    let answer = match &call.answer {
+        None if operation.reads => return Ok(None),
+        None => None,
+        Some(answer) => Some(Answer {
+            returned: answer.returned,
+            reply: reply_of(operation, names, options.initial, answer)?,
+        }),
+    };
+    Ok(Some(LinedCall {
+        call: TimedCall {
+            process,
+            op,
+            invoked: call.invoked,
+            answer,
+        },
+        line: call.line,
+        end: call.answer.map(|answer| answer.line),
+    }))
+}
+
+impl<'a> KeyCalls<'a> {
+    /// The calls at these places of the log, without lost ones that change nothing. Of all faults
+    /// of their words the first one, by its line, is answered.
+    pub fn of(
+        alloc: Global,
+        options: &Options<'a>,
+        log: &[LogCall<'a>],
+        places: &[usize],
+    ) -> Result<KeyCalls<'a>, LogError> {
+        let mut names = Names::new(alloc, has_numbers(options.kind), options.initial)?;
+        let mut users: IndexSet<&'a [u8]> = IndexSet::new(alloc);
+        let mut calls = Vec::new(alloc);
+        let mut fault: Option<LogFault> = None;
+        for place in places {
+            let Some(call) = log.get(*place) else {
+                continue;
+            };
+            let process = users.insert_full(call.process)?.0 as u64;
+            match lined(alloc, options, &mut names, process, call) {
+                Ok(Some(lined)) => calls.push(lined)?,
+                Ok(None) => {}
+                Err(LogError::Fault(found)) => fault = Some(earlier(fault, found)),
+                Err(LogError::NoMemory) => return Err(LogError::NoMemory),
+            }
+        }
+        if let Some(fault) = fault {
+            return Err(LogError::Fault(fault));
+        }
+        calls.sort_by_key(|lined: &LinedCall| lined.call.invoked)?;
+        Ok(KeyCalls { names, calls })
+    }
+}

@@ -1,0 +1,39 @@
+//! The calls of a log by their keys.
+
+use book_base::NoMemory;
+use history_text::LogCall;
+use indexmap::IndexSet;
+use std::alloc::Global;
+
+/// A key, and the places of its calls in the log.
+#[derive(Drop)]
+pub struct KeyPlaces<'a> {
+    pub key: Option<&'a [u8]>,
+    pub places: Vec<usize>,
+}
+
+/// The keys of a log in the order of their first calls, each with the places of its calls. A log
+/// without keys has one, which is `None`.
+pub fn key_places<'a>(alloc: Global, log: &[LogCall<'a>]) -> Result<Vec<KeyPlaces<'a>>, NoMemory> {
+    let mut known: IndexSet<Option<&'a [u8]>> = IndexSet::new(alloc);
+    let mut found: Vec<KeyPlaces<'a>> = Vec::new(alloc);
+    for (place, call) in log.iter().enumerate() {
+        let (at, new) = known.insert_full(call.key)?;
+        if new {
+            found.push(KeyPlaces {
+                key: call.key,
+                places: Vec::new(alloc),
+            })?;
+        }
+        if let Some(of_key) = found.get_mut(at) {
+            of_key.places.push(place)?;
+        }
+    }
+    if found.is_empty() {
+        found.push(KeyPlaces {
+            key: None,
+            places: Vec::new(alloc),
+        })?;
+    }
+    Ok(found)
+}
