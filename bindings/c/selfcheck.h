@@ -101,7 +101,8 @@ SELFCHECK_EXPORT uint32_t selfcheck_picture(const uint8_t *text, size_t length, 
  * that are published without a judgement, and monitors, which are callers of the table that make no calls, judge them in
  * rounds.
  *
- * A slot is a place for one handle: of a table, of one of its callers, of one of its monitors, or of a check by a model.
+ * A slot is a place for one handle: of a table, of one of its callers, of one of its monitors, of one of its callers whose
+ * calls a model judges, or of a check by a model.
  * It is all zero before its first use, and then the library alone writes to it. It isn't copied,
  * but may be moved, and is given to one call at a time: threads that pass it on order their calls
  * by a lock, by a start or a join. While it has a handle, `in_use` is 1. */
@@ -188,20 +189,21 @@ SELFCHECK_EXPORT uint32_t selfcheck_model_end(struct selfcheck_slot *check, uint
 
 /* Promises that the operation changes no state at which it has this reply, which makes the check faster. Told steps are
  * held against it; it isn't known of the others. LEAVES_NOT where a told step breaks it. DONE, LEAVES_NOT, NO_MEMORY, or
- * UNFIT where the slot has no check. */
+ * UNFIT where the slot has neither a check nor a caller whose calls a model judges. */
 SELFCHECK_EXPORT uint32_t selfcheck_model_leaves(struct selfcheck_slot *check, uint32_t op,
     uint32_t reply);
 
 /* Goes on with the check, by at most so many steps. LEGAL: the history has an order that is legal for each object that
  * agrees with what was told. ILLEGAL: for no such object it has one. ASK: the question is written, of a step that wasn't
  * told; once it is told the check goes on. PAUSED: the steps are used up, and less is left to try. NO_MEMORY: the history
- * and what was told are as before. UNFIT where the slot has no check. But for ASK the question is as it was. */
+ * and what was told are as before. UNFIT where the slot has no check. But for ASK the question is as it was. Of a caller
+ * whose calls a model judges this is the judgement of its published call, as selfcheck_model_answered has it. */
 SELFCHECK_EXPORT uint32_t selfcheck_model_next(struct selfcheck_slot *check, uint64_t steps,
     struct selfcheck_question *question);
 
 /* Tells a step of the model, asked for or not: at this state the operation leads to the state `next`, and has this reply.
  * CONTRADICTS where another step was told there, LEAVES_NOT where the step breaks a promise. DONE, CONTRADICTS,
- * LEAVES_NOT, NO_MEMORY, or UNFIT where the slot has no check. */
+ * LEAVES_NOT, NO_MEMORY, or UNFIT where the slot has neither a check nor a caller whose calls a model judges. */
 SELFCHECK_EXPORT uint32_t selfcheck_model_tell(struct selfcheck_slot *check, uint32_t state,
     uint32_t op, uint32_t next, uint32_t reply);
 
@@ -218,6 +220,40 @@ SELFCHECK_EXPORT uint32_t selfcheck_model_order(struct selfcheck_slot *check,
  * was. DONE, NO_MEMORY, NO_ROOM or UNFIT. */
 SELFCHECK_EXPORT uint32_t selfcheck_model_evidence(struct selfcheck_slot *check, uint8_t *buffer,
     size_t room, size_t *written);
+
+/* Calls that check themselves by a model. A table of callers stands beside an object, as above: each caller announces a
+ * call, makes the object's own, and hands in its reply, which publishes the call. Then its judgement goes on by
+ * selfcheck_model_next: it asks for steps of the model, is told them by selfcheck_model_tell, and ends with the reply
+ * delivered, or as an error. What was told to a caller stays for its later calls, and promises may be made at any time.
+ *
+ * States have numbers of each caller's own, of which 0 is the initial one. Operations and replies have one number for all
+ * callers of a table, also replies that the model gives and nobody has handed in yet: whoever gives a number first gives
+ * it for all. selfcheck_model.h is the loop of a call. */
+
+/* Opens a table into an empty slot, for 1 to 16 callers with 1 to 256 calls each, whose calls a model is to judge. DONE,
+ * NO_MEMORY or UNFIT. */
+SELFCHECK_EXPORT uint32_t selfcheck_model_table(uint32_t callers, uint64_t calls,
+    struct selfcheck_slot *slot);
+
+/* Puts the next caller of a table into an empty slot, as one whose calls a model judges: else as selfcheck_caller. DONE,
+ * NO_MEMORY or UNFIT. */
+SELFCHECK_EXPORT uint32_t selfcheck_model_caller(struct selfcheck_slot *table,
+    struct selfcheck_slot *slot);
+
+/* Announces a call of the caller: to be written right before the object's own. UNFIT where its last call isn't judged,
+ * where the caller has made all its calls, and after an error; then the object isn't to be asked. DONE or UNFIT. */
+SELFCHECK_EXPORT uint32_t selfcheck_model_announce(struct selfcheck_slot *caller, uint32_t op);
+
+/* Hands in the object's reply to the announced call: to be written right after the object's own. DONE: the call is
+ * published, and selfcheck_model_next goes on with its judgement. That gives LEGAL where the calls that are published and
+ * that the caller has seen, its own among them, have an order that is legal for each object that agrees with what was
+ * told: the reply is delivered, and the caller may make its next call. It gives ILLEGAL where they have none for any such
+ * object: the object is wrong, if it began as the model does, and each of its calls was made between the announcement and
+ * the reply of a caller of this table, with the fences of this header. Then selfcheck_witness has the text of their book,
+ * whose operations and replies are those numbers, and the caller makes no further call. After NO_MEMORY of
+ * selfcheck_model_next the judgement may go on. NO_MEMORY of this call: nobody judges the call, others see it, and the
+ * caller makes no further call. UNFIT where no call is announced. DONE, NO_MEMORY or UNFIT. */
+SELFCHECK_EXPORT uint32_t selfcheck_model_answered(struct selfcheck_slot *caller, uint32_t reply);
 
 /* Lets the slot's handle go; an announced call stays unanswered. The slot is then empty. A table's memory is freed with
  * the last of its slots. DONE, or UNFIT where it was empty. */
@@ -292,6 +328,18 @@ static inline uint32_t selfcheck_answered_inline(struct selfcheck_slot *caller, 
 static inline uint32_t selfcheck_publish_inline(struct selfcheck_slot *caller, uint64_t reply) {
     selfcheck_after_object();
     return selfcheck_publish(caller, reply);
+}
+
+static inline uint32_t selfcheck_model_announce_inline(struct selfcheck_slot *caller, uint32_t op) {
+    uint32_t status = selfcheck_model_announce(caller, op);
+    selfcheck_before_object();
+    return status;
+}
+
+static inline uint32_t selfcheck_model_answered_inline(struct selfcheck_slot *caller,
+    uint32_t reply) {
+    selfcheck_after_object();
+    return selfcheck_model_answered(caller, reply);
 }
 
 /* What an export is given for a text of this length. */
@@ -391,6 +439,8 @@ static inline void selfcheck_point_of(const char *file, int line) {
 #define selfcheck_witness selfcheck_witness_inline
 #define selfcheck_model_order selfcheck_model_order_inline
 #define selfcheck_model_evidence selfcheck_model_evidence_inline
+#define selfcheck_model_announce selfcheck_model_announce_inline
+#define selfcheck_model_answered selfcheck_model_answered_inline
 
 #ifdef __cplusplus
 }

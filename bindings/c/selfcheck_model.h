@@ -1,6 +1,7 @@
-/* Judges histories by a model: a sequential object of one's own, as functions of the program. A
- * verdict is proved for every object that agrees with what the library is told. This header asks
- * the model and tells the library, which is tested.
+/* Judges histories by a model: a sequential object of one's own, as functions of the program; and
+ * calls of an object that are judged by a model as they are made. A verdict is proved for every
+ * object that agrees with what the library is told. This header asks the model and tells the
+ * library, which is tested.
  *
  *     struct selfcheck_model model = {sizeof(struct queue), init, step, NULL};
  *     struct selfcheck_recorder *recorder = selfcheck_recorder_new("model", 1000);
@@ -11,6 +12,16 @@
  *     if (selfcheck_check_recorded(&check, &model, recorder, &extent) == SELFCHECK_DONE)
  *         status = selfcheck_check_go_on(&check, UINT64_MAX);
  *     selfcheck_check_close(&check);
+ *
+ * Calls that check themselves, each caller for one thread:
+ *
+ *     struct selfcheck_slot table = {0, NULL};
+ *     struct selfcheck_check caller;
+ *     if (selfcheck_model_table(4, 64, &table) == SELFCHECK_DONE)
+ *         selfcheck_check_caller(&caller, &model, &table);
+ *     ...
+ *     if (selfcheck_check_announce(&caller, PUT + 5) == SELFCHECK_DONE)
+ *         status = selfcheck_check_answered(&caller, put(queue, 5));
  *
  * An object of several keys, each of which is an object by itself, has a recorder and a check for
  * each key: all calls together have a legal order exactly where those of each key have one (Herlihy
@@ -109,14 +120,15 @@ static inline void selfcheck_check_close(struct selfcheck_check *check) {
     memset(check, 0, sizeof *check);
 }
 
-/* Opens a check of a history of 1 to 16 callers, before its first call. DONE, NO_MEMORY or UNFIT;
- * but for DONE nothing is open. */
-static inline uint32_t selfcheck_check_open(struct selfcheck_check *check,
-    const struct selfcheck_model *model, uint32_t callers) {
+/* Opens a check of a history of so many callers, or, where there is a table, its next caller. */
+static inline uint32_t selfcheck_check_begun(struct selfcheck_check *check,
+    const struct selfcheck_model *model, uint32_t callers, struct selfcheck_slot *table) {
     memset(check, 0, sizeof *check);
     check->model = model;
     uint32_t status = SELFCHECK_NO_MEMORY;
-    if (selfcheck_check_has_room(check)) status = selfcheck_model_open(callers, &check->slot);
+    if (selfcheck_check_has_room(check))
+        status = table ? selfcheck_model_caller(table, &check->slot)
+            : selfcheck_model_open(callers, &check->slot);
     if (status != SELFCHECK_DONE) {
         selfcheck_check_close(check);
         return status;
@@ -125,6 +137,21 @@ static inline uint32_t selfcheck_check_open(struct selfcheck_check *check,
     model->init(check->states);
     *selfcheck_check_place(check, check->states) = (uint32_t)++check->count;
     return status;
+}
+
+/* Opens a check of a history of 1 to 16 callers, before its first call. DONE, NO_MEMORY or UNFIT;
+ * but for DONE nothing is open. */
+static inline uint32_t selfcheck_check_open(struct selfcheck_check *check,
+    const struct selfcheck_model *model, uint32_t callers) {
+    return selfcheck_check_begun(check, model, callers, NULL);
+}
+
+/* Opens a check of the calls of a table's next caller, which are judged as they are made. UNFIT
+ * where none is left. Callers of one table have one model. DONE, NO_MEMORY or UNFIT; but for DONE
+ * nothing is open. The check goes on after its table's slot is dropped. */
+static inline uint32_t selfcheck_check_caller(struct selfcheck_check *check,
+    const struct selfcheck_model *model, struct selfcheck_slot *table) {
+    return selfcheck_check_begun(check, model, 1, table);
 }
 
 /* The caller's next call begins, as selfcheck_model_begin has it. */
@@ -179,6 +206,25 @@ static inline uint32_t selfcheck_check_go_on(struct selfcheck_check *check, uint
         }
         if (steps != UINT64_MAX) steps -= portion;
     }
+}
+
+/* Announces a call of the caller that the check is of: to be written right before the object's own,
+ * which isn't to be made where the status is UNFIT. DONE or UNFIT. */
+static inline uint32_t selfcheck_check_announce(struct selfcheck_check *check, uint32_t op) {
+    check->ops[0][0] = op;
+    return selfcheck_model_announce(&check->slot, op);
+}
+
+/* Hands in the object's reply to the announced call, to be written right after the object's own, and
+ * judges the call. DONE: the reply is delivered. ILLEGAL: the object is wrong, and selfcheck_witness
+ * of the check's slot has the calls. After that, and after LEAVES_NOT, where the model's `leaves`
+ * isn't so, the caller makes no further call; and so after NO_MEMORY, but where
+ * selfcheck_check_go_on then ends the judgement with DONE. UNFIT where no call is announced. */
+static inline uint32_t selfcheck_check_answered(struct selfcheck_check *check, uint32_t reply) {
+    uint32_t status = selfcheck_model_answered(&check->slot, reply), op = check->ops[0][0];
+    if (status == SELFCHECK_DONE && check->model->leaves && check->model->leaves(op, reply))
+        status = selfcheck_model_leaves(&check->slot, op, reply);
+    return status == SELFCHECK_DONE ? selfcheck_check_go_on(check, UINT64_MAX) : status;
 }
 
 /* Calls the model again for its initial state and for each step that was told. DONE where all is as

@@ -574,6 +574,123 @@ class Recordings(unittest.TestCase):
                 text()
 
 
+class Bounded:
+    """A queue with two places."""
+
+    def init(self):
+        return ()
+
+    def step(self, state, op):
+        name, *values = op
+        if name == "put":
+            return (state, False) if len(state) == 2 else ((*state, *values), True)
+        return (state[1:], state[0]) if state else (state, None)
+
+    def leaves(self, op, reply):
+        return reply is False or reply is None
+
+
+class Enforced(unittest.TestCase):
+    """Calls that a model judges as they are made."""
+
+    def test_right_objects(self):
+        for threads, calls in (1, 32), (2, 32), (4, 16):
+            store, values, lock = selfcheck.Enforced(models.VersionedStore(), threads, calls), {}, threading.Lock()
+            queue, items = selfcheck.Enforced(Bounded(), threads, calls), []
+
+            def put(key, value):
+                with lock:
+                    values[key] = version, _ = values.get(key, (0, None))[0] + 1, value
+                    return version
+
+            def add(item):
+                with lock:
+                    return len(items) < 2 and items.append(item) is None
+
+            def take():
+                with lock:
+                    return items.pop(0) if items else None
+
+            def work(number):
+                for at in range(calls // 2):
+                    key, value = at % 2, f"{at} of {number}"
+                    store.call("put", key, value, lambda: put(key, value))
+                    store.call("get", key, lambda: values[key])
+                    queue.call("put", value, lambda: add(value))
+                    queue.call("take", take)
+                ended.append(number)
+
+            ended = []
+            run_threads(threads, work, lambda number: number)
+            self.assertEqual(sorted(ended), list(range(threads)))
+
+    # Worked by hand: put 5 is the operation 0, put 6 is 1, put 7 is 2, and take is 3; True is the reply 0, False is 1, and
+    # 6 is 2. What the model says besides, that 5 is taken, is 3.
+    def test_errors(self):
+        queue = selfcheck.Enforced(Bounded(), callers=2, calls=8)
+        first, second = queue.caller(), queue.caller()
+        for value, reply in (5, True), (6, True), (7, False):
+            self.assertIs(first.call("put", value, lambda: reply), reply)
+        with self.assertRaises(selfcheck.Illegal) as raised:
+            second.call("take", lambda: 6)
+        error = raised.exception
+        self.assertEqual(error.reply, 6)
+        self.assertEqual(
+            error.book,
+            "book 2\nobject model\ncallers 2\ncalls 3 1\n0 0 op 0 =0 view 0:1\n0 1 op 1 =0 view 0:2\n"
+            "0 2 op 2 =1 view 0:3\n1 0 op 3 =2 view 0:3 1:1\nend\n"
+            "steps 2\n0 op 0 1 =0\n1 op 1 2 =0\n2 op 2 2 =1\n2 op 3 3 =3\nend\n",
+        )
+        calls = [("put", 5), True], [("put", 6), True], [("put", 7), False], [("take",), 6]
+        who = [0, 0, 0, 1]
+        events = [(what, at, it) for at, call in zip(who, calls) for what, it in zip(("begin", "end"), call)]
+        self.assertEqual(error.events, events)
+        self.assertFalse(selfcheck.judge(Bounded(), error.events, recheck=True).legal)
+        with self.assertRaises(selfcheck.NoCallLeft):
+            second.call("take", self.fail)
+        # an error is final: whoever has seen these calls finds it too
+        with self.assertRaises(selfcheck.Illegal):
+            first.call("take", lambda: 5)
+
+    def test_overlapping_calls(self):
+        queue = selfcheck.Enforced(Bounded(), callers=2, calls=8)
+        first, second = queue.caller(), queue.caller()
+
+        def take():
+            second.call("put", 5, lambda: True)
+            return None
+
+        self.assertIsNone(first.call("take", take))
+        self.assertEqual(first.call("take", lambda: 5), 5)
+
+    def test_lost_calls(self):
+        queue = selfcheck.Enforced(Bounded(), callers=2, calls=3)
+        with self.assertRaises(TimeoutError):
+            queue.call("put", 7, raise_timeout)
+        for taken in 7, None, None:
+            self.assertEqual(queue.call("take", lambda: taken), taken)
+        with self.assertRaises(selfcheck.NoCallLeft):
+            queue.call("take", self.fail)
+
+    def test_broken_promises(self):
+        class Promising(Bounded):
+            def leaves(self, op, reply):
+                return True
+
+        caller = selfcheck.Enforced(Promising(), callers=1, calls=2).caller()
+        with self.assertRaises(selfcheck.BrokenPromise):
+            caller.call("put", 1, lambda: True)
+        with self.assertRaises(selfcheck.NoCallLeft):
+            caller.call("put", 1, self.fail)
+
+    def test_what_is_no_model(self):
+        for wrong in object(), Bounded:
+            with self.assertRaises(TypeError):
+                selfcheck.Enforced(wrong)
+        with self.assertRaises(TypeError):
+            selfcheck.Enforced(Bounded()).call("put", [], self.fail)
+
+
 def raise_timeout():
     raise TimeoutError
 

@@ -11,12 +11,18 @@ _DONE, _UNFIT = 0, 9
 
 class Illegal(Exception):
     """The object is wrong: the published calls that the caller has seen, its own among them, have no legal order. They are
-    the book, whose text is None for want of memory. `reply` is what the object's own call gave."""
+    the book, whose text is None for want of memory. `reply` is what the object's own call gave.
 
-    def __init__(self, book, reply):
-        super().__init__(f"these calls have no legal order:\n{book}" if book else "the calls have no legal order")
+    Where a model judges, the book has operations and replies by numbers, and the steps that the model was asked for after
+    it, so that it is judged again without the model (`scripts/judge-model` in the library's repository). `events` is the
+    history with its values, which `judge` judges again; else None."""
+
+    def __init__(self, book, reply, events=None):
+        shown = book if events is None else "\n".join(f"{caller}: {what} {value!r}" for what, caller, value in events)
+        super().__init__(f"these calls have no legal order:\n{shown}" if book else "the calls have no legal order")
         self.book = book
         self.reply = reply
+        self.events = events
 
 
 class NoCallLeft(Exception):
@@ -91,18 +97,22 @@ class Enforced:
     a caller that stays with one thread. Where the object's own call raises, the call stays unanswered, since it may have had
     its effect or not, and its caller makes no further call.
 
+    In the place of a kind there may be a model, a sequential object of one's own (see `selfcheck.model`): then operations
+    have any names and arguments, replies are any values, and each call's judgement asks the model for the steps that it
+    lacks. Of a model with keys the calls of all keys are judged together. What the model raises, and `BrokenPromise`, halt
+    the caller.
+
     Raises `ValueError` where there is no such table: it has 1 to 16 callers, with 1 to 256 calls each; and `MemoryError`.
     """
 
     def __init__(self, kind, callers=16, calls=256):
-        if kind not in _KINDS:
+        if isinstance(kind, str) and kind not in _KINDS:
             raise ValueError(f"no kind {kind!r}: {', '.join(_KINDS)}")
         if not 1 <= callers <= 16 or not 1 <= calls <= 256:
             raise ValueError("a table has 1 to 16 callers, with 1 to 256 calls each")
-        self._kind = kind
+        self._judge = _Kind(kind) if isinstance(kind, str) else _of_model(kind)
         self._table = _Handle()
-        name = kind.encode()
-        status = _library.selfcheck_open(name, len(name), callers, calls, self._table.slot)
+        status = self._judge.open(callers, calls, self._table.slot)
         _filled(self._table, status, ValueError("there is no such table"))
         self._changed = threading.Condition()
         self._fence = threading.Lock()
@@ -117,15 +127,15 @@ class Enforced:
 
     def _caller(self):
         handle = _Handle()
-        status = _library.selfcheck_caller(self._table.slot, handle.slot)
+        status = self._judge.caller(self._table.slot, handle.slot)
         lack = NoCallLeft("the table has given all its callers: open it for more, up to 16")
-        return EnforcedCaller(self._kind, _filled(handle, status, lack), self._fence)
+        return EnforcedCaller(self._judge, _filled(handle, status, lack), self._fence)
 
     def call(self, op, *arguments_and_call):
         """Makes a call: the operation's name, its arguments, and what makes the object's own call. Gives back what that
         returned. Raises `Illegal`, `NoCallLeft`, `MemoryError`, and what the object's own call raises."""
         *arguments, make = arguments_and_call
-        operation = _Operation(self._kind, op, arguments)
+        operation = self._judge.operation(op, arguments)
         while True:
             caller, is_announced = self._borrow(), False
             try:
@@ -162,17 +172,18 @@ class Enforced:
 class EnforcedCaller:
     """One caller of an object that checks itself, for one thread."""
 
-    def __init__(self, kind, handle, fence):
-        self._kind = kind
+    def __init__(self, judge, handle, fence):
+        self._judge = judge
         # None where it makes no further call
         self._handle = handle
+        self._told = judge.of_caller(handle)
         self._fence = fence
 
     def call(self, op, *arguments_and_call):
         """Makes a call, as that of `Enforced`. After an error, and where the object's own call raises, the caller makes no
         further call."""
         *arguments, make = arguments_and_call
-        operation = _Operation(self._kind, op, arguments)
+        operation = self._judge.operation(op, arguments)
         if not self._announces(operation):
             raise NoCallLeft("the caller has made its calls, or is halted")
         return self._asks(operation, make)
@@ -180,7 +191,7 @@ class EnforcedCaller:
     def _announces(self, operation):
         if not self._handle:
             return False
-        return _library.selfcheck_announce(self._handle.slot, *operation.words) == _DONE
+        return self._judge.announce(self._handle.slot, operation) == _DONE
 
     # The announced call. Between it and what comes before and after it the caller goes through a lock that all callers
     # share. So of two calls, of which the first one's view misses the second one, the first goes through it earlier, after
@@ -192,9 +203,45 @@ class EnforcedCaller:
         value = make()
         with self._fence:
             pass
-        status = _library.selfcheck_answered(handle.slot, _reply_word(operation.reply(value)))
+        status = self._judge.answered(handle.slot, operation, value, self._told)
         if status == _ILLEGAL:
-            raise Illegal(_text_of(handle, _library.selfcheck_witness), value)
+            raise self._judge.illegal(_text_of(handle, _library.selfcheck_witness), value, self._told)
         _filled(handle, status, AssertionError)
         self._handle = handle
         return value
+
+
+class _Kind:
+    """What a table of a kind asks of the library. Nothing is told to its callers."""
+
+    def __init__(self, name):
+        self.name = name
+
+    def open(self, callers, calls, slot):
+        name = self.name.encode()
+        return _library.selfcheck_open(name, len(name), callers, calls, slot)
+
+    def caller(self, table, slot):
+        return _library.selfcheck_caller(table, slot)
+
+    def of_caller(self, _handle):
+        return None
+
+    def operation(self, op, arguments):
+        return _Operation(self.name, op, arguments)
+
+    def announce(self, slot, operation):
+        return _library.selfcheck_announce(slot, *operation.words)
+
+    def answered(self, slot, operation, value, _told):
+        return _library.selfcheck_answered(slot, _reply_word(operation.reply(value)))
+
+    def illegal(self, book, value, _told):
+        return Illegal(book, value)
+
+
+def _of_model(model):
+    # not above, since the module of models stands on this one
+    from .model import Judge
+
+    return Judge(model)

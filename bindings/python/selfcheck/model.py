@@ -35,10 +35,11 @@ library, which is tested.
 """
 
 import ctypes
+import threading
 from typing import Any, NamedTuple, Optional
 
-from . import _ILLEGAL, _LEGAL, _NO_MEMORY, Incomplete, _library
-from .enforced import _DONE, _SLOT, _Handle, _filled, _text_of
+from . import _ILLEGAL, _LEGAL, _NO_MEMORY, Incomplete, _library, _ModelOperation
+from .enforced import _DONE, _SLOT, _Handle, Illegal, _filled, _text_of
 from .history import MAX_CALLERS, MAX_CALLS, pages_of
 
 _ASK, _PAUSED, _CONTRADICTS, _LEAVES_NOT = 10, 11, 12, 13
@@ -269,6 +270,10 @@ for _name, _arguments in [
     ("selfcheck_model_next", [_SLOT, ctypes.c_uint64, ctypes.POINTER(_Question)]),
     ("selfcheck_model_tell", [_SLOT, _NUMBER, _NUMBER, _NUMBER, _NUMBER]),
     ("selfcheck_model_evidence", [_SLOT, ctypes.c_char_p, ctypes.c_size_t, ctypes.POINTER(ctypes.c_size_t)]),
+    ("selfcheck_model_table", [_NUMBER, ctypes.c_uint64, _SLOT]),
+    ("selfcheck_model_caller", [_SLOT, _SLOT]),
+    ("selfcheck_model_announce", [_SLOT, _NUMBER]),
+    ("selfcheck_model_answered", [_SLOT, _NUMBER]),
     ("selfcheck_model_order", [_SLOT, ctypes.POINTER(_PlacedCall), ctypes.c_size_t, ctypes.POINTER(ctypes.c_size_t)]),
 ]:
     getattr(_library, _name).restype = ctypes.c_uint32
@@ -288,35 +293,39 @@ class _Numbers(dict):
         return self[value]
 
 
-class _Check:
-    """The library's check of one history, and the numbers that it knows values by."""
+class _SharedNumbers(_Numbers):
+    """Numbers that many threads give."""
 
-    def __init__(self, model):
+    def __init__(self):
+        super().__init__()
+        self.lock = threading.Lock()
+
+    def __missing__(self, value):
+        with self.lock:
+            if value not in self:
+                # whoever finds the number finds the value
+                self.all.append(value)
+                self[value] = len(self.all) - 1
+            return self.get(value)
+
+
+class _Told:
+    """What was told of a model, to a check or to a caller whose calls it judges: its states have numbers of their own."""
+
+    def __init__(self, model, handle, ops, replies):
         self.model, self.leaves = model, getattr(model, "leaves", None)
-        self.callers, self.states, self.ops, self.replies = _Numbers(), _Numbers(), _Numbers(), _Numbers()
+        self.handle, self.ops, self.replies, self.states = handle, ops, replies, _Numbers()
         self.states[model.init()]
-        self.handle = _Handle()
-        status = _library.selfcheck_model_open(MAX_CALLERS, self.handle.slot)
-        self.done(status)
-        self.calls = [[] for _ in range(MAX_CALLERS)]
-        # the next state and the reply of each step, by the numbers of all
-        self.told = {}
+        # the next state and the reply of each step, by the numbers of all, and what is promised
+        self.told, self.promised = {}, set()
 
     def done(self, status, lack=AssertionError):
         _filled(self.handle, status, lack)
 
-    def begin(self, caller, op):
-        number, op = self.callers[caller], self.ops[op]
-        status = _library.selfcheck_model_begin(self.handle.slot, number, op)
-        self.done(status, ValueError(f"a history has {MAX_CALLERS} callers with {MAX_CALLS} calls each, of one key"))
-        self.calls[number].append(op)
-
-    def end(self, caller, reply):
-        number, said = self.callers[caller], self.replies[reply]
-        self.done(_library.selfcheck_model_end(self.handle.slot, number, said))
-        op = self.calls[number][-1]
-        if self.leaves and self.leaves(self.ops.all[op], reply):
+    def promise(self, op, said):
+        if self.leaves and (op, said) not in self.promised and self.leaves(self.ops.all[op], self.replies.all[said]):
             self.done(_library.selfcheck_model_leaves(self.handle.slot, op, said))
+            self.promised.add((op, said))
 
     def ask(self, state, op):
         here, operation = self.states.all[state], self.ops.all[op]
@@ -350,6 +359,33 @@ class _Check:
                 if not steps:
                     return None
 
+    def steps(self):
+        """The text of the steps, as that of a model has them after a book."""
+        leaves = [f"leaves op {op} ={said}" for op, said in sorted(self.promised)]
+        steps = [f"{state} op {op} {next} ={said}" for (state, op), (next, said) in sorted(self.told.items())]
+        return "\n".join(["steps 2", *leaves, *steps, "end", ""])
+
+
+class _Check(_Told):
+    """The library's check of one history, and the numbers that it knows values by."""
+
+    def __init__(self, model):
+        super().__init__(model, _Handle(), _Numbers(), _Numbers())
+        self.callers = _Numbers()
+        self.done(_library.selfcheck_model_open(MAX_CALLERS, self.handle.slot))
+        self.calls = [[] for _ in range(MAX_CALLERS)]
+
+    def begin(self, caller, op):
+        number, op = self.callers[caller], self.ops[op]
+        status = _library.selfcheck_model_begin(self.handle.slot, number, op)
+        self.done(status, ValueError(f"a history has {MAX_CALLERS} callers with {MAX_CALLS} calls each, of one key"))
+        self.calls[number].append(op)
+
+    def end(self, caller, reply):
+        number, said = self.callers[caller], self.replies[reply]
+        self.done(_library.selfcheck_model_end(self.handle.slot, number, said))
+        self.promise(self.calls[number][-1], said)
+
     def again(self):
         first, again = self.states.all[0], self.model.init()
         if first != again:
@@ -378,3 +414,79 @@ class _Check:
             caller = self.callers.all[place.caller]
             order.append(Placed(caller, place.number, self.ops.all[op], self.replies.all[reply], self.states.all[state]))
         return order
+
+
+class _AllKeys:
+    """The object of a model with keys: a state for each key whose state isn't the initial one."""
+
+    def __init__(self, model):
+        self.model = model
+        if hasattr(model, "leaves"):
+            self.leaves = model.leaves
+
+    def init(self):
+        return frozenset()
+
+    def step(self, state, op):
+        key, parts, initial = self.model.key(op), dict(state), self.model.init()
+        after, reply = self.model.step(parts.pop(key, initial), op)
+        if after != initial:
+            parts[key] = after
+        return frozenset(parts.items()), reply
+
+
+class Judge:
+    """What a table asks of the library whose calls a model judges. Operations and replies have one number each for all its
+    callers, whoever gives it first."""
+
+    def __init__(self, model):
+        self.model = _AllKeys(model) if hasattr(as_model(model), "key") else model
+        self.ops, self.replies = _SharedNumbers(), _SharedNumbers()
+
+    def open(self, callers, calls, slot):
+        return _library.selfcheck_model_table(callers, calls, slot)
+
+    def caller(self, table, slot):
+        return _library.selfcheck_model_caller(table, slot)
+
+    def of_caller(self, handle):
+        return _Told(self.model, handle, self.ops, self.replies)
+
+    def operation(self, op, arguments):
+        return self.ops[_ModelOperation(op, arguments).told]
+
+    def announce(self, slot, operation):
+        return _library.selfcheck_model_announce(slot, operation)
+
+    def answered(self, slot, operation, value, told):
+        said = self.replies[value]
+        status = _library.selfcheck_model_answered(slot, said)
+        if status != _DONE:
+            return status
+        told.promise(operation, said)
+        return _DONE if told.decide(_ALL_STEPS) else _ILLEGAL
+
+    def illegal(self, book, value, told):
+        if book is None:
+            return Illegal(None, value, [])
+        return Illegal(book + told.steps(), value, self._events(book))
+
+    def _events(self, book):
+        """The history of a model's book. Views are a chain, and a call precedes another one where its view lacks it: so
+        calls end in the order of their views, each after all calls of its view have begun."""
+        calls, views = {}, []
+        for line in book.splitlines()[4:-1]:
+            caller, number, _, op, *answer = line.split()
+            at = int(caller), int(number)
+            calls[at] = self.ops.all[int(op)]
+            if answer:
+                view = [tuple(map(int, pair.split(":"))) for pair in answer[2:]]
+                views.append((sum(count for _, count in view), at, int(answer[0][1:]), view))
+        events, begun = [], {}
+        for _, (caller, _number), said, view in sorted(views):
+            for other, count in view:
+                for number in range(begun.get(other, 0), count):
+                    events.append(("begin", other, calls[other, number]))
+                begun[other] = max(count, begun.get(other, 0))
+            events.append(("end", caller, self.replies.all[said]))
+        return events

@@ -19,7 +19,7 @@ struct Refusal {
 /// `in_use` is 1, and then a pointer to what it owns. The library alone writes to it.
 #[repr(C)]
 #[derive(Debug)]
-struct Slot {
+pub(crate) struct Slot {
     in_use: u32,
     at: *mut c_void,
 }
@@ -113,6 +113,10 @@ unsafe extern "C" {
         room: usize,
         written: &mut usize,
     ) -> u32;
+    fn selfcheck_model_table(callers: u32, calls: u64, slot: &mut Slot) -> u32;
+    fn selfcheck_model_caller(table: &mut Slot, slot: &mut Slot) -> u32;
+    fn selfcheck_model_announce(slot: &mut Slot, op: u32) -> u32;
+    fn selfcheck_model_answered(slot: &mut Slot, reply: u32) -> u32;
 }
 
 const LEGAL: u32 = 0;
@@ -359,8 +363,11 @@ unsafe impl Send for Slot {}
 // What the safety rests on, for each export that is given a slot whose handle goes from thread to
 // thread.
 const _: [unsafe extern "C" fn(&mut Slot) -> u32; 2] = [selfcheck_judge, selfcheck_drop];
-const _: [unsafe extern "C" fn(&mut Slot, &mut Slot) -> u32; 2] =
-    [selfcheck_caller, selfcheck_monitor];
+const _: [unsafe extern "C" fn(&mut Slot, &mut Slot) -> u32; 3] =
+    [selfcheck_caller, selfcheck_monitor, selfcheck_model_caller];
+const _: unsafe extern "C" fn(u32, u64, &mut Slot) -> u32 = selfcheck_model_table;
+const _: [unsafe extern "C" fn(&mut Slot, u32) -> u32; 2] =
+    [selfcheck_model_announce, selfcheck_model_answered];
 const _: unsafe extern "C" fn(&mut Slot, u64, u64) -> u32 = selfcheck_announce;
 const _: [unsafe extern "C" fn(&mut Slot, u64) -> u32; 2] = [selfcheck_answered, selfcheck_publish];
 const _: [WritesText; 2] = [selfcheck_witness, selfcheck_model_evidence];
@@ -406,6 +413,9 @@ lacks! {
     Wrong: Sync, Clone, Copy;
     Watching: Sync, Clone, Copy;
     ModelCheck: Sync, Clone, Copy;
+    ModelIdle: Sync, Clone, Copy;
+    ModelAnnounced: Sync, Clone, Copy;
+    Judging: Sync, Clone, Copy;
 }
 
 impl Slot {
@@ -490,6 +500,22 @@ impl Table {
         let status =
             unsafe { selfcheck_open(kind.as_ptr(), kind.len(), callers, calls, &mut slot) };
         Ok(Table(filled(status, slot)?))
+    }
+
+    /// A table for callers whose calls a model judges.
+    pub(crate) fn of_model(callers: u32, calls: u64) -> Result<Table, Lack> {
+        check_version();
+        let mut slot = Slot::empty();
+        // SAFETY: the slot is this function's own, and new.
+        let status = unsafe { selfcheck_model_table(callers, calls, &mut slot) };
+        Ok(Table(filled(status, slot)?))
+    }
+
+    pub(crate) fn model_caller(&mut self) -> Result<ModelIdle, Lack> {
+        let mut slot = Slot::empty();
+        // SAFETY: as in `caller`.
+        let status = unsafe { selfcheck_model_caller(&mut self.0, &mut slot) };
+        Ok(ModelIdle(filled(status, slot)?))
     }
 
     pub(crate) fn caller(&mut self) -> Result<Idle, Lack> {
@@ -581,6 +607,101 @@ impl Wrong {
     }
 }
 
+/// A caller whose calls a model judges, between two calls.
+#[derive(Debug)]
+pub(crate) struct ModelIdle(Slot);
+
+/// Such a caller whose call is announced.
+#[derive(Debug)]
+pub(crate) struct ModelAnnounced(Slot);
+
+/// Such a caller whose call is published, and whose judgement hasn't ended.
+#[derive(Debug)]
+pub(crate) struct Judging(Slot);
+
+/// What came of a judgement that went on.
+#[derive(Debug)]
+pub(crate) enum Judgement {
+    Delivered(ModelIdle),
+    Illegal(Wrong),
+    Asks {
+        judging: Judging,
+        state: u32,
+        op: u32,
+    },
+    Paused(Judging),
+    /// For want of memory nobody has judged the call.
+    Unjudged,
+}
+
+impl ModelIdle {
+    /// The caller as it is where it has no call left.
+    pub(crate) fn announce(mut self, op: u32) -> Result<ModelAnnounced, ModelIdle> {
+        // SAFETY: the slot is this caller's own.
+        match unsafe { selfcheck_model_announce(&mut self.0, op) } {
+            DONE => Ok(ModelAnnounced(self.0)),
+            UNFIT => Err(self),
+            status => no_such_status(status),
+        }
+    }
+}
+
+impl ModelAnnounced {
+    /// `None` where memory is lacking, and nobody judges the call.
+    pub(crate) fn answered(mut self, reply: u32) -> Option<Judging> {
+        // SAFETY: the slot is this caller's own.
+        match unsafe { selfcheck_model_answered(&mut self.0, reply) } {
+            DONE => Some(Judging(self.0)),
+            NO_MEMORY => None,
+            status => no_such_status(status),
+        }
+    }
+}
+
+impl Judging {
+    pub(crate) fn next(mut self, steps: u64) -> Judgement {
+        match said(&mut self.0, steps) {
+            Ok(ModelAnswer::Legal) => Judgement::Delivered(ModelIdle(self.0)),
+            Ok(ModelAnswer::Illegal) => Judgement::Illegal(Wrong(self.0)),
+            Ok(ModelAnswer::Asks { state, op }) => Judgement::Asks {
+                judging: self,
+                state,
+                op,
+            },
+            Ok(ModelAnswer::Paused) => Judgement::Paused(self),
+            Err(_) => Judgement::Unjudged,
+        }
+    }
+}
+
+/// What is told of a model: a check, or a caller whose calls it judges.
+pub(crate) trait Told {
+    fn slot(&mut self) -> &mut Slot;
+
+    /// Promises that the operation changes no state at which it has this reply.
+    fn leaves(&mut self, op: u32, reply: u32) -> Result<(), ModelFault> {
+        // SAFETY: the slot is this value's own.
+        taken(unsafe { selfcheck_model_leaves(self.slot(), op, reply) })
+    }
+
+    fn tell(&mut self, state: u32, op: u32, next: u32, reply: u32) -> Result<(), ModelFault> {
+        // SAFETY: the slot is this value's own.
+        taken(unsafe { selfcheck_model_tell(self.slot(), state, op, next, reply) })
+    }
+}
+
+impl Told for ModelCheck {
+    fn slot(&mut self) -> &mut Slot {
+        &mut self.0
+    }
+}
+
+impl Told for Judging {
+    fn slot(&mut self) -> &mut Slot {
+        &mut self.0
+    }
+}
+
 /// A check of a history by a model whose steps are asked for. States, operations and replies are
 /// numbers, of which 0 is that of the initial state.
 #[derive(Debug)]
@@ -615,6 +736,23 @@ fn taken(status: u32) -> Result<(), ModelFault> {
     }
 }
 
+// What is said where a check or a judgement goes on by so many steps.
+fn said(slot: &mut Slot, steps: u64) -> Result<ModelAnswer, ModelFault> {
+    let mut question = ModelQuestion::default();
+    // SAFETY: the caller has the slot by `&mut`, and the question is this function's own.
+    match unsafe { selfcheck_model_next(slot, steps, &mut question) } {
+        LEGAL => Ok(ModelAnswer::Legal),
+        ILLEGAL => Ok(ModelAnswer::Illegal),
+        ASK => Ok(ModelAnswer::Asks {
+            state: question.state,
+            op: question.op,
+        }),
+        PAUSED => Ok(ModelAnswer::Paused),
+        NO_MEMORY => Err(ModelFault::NoMemory),
+        status => no_such_status(status),
+    }
+}
+
 impl ModelCheck {
     /// The check of a history of 1 to 16 callers.
     pub(crate) fn open(callers: u32) -> Result<ModelCheck, ModelFault> {
@@ -637,37 +775,8 @@ impl ModelCheck {
         taken(unsafe { selfcheck_model_end(&mut self.0, caller, reply) })
     }
 
-    /// Promises that the operation changes no state at which it has this reply.
-    pub(crate) fn leaves(&mut self, op: u32, reply: u32) -> Result<(), ModelFault> {
-        // SAFETY: the slot is this check's own.
-        taken(unsafe { selfcheck_model_leaves(&mut self.0, op, reply) })
-    }
-
     pub(crate) fn next(&mut self, steps: u64) -> Result<ModelAnswer, ModelFault> {
-        let mut question = ModelQuestion::default();
-        // SAFETY: the slot is this check's own, and the question this function's own.
-        match unsafe { selfcheck_model_next(&mut self.0, steps, &mut question) } {
-            LEGAL => Ok(ModelAnswer::Legal),
-            ILLEGAL => Ok(ModelAnswer::Illegal),
-            ASK => Ok(ModelAnswer::Asks {
-                state: question.state,
-                op: question.op,
-            }),
-            PAUSED => Ok(ModelAnswer::Paused),
-            NO_MEMORY => Err(ModelFault::NoMemory),
-            status => no_such_status(status),
-        }
-    }
-
-    pub(crate) fn tell(
-        &mut self,
-        state: u32,
-        op: u32,
-        next: u32,
-        reply: u32,
-    ) -> Result<(), ModelFault> {
-        // SAFETY: the slot is this check's own.
-        taken(unsafe { selfcheck_model_tell(&mut self.0, state, op, next, reply) })
+        said(&mut self.0, steps)
     }
 
     /// The order of a history with so many calls, which is legal.

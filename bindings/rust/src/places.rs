@@ -66,33 +66,61 @@ impl fmt::Display for NotMade {
 
 impl Error for NotMade {}
 
+/// A caller of a table, between two calls.
+pub(crate) trait Seat: Sized {
+    /// An operation, as the table has it.
+    type Op: Copy;
+
+    /// The caller in a call that is announced.
+    type Announced;
+
+    /// The table's next caller.
+    fn next(table: &mut Table) -> Result<Self, Lack>;
+
+    /// The caller as it is where it has no call left.
+    fn announce(self, op: Self::Op) -> Result<Self::Announced, Self>;
+}
+
+impl Seat for Idle {
+    type Op = u128;
+    type Announced = Announced;
+
+    fn next(table: &mut Table) -> Result<Idle, Lack> {
+        table.caller()
+    }
+
+    fn announce(self, op: u128) -> Result<Announced, Idle> {
+        Idle::announce(self, op)
+    }
+}
+
 /// A table, and its callers that are free.
 #[derive(Debug)]
-pub(crate) struct Places {
-    taken: Mutex<Taken>,
+pub(crate) struct Places<C = Idle> {
+    taken: Mutex<Taken<C>>,
     freed: Condvar,
 }
 
 #[derive(Debug)]
-struct Taken {
+struct Taken<C> {
     table: Table,
     callers_left: usize,
     monitors_left: usize,
     // the last one that has ended a call is the next one that makes one: so there are as few as can
     // be
-    free: Vec<Idle>,
+    free: Vec<C>,
     // how many make a call, and may be free again
     calling: usize,
 }
 
 /// A caller that makes a call for whoever has asked. It is free again where it is handed back.
-pub(crate) struct Borrowed<'a> {
-    places: &'a Places,
-    idle: Option<Idle>,
+pub(crate) struct Borrowed<'a, C: Seat> {
+    places: &'a Places<C>,
+    idle: Option<C>,
 }
 
-impl Places {
-    pub(crate) fn of(table: Table, callers: usize, monitors: usize) -> Places {
+impl<C: Seat> Places<C> {
+    pub(crate) fn of(table: Table, callers: usize, monitors: usize) -> Places<C> {
         Places {
             taken: Mutex::new(Taken {
                 table,
@@ -105,12 +133,12 @@ impl Places {
         }
     }
 
-    fn taken(&self) -> MutexGuard<'_, Taken> {
+    fn taken(&self) -> MutexGuard<'_, Taken<C>> {
         // a caller that panics leaves the table whole
         self.taken.lock().unwrap_or_else(PoisonError::into_inner)
     }
 
-    pub(crate) fn caller(&self) -> Result<Idle, CallerError> {
+    pub(crate) fn caller(&self) -> Result<C, CallerError> {
         self.taken().caller()
     }
 
@@ -123,7 +151,7 @@ impl Places {
     }
 
     // A free caller: waits while all that are left make calls. The lock orders a caller's calls.
-    fn borrow(&self) -> Result<Borrowed<'_>, NotMade> {
+    fn borrow(&self) -> Result<Borrowed<'_, C>, NotMade> {
         let mut taken = self.taken();
         loop {
             let idle = match taken.free.pop() {
@@ -146,7 +174,7 @@ impl Places {
     }
 
     /// A call of a free caller, which is announced.
-    pub(crate) fn announce(&self, op: u128) -> Result<(Borrowed<'_>, Announced), NotMade> {
+    pub(crate) fn announce(&self, op: C::Op) -> Result<(Borrowed<'_, C>, C::Announced), NotMade> {
         loop {
             let mut borrowed = self.borrow()?;
             // one that has no call left isn't handed back
@@ -158,10 +186,10 @@ impl Places {
     }
 }
 
-impl Taken {
-    fn caller(&mut self) -> Result<Idle, CallerError> {
+impl<C: Seat> Taken<C> {
+    fn caller(&mut self) -> Result<C, CallerError> {
         let left = (self.callers_left.checked_sub(1)).ok_or(CallerError::NoneLeft)?;
-        let idle = self.table.caller()?;
+        let idle = C::next(&mut self.table)?;
         self.callers_left = left;
         Ok(idle)
     }
@@ -177,7 +205,10 @@ impl From<CallerError> for NotMade {
 }
 
 /// The announced call of a caller. There is no caller where it makes no further call.
-pub(crate) fn announce(caller: &mut Option<Idle>, op: u128) -> Result<Announced, NotMade> {
+pub(crate) fn announce<C: Seat>(
+    caller: &mut Option<C>,
+    op: C::Op,
+) -> Result<C::Announced, NotMade> {
     let idle = caller.take().ok_or(NotMade::Halted)?;
     idle.announce(op).map_err(|idle| {
         *caller = Some(idle);
@@ -185,13 +216,13 @@ pub(crate) fn announce(caller: &mut Option<Idle>, op: u128) -> Result<Announced,
     })
 }
 
-impl Borrowed<'_> {
-    pub(crate) fn hand_back(mut self, idle: Idle) {
+impl<C: Seat> Borrowed<'_, C> {
+    pub(crate) fn hand_back(mut self, idle: C) {
         self.idle = Some(idle);
     }
 }
 
-impl Drop for Borrowed<'_> {
+impl<C: Seat> Drop for Borrowed<'_, C> {
     fn drop(&mut self) {
         let mut taken = self.places.taken();
         taken.calling -= 1;

@@ -1,4 +1,3 @@
-pub mod Published
 pub mod Watched
 pub mod Values
 pub mod Loosened

@@ -5,9 +5,10 @@ use Rattle.call_handles.specs.declared.caller_handle.CallerHandle.{CallerHandle}
 use Rattle.call_handles.specs.declared.monitor_handle.MonitorHandle.{MonitorHandle}
 use Rattle.call_handles.specs.declared.table_handle.TableHandle.{TableHandle}
 use Rattle.call_handles.specs.declared.handle.Handle.{Handle}
-use Rattle.call_handles.specs.declared.handle.Handle.TheVariants.{Spare, Table, Caller, Monitor, Model}
+use Rattle.call_handles.specs.declared.handle.Handle.TheVariants.{Spare, Table, Caller, Monitor, Modelled, Model}
 use Rattle.call_handles.specs.Tables.{rows_in, next_of}
-use Rattle.call_handles.specs.Slots.{IsCallers, IsMonitors, IsModels, MayGive}
+use Rattle.call_handles.specs.Slots.{IsCallers, IsMonitors, IsModels, IsModelled, MayGive}
+use Rattle.model_callers.specs.declared.model_caller.ModelCaller.{ModelCaller}
 use Rattle.model_checks.specs.declared.check.ModelCheck.{ModelCheck}
 
 -- the caller whose handle is in the place, or else the given one; and likewise the monitor, and the
@@ -16,6 +17,7 @@ abbrev caller_or : CallerHandle → Option Handle → CallerHandle
 caller_or h (Some (Caller k)) = k
 caller_or h (Some (Table t)) = h
 caller_or h (Some (Monitor m)) = h
+caller_or h (Some (Modelled c)) = h
 caller_or h (Some (Model check)) = h
 caller_or h (Some Spare) = h
 caller_or h None = h
@@ -24,6 +26,7 @@ abbrev monitor_or : MonitorHandle → Option Handle → MonitorHandle
 monitor_or m (Some (Monitor k)) = k
 monitor_or m (Some (Caller h)) = m
 monitor_or m (Some (Table t)) = m
+monitor_or m (Some (Modelled c)) = m
 monitor_or m (Some (Model check)) = m
 monitor_or m (Some Spare) = m
 monitor_or m None = m
@@ -32,6 +35,7 @@ abbrev table_or : TableHandle → Option Handle → TableHandle
 table_or t (Some (Table u)) = u
 table_or t (Some (Caller h)) = t
 table_or t (Some (Monitor m)) = t
+table_or t (Some (Modelled c)) = t
 table_or t (Some (Model check)) = t
 table_or t (Some Spare) = t
 table_or t None = t
@@ -53,12 +57,26 @@ model_or check (Some (Model other)) = other
 model_or check (Some (Table t)) = check
 model_or check (Some (Caller h)) = check
 model_or check (Some (Monitor m)) = check
+model_or check (Some (Modelled c)) = check
 model_or check (Some Spare) = check
 model_or check None = check
 
 pub same_model : (a b : ModelCheck)
     → ◌≡◌ {A = Option Handle} (Some (Model a)) (Some (Model b)) → a ≡ b
 same_model a b e = ap (model_or a) e
+
+abbrev modelled_or : ModelCaller → Option Handle → ModelCaller
+modelled_or h (Some (Modelled k)) = k
+modelled_or h (Some (Table t)) = h
+modelled_or h (Some (Caller k)) = h
+modelled_or h (Some (Monitor m)) = h
+modelled_or h (Some (Model check)) = h
+modelled_or h (Some Spare) = h
+modelled_or h None = h
+
+pub same_modelled : (h k : ModelCaller)
+    → ◌≡◌ {A = Option Handle} (Some (Modelled h)) (Some (Modelled k)) → h ≡ k
+same_modelled h k e = ap (modelled_or h) e
 
 -- where a place has this model's check, what holds exactly when the check has a property holds
 -- exactly when the place has a model's check with this property
@@ -68,6 +86,15 @@ pub models_iff : (Yes : Type 0) (Is : ModelCheck → Type 0) (found : Option Han
 models_iff Yes Is found check is iff = (
   λ y. (check, is, iff.0 y),
   λ held. iff.1 (subst Is (same_model held.0 check (sym held.1 ∙ is)) held.2),
+)
+
+-- where a place has this caller whose calls a model judges, what holds exactly when the caller has
+-- a property holds exactly when the place has such a caller with this property
+pub modelled_iff : (Yes : Type 0) (Is : ModelCaller → Type 0) (found : Option Handle)
+    (h : ModelCaller) → found ≡ Some (Modelled h) → (Yes ↔ Is h) → (Yes ↔ IsModelled Is found)
+modelled_iff Yes Is found h is iff = (
+  λ y. (h, is, iff.0 y),
+  λ held. iff.1 (subst Is (same_modelled held.0 h (sym held.1 ∙ is)) held.2),
 )
 
 -- where a place has this caller's handle, what holds exactly when the handle has a property holds

@@ -18,7 +18,7 @@ use Rattle.monitor.specs.Monitors.{caller_of, local_of, own_of, HasFound, IsMoni
 use Rattle.monitor.specs.Worlds.{IsRightRound}
 use Rattle.monitor.proofs.Judged.{rounds_are_right}
 use Rattle.call_handles.specs.declared.monitor_handle.MonitorHandle.{MonitorHandle}
-use Rattle.call_handles.specs.Callers.{every_reply}
+use Rattle.announced_calls.specs.Outside.{every_reply}
 use Rattle.call_handles.specs.Monitors.{rows_watched, IsRightOfRound}
 
 -- what holds of the witness that an option has holds of that witness

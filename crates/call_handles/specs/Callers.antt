@@ -3,8 +3,6 @@ use Rattle.std.specs.Prelude.{◌≡◌, ℕ, ◌<◌, false, List, Option}
 use Rattle.std.specs.Arc.{arc_value}
 use Rattle.book_base.specs.declared.call.Record.{Record}
 use Rattle.book_base.specs.Order.{HasLegalOrder}
-use Rattle.world_core.specs.Shape.{Meaning}
-use Rattle.world_core.specs.Programs.{outside}
 use Rattle.world_core.specs.declared.program.Outside.{Outside}
 use Rattle.seq_objects.specs.declared.kind.Kind.{Kind}
 use Rattle.seq_objects.specs.Objects.{kind_spec}
@@ -29,11 +27,8 @@ use Rattle.call_handles.specs.declared.verdict.HandleVerdict.{HandleVerdict}
 use Rattle.call_handles.specs.declared.verdict.HandleVerdict.TheVariants as verdict
 use Rattle.call_handles.specs.declared.caller_handle.CallerHandle.{CallerHandle}
 use Rattle.call_handles.specs.declared.kept.KeptByHandle.{KeptByHandle}
-use Rattle.call_handles.specs.Ends.{IsAnnouncedBy, IsPublishedBy, IsJudgedAs}
-
--- The meaning of a program whose object is outside the world, which allows every reply.
-abbrev pub every_reply : Outside → ℕ → ℕ → Meaning
-every_reply program n cap = outside
+use Rattle.announced_calls.specs.Outside.{every_reply}
+use Rattle.announced_calls.specs.Ends.{IsAnnouncedBy, IsPublishedBy, IsJudgedAs}
 
 -- The rows of a caller's handle.
 abbrev pub rows_of : CallerHandle → Rows Outside

@@ -1,4 +1,3 @@
-pub mod Ends
 pub mod Callers
 pub mod Monitors
 pub mod Tables

@@ -22,7 +22,7 @@ use Rattle.monitor.specs.Worlds.{IsRightRound}
 use Rattle.call_handles.specs.declared.verdict.HandleVerdict.{HandleVerdict}
 use Rattle.call_handles.specs.declared.verdict.HandleVerdict.TheVariants.{Legal, Illegal, Unjudged}
 use Rattle.call_handles.specs.declared.monitor_handle.MonitorHandle.{MonitorHandle}
-use Rattle.call_handles.specs.Callers.{every_reply}
+use Rattle.announced_calls.specs.Outside.{every_reply}
 
 -- The rows of a monitor's handle.
 abbrev pub rows_watched : MonitorHandle → Rows Outside

@@ -1,6 +1,6 @@
 -- A place for a handle in a program in another language: its handle, and what the calls on it find
 -- and leave there.
-use Rattle.std.specs.Prelude.{◌≡◌, ℕ, ◌≤◌, ◌+◌, List, [], Option, None, Some}
+use Rattle.std.specs.Prelude.{◌≡◌, ◌⊎◌, ℕ, ◌≤◌, ◌+◌, List, [], Option, None, Some}
 use Rattle.book_base.specs.declared.TheConstants.{MAX_CALLERS, MAX_CALLS}
 use Rattle.seq_objects.specs.declared.kind.Kind.{Kind}
 use Rattle.seq_objects.specs.Words.{kind_name}
@@ -9,13 +9,16 @@ use Rattle.call_handles.specs.declared.verdict.HandleVerdict.{HandleVerdict}
 use Rattle.call_handles.specs.declared.monitor_handle.MonitorHandle.{MonitorHandle}
 use Rattle.call_handles.specs.declared.table_handle.TableHandle.{TableHandle}
 use Rattle.call_handles.specs.declared.handle.Handle.{Handle}
-use Rattle.call_handles.specs.declared.handle.Handle.TheVariants.{Spare, Table, Caller, Monitor, Model}
+use Rattle.call_handles.specs.declared.handle.Handle.TheVariants.{Spare, Table, Caller, Monitor, Modelled, Model}
 use Rattle.call_handles.specs.Callers.{IsOfSameTable, IsInError, HasBegun, HasEnded, HasPublished, IsWitnessOf}
 use Rattle.call_handles.specs.Monitors.{IsOfSameWatch, HasFoundWrong, HasJudged, IsFoundWitness}
 use Rattle.call_handles.specs.Tables.{rows_in, kind_in, next_of, GivesNext, IsFreshOf, IsFreshMonitorOf}
 use Rattle.call_handles.specs.declared.role.CallerRole.{CallerRole}
 use Rattle.call_handles.specs.declared.role.CallerRole.TheVariants as role
 use Rattle.call_handles.specs.declared.slot.Slot.{Slot}
+use Rattle.model_callers.specs.declared.model_caller.ModelCaller.{ModelCaller}
+use Rattle.model_callers.specs.Callers as modelled
+use Rattle.model_callers.specs.Told as told
 use Rattle.model_checks.specs.declared.check.ModelCheck.{ModelCheck}
 use Rattle.model_checks.specs.declared.request.ModelRequest.{ModelRequest}
 use Rattle.model_checks.specs.declared.request.ModelReply.{ModelReply}
@@ -36,6 +39,21 @@ pub record IsSized (name : List ℕ) (callers calls : ℕ) : Type 0 where
   pub some_calls : 1 ≤ calls
   pub few_calls : calls ≤ MAX_CALLS
 
+-- A table may be opened with these numbers: there are at least one caller and at most `MAX_CALLERS`,
+-- with at least one call and at most `MAX_CALLS` each.
+pub record IsSizedTable (callers calls : ℕ) : Type 0 where
+  pub some_callers : 1 ≤ callers
+  pub few_callers : callers ≤ MAX_CALLERS
+  pub some_calls : 1 ≤ calls
+  pub few_calls : calls ≤ MAX_CALLS
+
+-- The handle is that of a table, of whatever kind, for this many callers with at most this many
+-- calls each, which has given none of its callers.
+abbrev pub IsOpenedTable : ℕ → ℕ → Option Handle → Type 0
+IsOpenedTable callers calls found =
+    (t : TableHandle) × (found ≡ Some (Table t)) × ((rows_in t).callers ≡ callers)
+    × ((rows_in t).cap ≡ calls) × (next_of t ≡ 0)
+
 -- The handle is that of a table of the kind with this name, for this many callers with at most this
 -- many calls each, which has given none of its callers.
 abbrev pub IsOpened : List ℕ → ℕ → ℕ → Option Handle → Type 0
@@ -53,6 +71,8 @@ abbrev pub IsFreshAs : CallerRole → TableHandle → ℕ → Handle → Type 0
 IsFreshAs role.Caller t who given = (h : CallerHandle) × (given ≡ Caller h) × IsFreshOf t who h
 IsFreshAs role.Monitor t who given = (m : MonitorHandle) × (given ≡ Monitor m)
     × IsFreshMonitorOf t who m
+IsFreshAs role.Modelled t who given = (h : ModelCaller) × (given ≡ Modelled h)
+    × modelled.IsFreshCaller (rows_in t) who h
 
 -- The handles before and after are those of one table, which has given its next caller; the handle
 -- `given` is that caller's, in this role.
@@ -106,16 +126,19 @@ HasWitness (Some Spare) = ⊥
 HasWitness (Some (Table t)) = ⊥
 HasWitness (Some (Caller h)) = IsInError h
 HasWitness (Some (Monitor m)) = HasFoundWrong m
+HasWitness (Some (Modelled h)) = modelled.IsInError h
 HasWitness (Some (Model check)) = ⊥
 
 -- The bytes are the text of the book of the caller's error, or of the monitor's illegal round. This
--- book has no legal order.
+-- book has no legal order; where a model judges the caller's calls, for no object that agrees with
+-- what was told.
 abbrev pub Witnesses : Option Handle → List ℕ → Type 0
 Witnesses None bytes = ⊥
 Witnesses (Some Spare) bytes = ⊥
 Witnesses (Some (Table t)) bytes = ⊥
 Witnesses (Some (Caller h)) bytes = IsWitnessOf h bytes
 Witnesses (Some (Monitor m)) bytes = IsFoundWitness m bytes
+Witnesses (Some (Modelled h)) bytes = told.IsWitnessOf h bytes
 Witnesses (Some (Model check)) bytes = ⊥
 
 -- The handle is a model's check, and the test `Is` holds of it.
@@ -128,8 +151,33 @@ abbrev pub IsOpenedModel : ℕ → Option Handle → Type 0
 IsOpenedModel callers found = IsModels (λ check. (check.book ≡ book_without_calls callers)
     × (check.table ≡ record { init = 0; steps = []; promises = [] })) found
 
--- The handles before and after are those of one model's check, which has replied so to this
--- request.
+-- The handle is a caller's whose calls a model judges, and the test `Is` holds of it.
+abbrev pub IsModelled : (ModelCaller → Type 0) → Option Handle → Type 0
+IsModelled Is found = (h : ModelCaller) × (found ≡ Some (Modelled h)) × Is h
+
+-- The handles before and after are those of a caller of one table whose calls a model judges, and
+-- the relation `Are` holds between them.
+abbrev pub AreModelled : (ModelCaller → ModelCaller → Type 0) → Option Handle → Option Handle
+    → Type 0
+AreModelled Are before after =
+    (h k : ModelCaller) × (before ≡ Some (Modelled h)) × (after ≡ Some (Modelled k))
+    × (modelled.rows_of k ≡ modelled.rows_of h) × Are h k
+
+-- The handle serves a request: it is a model's check, or a caller whose calls a model judges and
+-- that serves the request.
+abbrev pub MayServe : ModelRequest → Option Handle → Type 0
+MayServe request None = ⊥
+MayServe request (Some Spare) = ⊥
+MayServe request (Some (Table t)) = ⊥
+MayServe request (Some (Caller h)) = ⊥
+MayServe request (Some (Monitor m)) = ⊥
+MayServe request (Some (Modelled h)) = told.MayServe request h
+MayServe request (Some (Model check)) = Unit {0}
+
+-- The handles before and after are those of one model's check, or of one caller whose calls a model
+-- judges, which has replied so to this request.
 abbrev pub HasServed : ModelRequest → ModelReply → Option Handle → Option Handle → Type 0
-HasServed request reply before after = (old new : ModelCheck) × (before ≡ Some (Model old))
-    × (after ≡ Some (Model new)) × Serves request old reply new
+HasServed request reply before after =
+    ((old new : ModelCheck) × (before ≡ Some (Model old)) × (after ≡ Some (Model new))
+    × Serves request old reply new)
+    ⊎ AreModelled (λ h k. told.Serves request h reply k) before after

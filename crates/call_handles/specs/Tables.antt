@@ -13,7 +13,8 @@ use Rattle.call_handles.specs.declared.caller_handle.CallerHandle.{CallerHandle}
 use Rattle.call_handles.specs.declared.monitor_handle.MonitorHandle.{MonitorHandle}
 use Rattle.call_handles.specs.declared.stage.HandleStage.TheVariants.{Idle}
 use Rattle.call_handles.specs.declared.table_handle.TableHandle.{TableHandle}
-use Rattle.call_handles.specs.Callers.{every_reply, rows_of, kind_of, stage_of}
+use Rattle.announced_calls.specs.Outside.{every_reply}
+use Rattle.call_handles.specs.Callers.{rows_of, kind_of, stage_of}
 use Rattle.call_handles.specs.Monitors.{rows_watched, kind_watched, monitor_in}
 
 -- The rows of a table's handle.

@@ -2,12 +2,11 @@ ghost use Rattle.std.specs.Prelude.{◌≡◌, ◌↔◌, false, IsTrue, IsSome,
 ghost use Rattle.std.specs.Arc.{arc_value};
 ghost use Rattle.row_table.specs.Callers.{who_of, local_with, stance_of, IsCallerOf, IsFree};
 
-use crate::announcing::announce_alone;
 use crate::judging::judge_alone;
 use crate::kept::KeptByHandle;
-use crate::publishing::publish_alone;
 use crate::stage::{HandleStage, Wrong};
 use crate::verdict::HandleVerdict;
+use announced_calls::{announce_alone, publish_alone};
 use book_base::{NoMemory, OpWord};
 use book_text::write_book;
 use row_table::{Caller, Rows};
@@ -28,7 +27,8 @@ pub struct CallerHandle {
 }
 
 impl CallerHandle {
-    ghost use Rattle.call_handles.specs.Callers.{every_reply, rows_of, kind_of, stage_of, caller_in, IsSoundCaller, IsOfSameTable, MayAnnounce, HasAnnounced, IsInError, HasBegun, HasEnded, HasPublished, IsWitnessOf};
+    ghost use Rattle.announced_calls.specs.Outside.{every_reply};
+    ghost use Rattle.call_handles.specs.Callers.{rows_of, kind_of, stage_of, caller_in, IsSoundCaller, IsOfSameTable, MayAnnounce, HasAnnounced, IsInError, HasBegun, HasEnded, HasPublished, IsWitnessOf};
 
     /// The handle of a caller of the table `rows`, which is between two calls. Its calls are judged
     /// by `kind`.

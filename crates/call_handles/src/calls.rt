@@ -217,6 +217,7 @@ fn witness_of(handle: &Handle, alloc: Global) -> Result<Option<Vec<u8>>, NoMemor
     match handle {
         Handle::Caller(caller) => caller.witness(alloc),
         Handle::Monitor(monitor) => monitor.witness(alloc),
+        Handle::Modelled(caller) => caller.witness(alloc),
         _ => Ok(None),
     }
 }

@@ -4,11 +4,12 @@ ghost use Rattle.row_gather.specs.Gathered.{IsGatheredBy};
 ghost use Rattle.drv_wrapper.specs.States.{caller_announced, announced_local};
 ghost use Rattle.enforcer.specs.Verdicts.{OrderStandsIn};
 ghost use Rattle.seq_objects.specs.Objects.{kind_spec};
-ghost use Rattle.call_handles.specs.Callers.{every_reply, IsSoundAt, AnswersFor};
+ghost use Rattle.announced_calls.specs.Outside.{every_reply};
+ghost use Rattle.call_handles.specs.Callers.{IsSoundAt, AnswersFor};
 
-use crate::publishing::publish_reply;
 use crate::stage::{HandleStage, Wrong};
 use crate::verdict::HandleVerdict;
+use announced_calls::publish_reply;
 use book_base::Record;
 use drv_wrapper::Announced;
 use enforcer::{CallVerdict, Gathered, judge_seen};

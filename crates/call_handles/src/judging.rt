@@ -3,7 +3,8 @@ ghost use Rattle.std.specs.Arc.{arc_value};
 ghost use Rattle.row_table.specs.Callers.{IsCallerOf};
 ghost use Rattle.row_gather.specs.Gathered.{IsGatheredBy};
 ghost use Rattle.drv_wrapper.specs.States.{caller_announced, announced_local};
-ghost use Rattle.call_handles.specs.Callers.{every_reply, IsSoundAt, KeepsStanding, AnswersFor};
+ghost use Rattle.announced_calls.specs.Outside.{every_reply};
+ghost use Rattle.call_handles.specs.Callers.{IsSoundAt, KeepsStanding, AnswersFor};
 
 use crate::finishing::finish;
 use crate::kept::KeptByHandle;

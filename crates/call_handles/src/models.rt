@@ -3,7 +3,7 @@ ghost use Rattle.std.specs.List.{AllByRecursion};
 ghost use Rattle.book_base.specs.declared.TheConstants.{MAX_CALLERS, MAX_CALLS};
 ghost use Rattle.model_checks.specs.Checks.{IsOrderOf, HasOrder, IsEvidenceOf};
 ghost use Rattle.call_handles.specs.Handles.{IsSound};
-ghost use Rattle.call_handles.specs.Slots.{handle_in, IsModels, IsOpenedModel, HasServed};
+ghost use Rattle.call_handles.specs.Slots.{handle_in, IsModels, IsOpenedModel, MayServe, HasServed};
 
 use crate::Handle;
 use crate::slot::Slot;
@@ -39,11 +39,12 @@ pub fn open_model(alloc: Global, callers: u32, slot: &mut Slot) -> Result<bool, 
     Ok(true)
 }
 
-// The handle after a request, where it is a model's check, and the reply.
+// The handle after a request, where it is a model's check, or a caller that serves it, and the
+// reply.
 fn served_by(handle: Handle, given: (Global, ModelRequest)) -> (Handle, Option<ModelReply>)
     requires sound { IsSound handle }
     ensures sound { IsSound result.0 }
-    ensures when { IsSome result.1 ↔ IsModels (λ _. Unit {0}) (Some handle) }
+    ensures when { IsSome result.1 ↔ MayServe given.1 (Some handle) }
     ensures served { IfSome result.1 (λ reply.
         HasServed given.1 reply (Some handle) (Some result.0)) }
     ensures unchanged { IfNone result.1 (result.0 ≡ handle) }
@@ -54,13 +55,18 @@ fn served_by(handle: Handle, given: (Global, ModelRequest)) -> (Handle, Option<M
             let reply = check.serve(alloc, request);
             (Handle::Model(check), Some(reply))
         }
+        Handle::Modelled(caller) => {
+            let (alloc, request) = given;
+            let (caller, reply) = caller.serve(alloc, request);
+            (Handle::Modelled(caller), reply)
+        }
         handle => (handle, None),
     }
 }
 
 fn served_in(slot: Slot, given: (Global, ModelRequest)) -> (Slot, Option<ModelReply>)
     requires taken { IsTrue (is_some (handle_in slot)) }
-    ensures when { IsSome result.1 ↔ IsModels (λ _. Unit {0}) (handle_in slot) }
+    ensures when { IsSome result.1 ↔ MayServe given.1 (handle_in slot) }
     ensures served { IfSome result.1 (λ reply.
         HasServed given.1 reply (handle_in slot) (handle_in result.0)) }
     ensures unchanged { IfNone result.1 (handle_in result.0 ≡ handle_in slot) }
@@ -70,11 +76,12 @@ fn served_in(slot: Slot, given: (Global, ModelRequest)) -> (Slot, Option<ModelRe
     (Slot::of(handle), reply)
 }
 
-/// Does what a program asks of the model's check that is in the slot. Without a reply the slot has
-/// none, and its handle is as it was.
+/// Does what a program asks of the model's check that is in the slot, or of the caller whose calls a
+/// model judges. Without a reply the slot has neither that serves this, and its handle is as it was.
 pub fn serve(alloc: Global, slot: &mut Slot, request: ModelRequest) -> Option<ModelReply>
-    // There is a reply exactly where the slot has a model's check.
-    ensures when { IsSome result ↔ IsModels (λ _. Unit {0}) (handle_in slot.old) }
+    // There is a reply exactly where the slot has a model's check, or a caller that serves the
+    // request.
+    ensures when { IsSome result ↔ MayServe request (handle_in slot.old) }
     // A reply is right.
     ensures served { IfSome result (λ reply.
         HasServed request reply (handle_in slot.old) (handle_in slot.new)) }

@@ -29,7 +29,7 @@ pub struct MonitorHandle {
 
 impl MonitorHandle {
     ghost use Rattle.monitor.specs.Monitors.{caller_of, own_of};
-    ghost use Rattle.call_handles.specs.Callers.{every_reply};
+    ghost use Rattle.announced_calls.specs.Outside.{every_reply};
     ghost use Rattle.call_handles.specs.Monitors.{rows_watched, kind_watched, monitor_in, IsSoundMonitor, IsOfSameWatch, MayJudge, HasFoundWrong, HasJudged, IsFoundWitness};
 
     /// Makes `caller`, a caller of the table `rows` that is between two calls, a monitor, and gives

@@ -1,7 +1,7 @@
 ghost use Rattle.std.specs.Prelude.{◌≡◌, ◌↔◌, ◌+◌, IsTrue, IsSome, IsNone, IfSome, IfNone, IfOk, IfErr, Some, None, is_some};
 ghost use Rattle.call_handles.specs.Handles.{IsSound};
 ghost use Rattle.call_handles.specs.Tables.{rows_in, next_of, IsSoundTable, GivesNext};
-ghost use Rattle.call_handles.specs.Slots.{handle_in, IsSized, IsOpened, MayGive, IsFreshAs, HasGiven};
+ghost use Rattle.call_handles.specs.Slots.{handle_in, IsSized, IsSizedTable, IsOpened, IsOpenedTable, MayGive, IsFreshAs, HasGiven};
 
 use crate::role::CallerRole;
 use crate::slot::Slot;
@@ -52,6 +52,38 @@ pub fn open(
     Ok(true)
 }
 
+/// Opens a table for this many callers, 1 to 16, with 1 to 256 calls each, whose calls a model is to
+/// judge, and puts its handle into the slot. The answer is whether it does: it doesn't where the
+/// callers or the calls aren't within these limits, or where the slot has a handle.
+pub fn open_modelled(
+    alloc: Global,
+    callers: u32,
+    calls: u64,
+    slot: &mut Slot,
+) -> Result<bool, NoMemory>
+    // The answer is true exactly where the callers and the calls are within the limits, and the slot
+    // had no handle.
+    ensures when { IfOk result (λ done. IsTrue done ↔
+        IsSizedTable callers calls × (handle_in slot.old ≡ None)) }
+    // With true the slot has the handle of a table with these callers and calls, which has given no
+    // caller.
+    ensures opened { IfOk result (λ done. IsTrue done →
+        IsOpenedTable callers calls (handle_in slot.new)) }
+    // With false the slot is as it was.
+    ensures unchanged { IfOk result (λ done. ¬ IsTrue done → slot.new ≡ slot.old) }
+    // After want of memory the slot is as it was.
+    ensures no_memory { IfErr result (λ _. slot.new ≡ slot.old) }
+{
+    // a table has a kind, which a caller whose calls a model judges never uses
+    open(
+        alloc,
+        Kind::Register.name().as_bytes(),
+        callers,
+        calls,
+        slot,
+    )
+}
+
 // The handle in this role of the next caller of a table, while there is one.
 fn next_in(table: &mut TableHandle, given: (Global, CallerRole)) -> Result<Option<Handle>, NoMemory>
     requires sound { IsSoundTable table.old }
@@ -74,6 +106,10 @@ fn next_in(table: &mut TableHandle, given: (Global, CallerRole)) -> Result<Optio
         },
         CallerRole::Monitor => match table.monitor(alloc)? {
             Some(monitor) => Ok(Some(Handle::Monitor(monitor))),
+            None => Ok(None),
+        },
+        CallerRole::Modelled => match table.modelled(alloc)? {
+            Some(caller) => Ok(Some(Handle::Modelled(caller))),
             None => Ok(None),
         },
     }

@@ -7,6 +7,7 @@ ghost use Rattle.drv_wrapper.specs.Stands.{ready};
 use crate::caller_handle::CallerHandle;
 use crate::monitor_handle::MonitorHandle;
 use book_base::{MAX_CALLERS, MAX_CALLS, NoMemory};
+use model_callers::ModelCaller;
 use row_table::{Bench, Caller, Rows};
 use seq_objects::Kind;
 use std::alloc::Global;
@@ -14,7 +15,7 @@ use std::sync::Arc;
 use world_core::Outside;
 
 /// A table, which gives the handles of its callers one by one, each to make calls or as a monitor.
-/// All of them judge by one kind.
+/// All of them judge by one kind, but for those whose calls a model judges.
 ///
 /// The table's memory is freed when its own handle and all handles that it gave are dropped.
 #[derive(Drop)]
@@ -26,9 +27,11 @@ pub struct TableHandle {
 }
 
 impl TableHandle {
-    ghost use Rattle.call_handles.specs.Callers.{every_reply, IsSoundCaller};
+    ghost use Rattle.announced_calls.specs.Outside.{every_reply};
+    ghost use Rattle.call_handles.specs.Callers.{IsSoundCaller};
     ghost use Rattle.call_handles.specs.Monitors.{IsSoundMonitor};
     ghost use Rattle.call_handles.specs.Tables.{rows_in, kind_in, next_of, IsSoundTable, GivesNext, IsFreshOf, IsFreshMonitorOf};
+    ghost use Rattle.model_callers.specs.Callers as modelled;
 
     /// Opens a table for `callers` callers with at most `calls` calls each, which are judged by
     /// `kind`.
@@ -128,6 +131,38 @@ impl TableHandle {
         let rows = Arc::try_clone(&self.rows)?;
         let caller = self.take_next();
         Ok(Some(MonitorHandle::new(alloc, rows, self.kind, caller)))
+    }
+
+    /// The table's next caller as one whose calls a model judges, or `None` where the table has given
+    /// all its callers. Where memory is lacking, the table is as it was.
+    pub fn modelled(&mut self, alloc: Global) -> Result<Option<ModelCaller>, NoMemory>
+        // The table is sound: its bench holds each caller that wasn't given, unused.
+        requires sound { IsSoundTable self.old }
+        // The table is still sound: its bench holds each caller that wasn't given, unused.
+        ensures sound { IsSoundTable self.new }
+        // There is no caller exactly where the table has given all its callers.
+        ensures when { IfOk result
+            (λ found. IsNone found ↔ (next_of self.old ≡ (rows_in self.old).callers)) }
+        // It is the table's next caller, which has made no call, and to which nothing was told.
+        ensures given { IfOk result (λ found. IfSome found
+            (modelled.IsFreshCaller (rows_in self.old) (next_of self.old))) }
+        // It is sound: its parts fit one another.
+        ensures given_sound { IfOk result (λ found. IfSome found modelled.IsSoundCaller) }
+        // Where a caller is answered, the table has its rows and its kind as before, and the number
+        // of the caller that it gives next is one more.
+        ensures next { IfOk result (λ found. IfSome found (λ _.
+            GivesNext (next_of self.old + 1) self.old self.new)) }
+        // Without a caller the table's handle is as it was.
+        ensures none { IfOk result (λ found. IfNone found (self.new ≡ self.old)) }
+        // After want of memory the table is as it was.
+        ensures unchanged { IfErr result (λ _. self.new ≡ self.old) }
+    {
+        if self.next == self.rows.callers() {
+            return Ok(None);
+        }
+        let rows = Arc::try_clone(&self.rows)?;
+        let caller = self.take_next();
+        Ok(Some(ModelCaller::new(alloc, rows, caller)))
     }
 
     // Takes the next caller of the table off its bench.

@@ -6,7 +6,8 @@ ghost use Rattle.model_checks.specs.declared.request.ModelReply.{ModelReply};
 ghost use Rattle.model_checks.specs.declared.request.ModelRequest.{ModelRequest};
 ghost use Rattle.model_checks.specs.History.{MayBegin, MayEnd};
 ghost use Rattle.model_checks.specs.Checks.{HasOrder, IsOrderOf, IsEvidenceOf};
-ghost use Rattle.call_handles.specs.Slots.{handle_in, IsModels, IsOpenedModel, HasServed};
+ghost use Rattle.model_callers.specs.Callers.{MayAnnounce, HasAnnounced, HasBegun, IsToBeJudged, IsHalted};
+ghost use Rattle.call_handles.specs.Slots.{handle_in, IsSizedTable, IsOpenedTable, MayGive, HasGiven, IsModels, IsModelled, AreModelled, IsOpenedModel, MayServe, HasServed};
 ghost use Rattle.selfcheck_c.specs.declared.TheConstants.{LEGAL, ILLEGAL, NO_MEMORY, NO_ROOM};
 ghost use Rattle.selfcheck_c.specs.declared.handles.TheConstants.{DONE, UNFIT};
 ghost use Rattle.selfcheck_c.specs.Models.{named_call};
@@ -16,7 +17,10 @@ use crate::handles::{DONE, UNFIT};
 use crate::placed::{PlacedCall, put_calls};
 use crate::{ILLEGAL, LEGAL, NO_MEMORY, NO_ROOM};
 use book_base::NoMemory;
-use call_handles::{Slot, model_evidence, model_order, open_model, serve};
+use call_handles::{
+    CallerRole, Slot, announce_modelled, answered_modelled, give, model_evidence, model_order,
+    open_model, open_modelled, serve,
+};
 use model_checks::{ModelAnswer, ModelReply, ModelRequest, ModelStep};
 use std::alloc::Global;
 
@@ -116,8 +120,8 @@ pub extern "C" fn selfcheck_model_end(
     }
 }
 
-/// Promises that the operation changes no state at which it has this reply. Each told step is held
-/// against it.
+/// Promises that the operation changes no state at which it has this reply, to a check or to a
+/// caller whose calls a model judges. Each told step is held against it.
 #[unsafe(no_mangle)]
 pub extern "C" fn selfcheck_model_leaves(alloc: Global, slot: &mut Slot, op: u32, reply: u32) -> u32
     // With `DONE` the promise is made, and all else is as before.
@@ -126,9 +130,11 @@ pub extern "C" fn selfcheck_model_leaves(alloc: Global, slot: &mut Slot, op: u32
     // With `LEAVES_NOT` a told step breaks the promise.
     ensures broken { result ≡ LEAVES_NOT → HasServed (ModelRequest.Leaves op reply)
         ModelReply.LeavesNot (handle_in slot.old) (handle_in slot.new) }
-    // The status is `UNFIT` exactly where the slot has no check of a model.
-    ensures unfit { (result ≡ UNFIT) ↔ ¬ IsModels (λ _. Unit {0}) (handle_in slot.old) }
-    // With each status but `DONE` the check is as it was.
+    // The status is `UNFIT` exactly where the slot has neither a check of a model nor a caller whose
+    // calls a model judges.
+    ensures unfit { (result ≡ UNFIT) ↔
+        ¬ MayServe (ModelRequest.Leaves op reply) (handle_in slot.old) }
+    // With each status but `DONE` the handle is as it was.
     ensures unchanged { ¬ (result ≡ DONE) → handle_in slot.new ≡ handle_in slot.old }
     // The status is `DONE`, `LEAVES_NOT`, `NO_MEMORY` or `UNFIT`.
     ensures ends { (result ≡ DONE) ⊎ (result ≡ LEAVES_NOT) ⊎ (result ≡ NO_MEMORY)
@@ -144,7 +150,8 @@ pub extern "C" fn selfcheck_model_leaves(alloc: Global, slot: &mut Slot, op: u32
     }
 }
 
-/// Goes on with the check, by at most so many steps.
+/// Goes on with the check, or with the judgement of the published call of a caller, by at most so
+/// many steps.
 #[unsafe(no_mangle)]
 pub extern "C" fn selfcheck_model_next(
     alloc: Global,
@@ -153,10 +160,11 @@ pub extern "C" fn selfcheck_model_next(
     question: &mut ModelQuestion,
 ) -> u32
     // With `LEGAL` the history has an order that is legal for each object that agrees with what was
-    // told.
+    // told. A caller's reply is delivered, and it is between two calls.
     ensures legal { result ≡ LEGAL → HasServed (ModelRequest.GoOn steps)
         (ModelReply.Said ModelAnswer.Legal) (handle_in slot.old) (handle_in slot.new) }
-    // With `ILLEGAL` no object that agrees with what was told has a legal order of the history.
+    // With `ILLEGAL` no object that agrees with what was told has a legal order of the history. A
+    // caller makes no further call.
     ensures illegal { result ≡ ILLEGAL → HasServed (ModelRequest.GoOn steps)
         (ModelReply.Said ModelAnswer.Illegal) (handle_in slot.old) (handle_in slot.new) }
     // With `ASK` the question has a state and an operation of the history whose step wasn't told.
@@ -166,11 +174,12 @@ pub extern "C" fn selfcheck_model_next(
     // With `PAUSED` what is left to try has become less by as many as there are steps.
     ensures paused { result ≡ PAUSED → HasServed (ModelRequest.GoOn steps)
         (ModelReply.Said ModelAnswer.Paused) (handle_in slot.old) (handle_in slot.new) }
-    // With `NO_MEMORY` the history and what was told are as before.
+    // With `NO_MEMORY` the history and what was told are as before, and a further call goes on.
     ensures no_memory { result ≡ NO_MEMORY → HasServed (ModelRequest.GoOn steps)
         ModelReply.NoMemory (handle_in slot.old) (handle_in slot.new) }
-    // The status is `UNFIT` exactly where the slot has no check of a model.
-    ensures unfit { (result ≡ UNFIT) ↔ ¬ IsModels (λ _. Unit {0}) (handle_in slot.old) }
+    // The status is `UNFIT` exactly where the slot has neither a check of a model nor a caller whose
+    // call is published and isn't judged.
+    ensures unfit { (result ≡ UNFIT) ↔ ¬ MayServe (ModelRequest.GoOn steps) (handle_in slot.old) }
     // With `UNFIT` the handle is as it was.
     ensures unchanged { result ≡ UNFIT → handle_in slot.new ≡ handle_in slot.old }
     // With each status but `ASK` the question is as it was.
@@ -196,8 +205,8 @@ pub extern "C" fn selfcheck_model_next(
     }
 }
 
-/// Tells a step of the model: at this state the operation leads to the state `next`, and has this
-/// reply.
+/// Tells a step of the model, to a check or to a caller whose calls a model judges: at this state the
+/// operation leads to the state `next`, and has this reply.
 #[unsafe(no_mangle)]
 pub extern "C" fn selfcheck_model_tell(
     alloc: Global,
@@ -219,9 +228,12 @@ pub extern "C" fn selfcheck_model_tell(
     ensures broken { result ≡ LEAVES_NOT → HasServed
         (ModelRequest.Tell (record { state = state; op = op; next = next; reply = reply }))
         ModelReply.LeavesNot (handle_in slot.old) (handle_in slot.new) }
-    // The status is `UNFIT` exactly where the slot has no check of a model.
-    ensures unfit { (result ≡ UNFIT) ↔ ¬ IsModels (λ _. Unit {0}) (handle_in slot.old) }
-    // With each status but `DONE` the check is as it was.
+    // The status is `UNFIT` exactly where the slot has neither a check of a model nor a caller whose
+    // calls a model judges.
+    ensures unfit { (result ≡ UNFIT) ↔ ¬ MayServe
+        (ModelRequest.Tell (record { state = state; op = op; next = next; reply = reply }))
+        (handle_in slot.old) }
+    // With each status but `DONE` the handle is as it was.
     ensures unchanged { ¬ (result ≡ DONE) → handle_in slot.new ≡ handle_in slot.old }
     // The status is `DONE`, `CONTRADICTS`, `LEAVES_NOT`, `NO_MEMORY` or `UNFIT`.
     ensures ends { (result ≡ DONE) ⊎ (result ≡ CONTRADICTS) ⊎ (result ≡ LEAVES_NOT)
@@ -332,6 +344,114 @@ pub extern "C" fn selfcheck_model_evidence(
             if put(buffer, &text) { DONE } else { NO_ROOM }
         }
         Ok(None) => UNFIT,
+        Err(NoMemory) => NO_MEMORY,
+    }
+}
+
+/// Opens a table for this many callers, 1 to 16, with 1 to 256 calls each, whose calls a model is to
+/// judge, and puts its handle into the slot, which is to have none.
+#[unsafe(no_mangle)]
+pub extern "C" fn selfcheck_model_table(
+    alloc: Global,
+    callers: u32,
+    calls: u64,
+    slot: &mut Slot,
+) -> u32
+    // With `DONE` the slot has the handle of a table with these callers and calls, which has given no
+    // caller.
+    ensures opened { result ≡ DONE → IsOpenedTable callers calls (handle_in slot.new) }
+    // With `DONE` the callers and the calls are within the limits, and the slot had no handle.
+    ensures fit { result ≡ DONE → IsSizedTable callers calls × (handle_in slot.old ≡ None) }
+    // With `UNFIT` the callers or the calls aren't within the limits, or the slot had a handle.
+    ensures unfit { result ≡ UNFIT →
+        ¬ (IsSizedTable callers calls × (handle_in slot.old ≡ None)) }
+    // With each status but `DONE` the slot is as it was.
+    ensures unchanged { ¬ (result ≡ DONE) → slot.new ≡ slot.old }
+    // The status is `DONE`, `NO_MEMORY` or `UNFIT`.
+    ensures ends { (result ≡ DONE) ⊎ (result ≡ NO_MEMORY) ⊎ (result ≡ UNFIT) }
+{
+    match open_modelled(alloc, callers, calls, slot) {
+        Ok(true) => DONE,
+        Ok(false) => UNFIT,
+        Err(NoMemory) => NO_MEMORY,
+    }
+}
+
+/// Puts the next caller of a table, which is to have callers left, into the slot, which is to have no
+/// handle: one whose calls a model judges, of which nothing was told but that its initial state has
+/// the number 0.
+#[unsafe(no_mangle)]
+pub extern "C" fn selfcheck_model_caller(alloc: Global, table: &mut Slot, slot: &mut Slot) -> u32
+    // With `DONE` the table had a caller left to give, and the slot had no handle.
+    ensures fit { result ≡ DONE → MayGive (handle_in table.old) × (handle_in slot.old ≡ None) }
+    // With `DONE` the slot has the table's next caller, which has made no call, and the table gives
+    // the caller after it next.
+    ensures given { result ≡ DONE →
+        HasGiven CallerRole.Modelled (handle_in table.old) (handle_in table.new)
+        (handle_in slot.new) }
+    // With `UNFIT` there is no table with a caller left to give, or the slot had a handle.
+    ensures unfit { result ≡ UNFIT
+        → ¬ (MayGive (handle_in table.old) × (handle_in slot.old ≡ None)) }
+    // With each status but `DONE` the table and the slot are as they were.
+    ensures unchanged { ¬ (result ≡ DONE) →
+        (handle_in table.new ≡ handle_in table.old) × (slot.new ≡ slot.old) }
+    // The status is `DONE`, `NO_MEMORY` or `UNFIT`.
+    ensures ends { (result ≡ DONE) ⊎ (result ≡ NO_MEMORY) ⊎ (result ≡ UNFIT) }
+{
+    match give(alloc, CallerRole::Modelled, table, slot) {
+        Ok(true) => DONE,
+        Ok(false) => UNFIT,
+        Err(NoMemory) => NO_MEMORY,
+    }
+}
+
+/// Announces a call of the slot's caller, whose calls a model judges, and which is to be between two
+/// calls and have one left, with this operation.
+#[unsafe(no_mangle)]
+pub extern "C" fn selfcheck_model_announce(alloc: Global, slot: &mut Slot, op: u32) -> u32
+    // The status is `DONE` exactly where the slot has a caller whose calls a model judges, that is
+    // between two calls and has a call left.
+    ensures when { (result ≡ DONE) ↔ IsModelled MayAnnounce (handle_in slot.old) }
+    // With `DONE` the slot's caller has announced a call with this operation.
+    ensures begun { result ≡ DONE
+        → AreModelled (HasBegun op) (handle_in slot.old) (handle_in slot.new) }
+    // With each status but `DONE` the handle is as it was.
+    ensures unchanged { ¬ (result ≡ DONE) → handle_in slot.new ≡ handle_in slot.old }
+    // The status is `DONE` or `UNFIT`.
+    ensures ends { (result ≡ DONE) ⊎ (result ≡ UNFIT) }
+{
+    if announce_modelled(alloc, slot, op) {
+        DONE
+    } else {
+        UNFIT
+    }
+}
+
+/// Hands in the object's reply to the call that the slot's caller has announced, and publishes the
+/// call, which is to be judged by `selfcheck_model_next`.
+#[unsafe(no_mangle)]
+pub extern "C" fn selfcheck_model_answered(alloc: Global, slot: &mut Slot, reply: u32) -> u32
+    // With `DONE` the call is published with this reply, and the book at the cut that its caller has
+    // seen since is gathered and is to be judged.
+    ensures judging { result ≡ DONE →
+        AreModelled (IsToBeJudged reply) (handle_in slot.old) (handle_in slot.new) }
+    // With `NO_MEMORY` the call is published with this reply, nobody judges it, and its caller makes
+    // no further call.
+    ensures halted { result ≡ NO_MEMORY →
+        AreModelled (IsHalted reply) (handle_in slot.old) (handle_in slot.new) }
+    // The status is `UNFIT` exactly where the slot has no caller whose calls a model judges, with an
+    // announced call whose reply isn't handed in yet.
+    ensures unfit { (result ≡ UNFIT) ↔ ¬ IsModelled HasAnnounced (handle_in slot.old) }
+    // With `UNFIT` the handle is as it was.
+    ensures unchanged { result ≡ UNFIT → handle_in slot.new ≡ handle_in slot.old }
+    // The status is `DONE`, `NO_MEMORY` or `UNFIT`.
+    ensures ends { (result ≡ DONE) ⊎ (result ≡ NO_MEMORY) ⊎ (result ≡ UNFIT) }
+{
+    let Some(answer) = answered_modelled(alloc, slot, reply) else {
+        return UNFIT;
+    };
+    match answer {
+        Ok(()) => DONE,
         Err(NoMemory) => NO_MEMORY,
     }
 }

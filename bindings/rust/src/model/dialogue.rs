@@ -1,26 +1,27 @@
 use super::{Model, ModelError, Order};
 use crate::history::Pages;
-use crate::library::{ModelAnswer, ModelCheck, ModelFault};
+use crate::library::{ModelAnswer, ModelCheck, ModelFault, Told};
 use std::collections::{BTreeMap, HashMap};
-use std::fmt::Debug;
+use std::fmt::{self, Debug, Write};
 use std::hash::Hash;
+use std::sync::{Mutex, PoisonError};
 
 /// Values with their numbers, from 0 on.
 #[derive(Debug)]
-struct Numbered<T> {
+pub(crate) struct Numbered<T> {
     numbers: HashMap<T, u32>,
     values: Vec<T>,
 }
 
 impl<T: Clone + Eq + Hash> Numbered<T> {
-    fn new() -> Numbered<T> {
+    pub(crate) fn new() -> Numbered<T> {
         Numbered {
             numbers: HashMap::new(),
             values: Vec::new(),
         }
     }
 
-    fn number(&mut self, value: &T) -> u32 {
+    pub(crate) fn number(&mut self, value: &T) -> u32 {
         if let Some(number) = self.numbers.get(value) {
             return *number;
         }
@@ -30,7 +31,7 @@ impl<T: Clone + Eq + Hash> Numbered<T> {
         number
     }
 
-    fn value(&self, number: u32) -> &T {
+    pub(crate) fn value(&self, number: u32) -> &T {
         &self.values[number as usize]
     }
 }
@@ -46,18 +47,48 @@ impl<T: Debug> Numbered<T> {
     }
 }
 
-/// The dialogue of a check with a model.
-pub(crate) struct Dialogue<'a, M: Model> {
-    model: &'a M,
-    pages: &'a Pages<M::Op, M::Reply>,
-    check: ModelCheck,
+/// Operations and replies with their numbers.
+#[derive(Debug)]
+pub(crate) struct Names<M: Model> {
+    pub(crate) ops: Numbered<M::Op>,
+    pub(crate) replies: Numbered<M::Reply>,
+}
+
+impl<M: Model> Names<M> {
+    pub(crate) fn new() -> Names<M> {
+        Names {
+            ops: Numbered::new(),
+            replies: Numbered::new(),
+        }
+    }
+}
+
+/// What has names: one check has its own, and all callers of a table share theirs, under a lock.
+pub(crate) trait Naming<M: Model> {
+    fn with<T>(&mut self, act: impl FnOnce(&mut Names<M>) -> T) -> T;
+}
+
+impl<M: Model> Naming<M> for Names<M> {
+    fn with<T>(&mut self, act: impl FnOnce(&mut Names<M>) -> T) -> T {
+        act(self)
+    }
+}
+
+impl<M: Model> Naming<M> for &Mutex<Names<M>> {
+    fn with<T>(&mut self, act: impl FnOnce(&mut Names<M>) -> T) -> T {
+        // where a `Hash` or an `Eq` panics, no number is given
+        act(&mut self.lock().unwrap_or_else(PoisonError::into_inner))
+    }
+}
+
+/// What was told of a model, to one check or to one caller: its states have numbers of their own.
+#[derive(Debug)]
+pub(crate) struct Taught<M: Model> {
     states: Numbered<M::State>,
-    ops: Numbered<M::Op>,
-    replies: Numbered<M::Reply>,
     // at a state and an operation the next state and the reply
     told: BTreeMap<(u32, u32), (u32, u32)>,
     // whether it is promised that an operation with a reply changes no state
-    promises: HashMap<(u32, u32), bool>,
+    promises: BTreeMap<(u32, u32), bool>,
 }
 
 impl From<ModelFault> for ModelError {
@@ -69,6 +100,116 @@ impl From<ModelFault> for ModelError {
     }
 }
 
+impl<M: Model> Taught<M> {
+    pub(crate) fn new(model: &M) -> Taught<M> {
+        let mut states = Numbered::new();
+        states.number(&model.initial());
+        Taught {
+            states,
+            told: BTreeMap::new(),
+            promises: BTreeMap::new(),
+        }
+    }
+
+    /// Makes the model's promise of the operation with this reply, if it has one, once.
+    pub(crate) fn promise(
+        &mut self,
+        model: &M,
+        to: &mut impl Told,
+        (op, op_value): (u32, &M::Op),
+        (reply, reply_value): (u32, &M::Reply),
+    ) -> Result<(), ModelFault> {
+        if self.promises.contains_key(&(op, reply)) {
+            return Ok(());
+        }
+        let leaves = model.leaves(op_value, reply_value);
+        self.promises.insert((op, reply), leaves);
+        if leaves {
+            to.leaves(op, reply)?;
+        }
+        Ok(())
+    }
+
+    /// Asks the model for the step, and tells it. Names are locked at no call of the model.
+    pub(crate) fn tell(
+        &mut self,
+        model: &M,
+        names: &mut impl Naming<M>,
+        to: &mut impl Told,
+        (state, op): (u32, u32),
+    ) -> Result<(), ModelError> {
+        let op_value = names.with(|names| names.ops.value(op).clone());
+        let (next, reply_value) = model.step(self.states.value(state), &op_value);
+        let reply = names.with(|names| names.replies.number(&reply_value));
+        let step = (self.states.number(&next), reply);
+        self.promise(model, to, (op, &op_value), (reply, &reply_value))?;
+        match to.tell(state, op, step.0, step.1) {
+            Ok(()) => {
+                self.told.insert((state, op), step);
+                Ok(())
+            }
+            Err(ModelFault::NoMemory) => Err(ModelError::NoMemory),
+            Err(ModelFault::Contradicts | ModelFault::LeavesNot) => {
+                Err(self.refused(names, (state, op), step))
+            }
+        }
+    }
+
+    fn refused(
+        &self,
+        names: &mut impl Naming<M>,
+        (state, op): (u32, u32),
+        (next, reply): (u32, u32),
+    ) -> ModelError {
+        let first = self.told.get(&(state, op)).copied();
+        names.with(|names| {
+            let reply_of = |reply| names.replies.value(reply);
+            let pair = |(next, reply)| format!("{:?}", (self.states.value(next), reply_of(reply)));
+            let (state, op) = (self.states.text(state), names.ops.text(op));
+            match first {
+                Some(first) => ModelError::Contradicts {
+                    state,
+                    op,
+                    first: pair(first),
+                    second: pair((next, reply)),
+                },
+                None => ModelError::LeavesNot {
+                    state,
+                    op,
+                    reply: names.replies.text(reply),
+                    next: self.states.text(next),
+                },
+            }
+        })
+    }
+
+    /// The steps as the text of a model has them after a book: promises and then steps, by their
+    /// numbers, which rise.
+    pub(crate) fn text(&self) -> String {
+        let mut text = String::from("steps 2\n");
+        let mut line = |line: fmt::Arguments| {
+            text.write_fmt(line).expect("a string takes any line");
+        };
+        for ((op, reply), _) in self.promises.iter().filter(|(_, is_made)| **is_made) {
+            line(format_args!("leaves op {op} ={reply}\n"));
+        }
+        for ((state, op), (next, reply)) in &self.told {
+            line(format_args!("{state} op {op} {next} ={reply}\n"));
+        }
+        line(format_args!("end\n"));
+        text
+    }
+}
+
+/// The dialogue of a check with a model.
+pub(crate) struct Dialogue<'a, M: Model> {
+    model: &'a M,
+    pages: &'a Pages<M::Op, M::Reply>,
+    check: ModelCheck,
+    names: Names<M>,
+    taught: Taught<M>,
+}
+
 impl<'a, M: Model> Dialogue<'a, M> {
     /// Of the calls of 1 to 16 callers. The calls of each are one after another.
     pub(crate) fn new(model: &'a M, pages: &'a Pages<M::Op, M::Reply>) -> Result<Self, ModelError> {
@@ -76,13 +217,9 @@ impl<'a, M: Model> Dialogue<'a, M> {
             model,
             pages,
             check: ModelCheck::open(pages.len() as u32)?,
-            states: Numbered::new(),
-            ops: Numbered::new(),
-            replies: Numbered::new(),
-            told: BTreeMap::new(),
-            promises: HashMap::new(),
+            names: Names::new(),
+            taught: Taught::new(model),
         };
-        dialogue.states.number(&model.initial());
         dialogue.take_calls()?;
         Ok(dialogue)
     }
@@ -100,27 +237,15 @@ impl<'a, M: Model> Dialogue<'a, M> {
         }
         events.sort_unstable_by_key(|(moment, ..)| *moment);
         for (_, caller, op, reply) in events {
-            let op = self.ops.number(op);
+            let number = self.names.ops.number(op);
             let Some(reply) = reply else {
-                self.check.begin(caller, op)?;
+                self.check.begin(caller, number)?;
                 continue;
             };
-            let reply = self.replies.number(reply);
-            self.check.end(caller, reply)?;
-            self.promise(op, reply)?;
-        }
-        Ok(())
-    }
-
-    // Makes the model's promise of the operation with this reply, if it has one, once.
-    fn promise(&mut self, op: u32, reply: u32) -> Result<(), ModelFault> {
-        if self.promises.contains_key(&(op, reply)) {
-            return Ok(());
-        }
-        let leaves = (self.model).leaves(self.ops.value(op), self.replies.value(reply));
-        self.promises.insert((op, reply), leaves);
-        if leaves {
-            self.check.leaves(op, reply)?;
+            let said = self.names.replies.number(reply);
+            self.check.end(caller, said)?;
+            let (op, reply) = ((number, op), (said, reply));
+            (self.taught).promise(self.model, &mut self.check, op, reply)?;
         }
         Ok(())
     }
@@ -143,54 +268,22 @@ impl<'a, M: Model> Dialogue<'a, M> {
     }
 
     fn tell(&mut self, state: u32, op: u32) -> Result<(), ModelError> {
-        let (next, reply) = (self.model).step(self.states.value(state), self.ops.value(op));
-        let step = (self.states.number(&next), self.replies.number(&reply));
-        self.promise(op, step.1)?;
-        match self.check.tell(state, op, step.0, step.1) {
-            Ok(()) => {
-                self.told.insert((state, op), step);
-                Ok(())
-            }
-            Err(ModelFault::NoMemory) => Err(ModelError::NoMemory),
-            Err(ModelFault::Contradicts | ModelFault::LeavesNot) => {
-                Err(self.refused(state, op, step))
-            }
-        }
-    }
-
-    fn refused(&self, state: u32, op: u32, (next, reply): (u32, u32)) -> ModelError {
-        let first = self.told.get(&(state, op)).copied();
-        let pair =
-            |(next, reply)| format!("{:?}", (self.states.value(next), self.replies.value(reply)));
-        let (state, op) = (self.states.text(state), self.ops.text(op));
-        match first {
-            Some(first) => ModelError::Contradicts {
-                state,
-                op,
-                first: pair(first),
-                second: pair((next, reply)),
-            },
-            None => ModelError::LeavesNot {
-                state,
-                op,
-                reply: self.replies.text(reply),
-                next: self.states.text(next),
-            },
-        }
+        let (names, check) = (&mut self.names, &mut self.check);
+        self.taught.tell(self.model, names, check, (state, op))
     }
 
     /// Asks the model again for each step that was told.
     pub(crate) fn tell_again(&mut self) -> Result<(), ModelError> {
-        let told: Vec<_> = self.told.keys().copied().collect();
+        let told: Vec<_> = self.taught.told.keys().copied().collect();
         told.into_iter()
             .try_for_each(|(state, op)| self.tell(state, op))
     }
 
     /// The calls and the steps that the model was asked for, as a text, and what its numbers mean.
     pub(crate) fn evidence(&mut self) -> Result<(String, String), ModelError> {
-        let mut names = self.ops.lines("op");
-        names += &self.replies.lines("reply");
-        names += &self.states.lines("state");
+        let mut names = self.names.ops.lines("op");
+        names += &self.names.replies.lines("reply");
+        names += &self.taught.states.lines("state");
         Ok((self.check.evidence()?, names))
     }
 
@@ -201,12 +294,12 @@ impl<'a, M: Model> Dialogue<'a, M> {
         let placed = self.check.order(calls)?.into_iter().map(|at| {
             let call = &self.pages[at.caller as usize][at.number as usize];
             // a legal order's steps are all told
-            let (next, reply) = self.told[&(state, self.ops.numbers[&call.op])];
+            let (next, reply) = self.taught.told[&(state, self.names.ops.numbers[&call.op])];
             state = next;
             (
                 call.invoked,
                 call.op.clone(),
-                self.replies.value(reply).clone(),
+                self.names.replies.value(reply).clone(),
             )
         });
         Ok(placed.collect())

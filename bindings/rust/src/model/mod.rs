@@ -81,11 +81,13 @@
 //! callers, few values, [`Model::leaves`] and [`Model::key`] help, and [`verify_within`] ends.
 
 mod dialogue;
+mod enforced;
 mod hunts;
 mod relation;
 mod verdict;
 
 pub use crate::schedule::draw::Draw;
+pub use enforced::{CallError, CallErrorOf, Enforced, EnforcedCaller, WrongCalls};
 pub use hunts::{ModelFinding, Runs, hunt, replay};
 pub use relation::{ByReply, Relation};
 pub use verdict::{Evidence, ModelError, ModelVerdict, Placed};

@@ -25,3 +25,15 @@ returns-in-Monitor-clause-text c =
     subst (λ (h : Handle). IfOk c.witness-in-Monitor.result
     (λ found. IfSome found (λ text. Witnesses (Some h) text.items)))
     (sym c.in-Monitor.is) c.witness-in-Monitor.ensures.text
+
+pub returns-in-Modelled-clause-when : goal.returns-in-Modelled-clause-when
+returns-in-Modelled-clause-when c =
+    subst (λ (h : Handle).
+    IfOk c.witness-in-Modelled.result (λ found. IsSome found ↔ HasWitness (Some h)))
+    (sym c.in-Modelled.is) c.witness-in-Modelled.ensures.when
+
+pub returns-in-Modelled-clause-text : goal.returns-in-Modelled-clause-text
+returns-in-Modelled-clause-text c =
+    subst (λ (h : Handle). IfOk c.witness-in-Modelled.result
+    (λ found. IfSome found (λ text. Witnesses (Some h) text.items)))
+    (sym c.in-Modelled.is) c.witness-in-Modelled.ensures.text

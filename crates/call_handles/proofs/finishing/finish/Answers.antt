@@ -9,9 +9,9 @@ use Rattle.enforcer.specs.declared.call_verdict.CallVerdict.{CallVerdict}
 use Rattle.enforcer.specs.declared.outcome.Outcome.TheVariants as outcome
 use Rattle.enforcer.specs.States.{caller_seen, cut_seen, record_seen}
 use Rattle.enforcer.specs.Verdicts.{IsOutcome}
-use Rattle.call_handles.specs.Callers.{every_reply}
-use Rattle.call_handles.specs.Ends.{IsJudgedAs}
-use Rattle.call_handles.proofs.Published.{same_stays, peeks_stay, judged_as, delivered_with}
+use Rattle.announced_calls.specs.Outside.{every_reply}
+use Rattle.announced_calls.specs.Ends.{IsJudgedAs}
+use Rattle.announced_calls.proofs.Published.{same_stays, peeks_stay, judged_as, delivered_with}
 use Rattle.call_handles.proofs.finishing.finish.Goals as goal
 
 pub judge_seen-requires-clause-rows : goal.judge_seen-requires-clause-rows

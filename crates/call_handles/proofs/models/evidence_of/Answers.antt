@@ -1,7 +1,4 @@
-use Rattle.std.proofs.Common.{◌↔◌, IsSome, IfSome, Some, refl, ap}
-use Rattle.model_checks.specs.Checks.{IsEvidenceOf}
-use Rattle.call_handles.specs.Slots.{IsModels}
-use Rattle.call_handles.proofs.Sorts.{models_iff}
+use Rattle.std.proofs.Common.{Some, refl, ap}
 use Rattle.call_handles.proofs.models.evidence_of.Goals as goal
 
 pub returns-in_ok-evidence-in-Model-clause-when : goal.returns-in_ok-evidence-in-Model-clause-when

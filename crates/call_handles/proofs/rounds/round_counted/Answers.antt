@@ -3,7 +3,7 @@ use Rattle.book_base.specs.Order.{HasLegalOrder}
 use Rattle.seq_objects.specs.Objects.{kind_spec}
 use Rattle.row_table.specs.declared.rows.Rows.{Rows}
 use Rattle.monitor.specs.Monitors.{local_of, own_of, IsMonitorOf}
-use Rattle.call_handles.specs.Callers.{every_reply}
+use Rattle.announced_calls.specs.Outside.{every_reply}
 use Rattle.call_handles.specs.Monitors.{IsRightOfRound}
 use Rattle.call_handles.proofs.Watched.{has_none, none_after, right_of_round}
 use Rattle.call_handles.proofs.rounds.round_counted.Goals as goal

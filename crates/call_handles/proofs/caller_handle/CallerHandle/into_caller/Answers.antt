@@ -1,6 +1,7 @@
 use Rattle.std.proofs.Common.{subst}
 use Rattle.call_handles.specs.declared.stage.HandleStage.{HandleStage}
-use Rattle.call_handles.specs.Callers.{every_reply, rows_of, IsSoundAt}
+use Rattle.announced_calls.specs.Outside.{every_reply}
+use Rattle.call_handles.specs.Callers.{rows_of, IsSoundAt}
 use Rattle.call_handles.proofs.caller_handle.CallerHandle.into_caller.Goals as goal
 
 pub returns-in-Announced-clause-caller : goal.returns-in-Announced-clause-caller

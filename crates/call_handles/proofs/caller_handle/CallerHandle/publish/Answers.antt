@@ -4,8 +4,9 @@ use Rattle.row_table.specs.Callers.{local_with}
 use Rattle.row_gather.proofs.Kept.{gathered_by_stays}
 use Rattle.drv_wrapper.specs.States.{announced_local}
 use Rattle.call_handles.specs.declared.stage.HandleStage.{HandleStage}
-use Rattle.call_handles.specs.Callers.{every_reply, rows_of, IsSoundAt}
-use Rattle.call_handles.specs.Ends.{IsPublishedBy}
+use Rattle.announced_calls.specs.Outside.{every_reply}
+use Rattle.call_handles.specs.Callers.{rows_of, IsSoundAt}
+use Rattle.announced_calls.specs.Ends.{IsPublishedBy}
 use Rattle.call_handles.proofs.caller_handle.CallerHandle.publish.Goals as goal
 
 pub returns-in-Announced-clause-sound : goal.returns-in-Announced-clause-sound

@@ -2,7 +2,7 @@ use Rattle.std.specs.Arc.{arc_value}
 use Rattle.book_base.specs.Order.{HasLegalOrder}
 use Rattle.seq_objects.specs.Objects.{kind_spec}
 use Rattle.monitor.specs.Monitors.{own_of}
-use Rattle.call_handles.specs.Callers.{every_reply}
+use Rattle.announced_calls.specs.Outside.{every_reply}
 use Rattle.call_handles.proofs.Watched.{has_none}
 use Rattle.call_handles.proofs.monitor_handle.MonitorHandle.new.Goals as goal
 

@@ -1,4 +1,0 @@
-use Rattle.call_handles.proofs.publishing.publish_alone.Given as goal
-
-abbrev pub ghosts-publish_counted : goal.ghosts-publish_counted
-ghosts-publish_counted a = record { name = a.blank.name; parts = a.blank.parts }
