@@ -142,6 +142,11 @@ impl ToldTable {
         self.promises.contains(&(op, reply))
     }
 
+    // How many promises the table has.
+    pub(crate) fn number_of_promises(&self) -> usize {
+        self.promises.len()
+    }
+
     /// The told steps, in the order of their states and then of their operation words.
     pub fn steps(&self, alloc: Global) -> Result<BTreeMap<(u64, OpWord), Transition>, NoMemory>
         // The map has at each pair of a state and an operation word the transition that was told

@@ -62,6 +62,7 @@ impl ToldSearch {
         let Some(walk) = &mut self.walk else {
             return Ok(Some(Answer::Legal(Vec::new(alloc))));
         };
+        walk.see_promises(table, book);
         for _step in 0..steps {
             match walk.advance(alloc, table, book)? {
                 Step::Found(order) => return Ok(Some(Answer::Legal(order))),

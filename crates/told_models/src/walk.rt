@@ -5,13 +5,13 @@ ghost use Rattle.book_base.specs.Book.{Page, IsCall, record_of};
 ghost use Rattle.book_base.specs.Next.{next_call, HoldsAnswered};
 ghost use Rattle.book_base.specs.Pruning.{IsLeast};
 ghost use Rattle.legal_orders.specs.Standing.{word_of};
-ghost use Rattle.search_hints.specs.Marks.{IsMarked, MarksAllNext};
+ghost use Rattle.search_hints.specs.Marks.{IsMarked, IsMarkedWithin, MarksAllNext};
 ghost use Rattle.told_models.specs.Table.{Table, told_step, IsPromised};
 ghost use Rattle.told_models.specs.Walking.{IsWalk, IsRightStep, IsRecorded, IsSpared, IsLeftOut, Serves, Enters, order_of};
-ghost use Rattle.told_models.specs.Weighing.{number_marked, weight_at, most_weight, IsLighter};
+ghost use Rattle.told_models.specs.Weighing.{number_marked, weight, weight_at, most_weight, IsLighter};
 
 use crate::table::{ToldTable, Transition};
-use book_base::{Book, Call, Cut, NoMemory, OpWord, Place};
+use book_base::{Book, Call, Cut, MAX_CALLERS, NoMemory, OpWord, Place};
 use frontier_check::Memo;
 use search_hints::{MarkedCallers, all_next, cut_of, first_view, has_one_open, least_open};
 use std::alloc::Global;
@@ -26,8 +26,8 @@ pub struct Frame {
 }
 
 /// Where a search is: the frames that lead from the beginning to a cut and a state, the counts of
-/// the cut, the callers whose next calls are still to be tried there, and the dead ends that were
-/// found.
+/// the cut, the callers whose next calls are still to be tried there, the dead ends that were found,
+/// the turns of the callers' next calls, and how many promises these know.
 #[derive(Drop)]
 pub struct Walk {
     pub frames: Vec<Frame>,
@@ -36,6 +36,8 @@ pub struct Walk {
     pub waiting: MarkedCallers,
     pub memo: Memo,
     pub one_open: bool,
+    pub turns: [u64; MAX_CALLERS],
+    pub promises: usize,
 }
 
 /// What one step of a search comes to.
@@ -66,6 +68,7 @@ impl Walk {
         };
         let waiting = next_callers(book, &counts, first);
         let memo = Memo::new(alloc, counts.len());
+        let turns = turns_of(table, book, &counts);
         Ok(Some(Walk {
             frames: Vec::new(alloc),
             counts,
@@ -73,7 +76,23 @@ impl Walk {
             waiting,
             memo,
             one_open: has_one_open(book),
+            turns,
+            promises: table.number_of_promises(),
         }))
+    }
+
+    /// Sets the turns anew where more was promised.
+    pub fn see_promises(&mut self, table: &ToldTable, book: &Book)
+        requires walk { IsWalk table.now book.now self.old }
+        ensures walk { IsWalk table.now book.now self.new }
+        ensures weight { weight book.now self.new ≡ weight book.now self.old }
+    {
+        let promises = table.number_of_promises();
+        if promises == self.promises {
+            return;
+        }
+        self.turns = turns_of(table, book, &self.counts);
+        self.promises = promises;
     }
 
     /// Makes one step: tries the next call of a waiting caller, or goes back where none waits.
@@ -90,7 +109,7 @@ impl Walk {
     {
         let Some(caller) = self.pick(table, book) else {
             self.memo.remember(alloc, &self.counts, &[self.state])?;
-            return Ok(self.retreat());
+            return Ok(self.retreat(table, book));
         };
         let number = u64::from(self.counts[caller as usize]);
         let op = book.op(Call { caller, number });
@@ -107,23 +126,46 @@ impl Walk {
             number,
             reply: transition.reply,
         };
-        self.enter(alloc, book, place, transition.next)
+        self.enter(alloc, table, book, place, transition.next)
     }
 
-    // A waiting caller whose next call is to be tried: one whose call is promised to change no
-    // state, where there is one; else one whose step is told, and of these the one whose view
-    // counts the fewest calls. No clause says which one it is: that only decides how long a search
-    // takes.
+    // A waiting caller whose next call is to be tried: that with the least turn where it is 0, or
+    // its step is told; else of those whose steps are told the one with the least turn, where there
+    // is one. No clause says which one it is: that only decides how long a search takes.
     fn pick(&self, table: &ToldTable, book: &Book) -> Option<u32>
         requires { IsWalk table.now book.now self.now }
         ensures some { IfSome result (IsMarked self.now.waiting) }
         ensures none { IfNone result ((i : ℕ) → IsMarked self.now.waiting i → ⊥) }
     {
+        let first = self.least_turn(book, self.waiting)?;
+        if self.turns[first as usize] == 0 || self.is_told(table, book, first) {
+            return Some(first);
+        }
+        let mut left = self.waiting.without(first);
+        for _other in 1..book.callers() {
+            let Some(caller) = self.least_turn(book, left) else {
+                break;
+            };
+            if self.is_told(table, book, caller) {
+                return Some(caller);
+            }
+            left = left.without(caller);
+        }
+        Some(first)
+    }
+
+    // The one with the least turn among some of the waiting callers.
+    fn least_turn(&self, book: &Book, among: MarkedCallers) -> Option<u32>
+        requires walk { (table : Table) × IsWalk table book.now self.now }
+        requires waiting { IsMarkedWithin among self.now.waiting }
+        ensures some { IfSome result (IsMarked among) }
+        ensures none { IfNone result ((i : ℕ) → IsMarked among i → ⊥) }
+    {
         let mut best = None;
         let mut least = u64::MAX;
         for caller in 0..book.callers() {
-            if self.waiting.has(caller) {
-                let turn = self.turn(table, book, caller);
+            if among.has(caller) {
+                let turn = self.turns[caller as usize];
                 if best.is_none() || turn < least {
                     best = Some(caller);
                     least = turn;
@@ -133,25 +175,15 @@ impl Walk {
         best
     }
 
-    // The turn of a waiting caller's next call: the one with the least turn is tried first.
-    fn turn(&self, table: &ToldTable, book: &Book, caller: u32) -> u64
+    // Whether the step of a waiting caller's next call is told.
+    fn is_told(&self, table: &ToldTable, book: &Book, caller: u32) -> bool
         requires walk { IsWalk table.now book.now self.now }
         requires waiting { IsMarked self.now.waiting caller }
     {
         let number = u64::from(self.counts[caller as usize]);
-        let call = Call { caller, number };
-        if is_promised(table, book, call) {
-            return 0;
-        }
-        let seen = if number < book.answers(caller) {
-            calls_in(book.view(call))
-        } else {
-            UNANSWERED
-        };
-        match table.get(self.state, book.op(call)) {
-            Some(_) => seen,
-            None => seen.saturating_add(UNTOLD),
-        }
+        table
+            .get(self.state, book.op(Call { caller, number }))
+            .is_some()
     }
 
     // Whether a waiting caller's next call, which makes this transition, needn't be tried.
@@ -191,7 +223,7 @@ impl Walk {
         ensures fewer { number_marked result ≤ number_marked self.now.waiting }
     {
         let number = u64::from(self.counts[caller as usize]);
-        if is_promised(table, book, Call { caller, number }) {
+        if self.turns[caller as usize] == 0 && is_promised(table, book, Call { caller, number }) {
             MarkedCallers::only(caller)
         } else {
             self.waiting
@@ -249,17 +281,16 @@ impl Walk {
     fn enter(
         &mut self,
         alloc: Global,
+        table: &ToldTable,
         book: &Book,
         place: Place,
         next: u64,
     ) -> Result<Step, NoMemory>
-        requires { (table : Table) × IsWalk table book.now self.old
-            × IsMarked self.old.waiting place.caller
-            × Enters table book.now self.old.counts.items self.old.state place next }
-        ensures { IfOk result (λ step. (table : Table) → IsWalk table book.now self.old
-            → Enters table book.now self.old.counts.items self.old.state place next
-            → IsWalk table book.now self.new × IsRightStep table book.now step
-            × IsLighter book.now self.old step self.new) }
+        requires walk { IsWalk table.now book.now self.old }
+        requires waiting { IsMarked self.old.waiting place.caller }
+        requires enters { Enters table.now book.now self.old.counts.items self.old.state place next }
+        ensures { IfOk result (λ step. IsWalk table.now book.now self.new
+            × IsRightStep table.now book.now step × IsLighter book.now self.old step self.new) }
     {
         let before = self.waiting;
         set_count(&mut self.counts, place.caller, place.number + 1);
@@ -282,16 +313,16 @@ impl Walk {
         })?;
         self.state = next;
         self.waiting = waiting;
+        self.turns[place.caller as usize] = turn_of(table, book, &self.counts, place.caller);
         Ok(Step::GoesOn)
     }
 
     // Goes back by one frame from a dead end; `NoneLeft` comes where the walk has no frame.
-    fn retreat(&mut self) -> Step
-        requires { (table : Table) × (book : List Page) × IsWalk table book self.old }
-        ensures { (table : Table) (book : List Page) → IsWalk table book self.old
-            → ((i : ℕ) → IsMarked self.old.waiting i → ⊥)
-            → IsWalk table book self.new × IsRightStep table book result
-            × IsLighter book self.old result self.new }
+    fn retreat(&mut self, table: &ToldTable, book: &Book) -> Step
+        requires walk { IsWalk table.now book.now self.old }
+        requires none { (i : ℕ) → IsMarked self.old.waiting i → ⊥ }
+        ensures { IsWalk table.now book.now self.new × IsRightStep table.now book.now result
+            × IsLighter book.now self.old result self.new }
     {
         let Some(frame) = self.frames.pop() else {
             return Step::NoneLeft;
@@ -304,6 +335,7 @@ impl Walk {
         set_count(&mut self.counts, place.caller, place.number);
         self.state = state;
         self.waiting = waiting.without(place.caller);
+        self.turns[place.caller as usize] = turn_of(table, book, &self.counts, place.caller);
         Step::GoesOn
     }
 }
@@ -325,11 +357,42 @@ fn is_promised(table: &ToldTable, book: &Book, call: Call) -> bool
     call.number < book.answers(call.caller) && table.is_promised(book.op(call), book.reply(call))
 }
 
-// What an unanswered call has in place of the number of calls in its view, so that it comes after
-// all answered ones; and what is added for a call whose step isn't told.
-const UNANSWERED: u64 = 1 << 32;
+// The turns of all callers' next calls after a cut.
+fn turns_of(table: &ToldTable, book: &Book, counts: &[u16]) -> [u64; MAX_CALLERS]
+    requires wide { length counts.now ≡ length book.now }
+    requires few { length book.now ≤ MAX_CALLERS }
+{
+    let mut turns = [u64::MAX; MAX_CALLERS];
+    for caller in 0..book.callers() {
+        turns[caller as usize] = turn_of(table, book, counts, caller);
+    }
+    turns
+}
 
-const UNTOLD: u64 = 1 << 33;
+// The turn of a caller's next call after a cut: of the calls that wait, the one with the least turn
+// is tried first. It is 0 for a call that is promised to change no state, else how many calls an
+// answered call's view counts, then that of unanswered calls, and last that of a caller without a
+// next call.
+fn turn_of(table: &ToldTable, book: &Book, counts: &[u16], caller: u32) -> u64
+    requires wide { length counts.now ≡ length book.now }
+    requires caller { caller < length book.now }
+{
+    let number = u64::from(counts[caller as usize]);
+    if number >= book.calls(caller) {
+        return u64::MAX;
+    }
+    let call = Call { caller, number };
+    if is_promised(table, book, call) {
+        0
+    } else if number < book.answers(caller) {
+        calls_in(book.view(call))
+    } else {
+        UNANSWERED
+    }
+}
+
+// The turn of an unanswered call, later than that of all answered ones.
+const UNANSWERED: u64 = 1 << 32;
 
 // How many calls a view counts, of all callers together.
 fn calls_in(view: &Cut) -> u64 {

@@ -6,6 +6,9 @@ use std::fmt::{self, Debug, Write};
 use std::hash::Hash;
 use std::sync::{Mutex, PoisonError};
 
+/// How many steps of a check that counts them are made at once.
+const PORTION: u64 = 16;
+
 /// Values with their numbers, from 0 on.
 #[derive(Debug)]
 pub(crate) struct Numbered<T> {
@@ -252,17 +255,19 @@ impl<'a, M: Model> Dialogue<'a, M> {
 
     /// Whether the calls have a legal order; `None` where that takes more steps.
     pub(crate) fn judge(&mut self, steps: Option<u64>) -> Result<Option<bool>, ModelError> {
-        // one by one, where they are counted: what is left when it asks isn't told
-        let at_once = steps.map_or(u64::MAX, |_| 1);
+        let portion = steps.map_or(u64::MAX, |_| PORTION);
         let mut left = steps.unwrap_or(u64::MAX);
         while left > 0 {
-            match self.check.next(at_once)? {
+            let part = portion.min(left);
+            match self.check.next(part)? {
                 ModelAnswer::Legal => return Ok(Some(true)),
                 ModelAnswer::Illegal => return Ok(Some(false)),
                 ModelAnswer::Asks { state, op } => self.tell(state, op)?,
                 ModelAnswer::Paused => {}
             }
-            left -= 1;
+            if steps.is_some() {
+                left -= part;
+            }
         }
         Ok(None)
     }

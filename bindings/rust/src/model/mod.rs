@@ -169,8 +169,8 @@ pub fn verify<M: Model>(model: &M, history: &HistoryOf<M>) -> Result<VerdictOf<M
     judge(model, history, None, false)
 }
 
-/// As [`verify`], but unknown where the search takes more steps, for some key. A question to the
-/// model is a step too.
+/// As [`verify`], but unknown where the search takes more steps, for some key. They are made in
+/// portions of 16, of which each question to the model uses up one.
 ///
 /// # Errors
 ///

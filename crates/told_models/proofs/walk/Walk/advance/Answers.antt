@@ -14,35 +14,20 @@ remember-requires-clause-wide c =
     ∙ (walk_wide c.args.table.now c.args.book.now c.args.self.now c.requires.walk
     ∙ sym c.requires.walk.callers)
 
-pub retreat-requires : goal.retreat-requires
-retreat-requires c = (
-  c.args.table.now,
-  c.args.book.now,
-  walk_remembers c.args.table.now c.args.book.now c.args.self.now c.remember.new.self
-      c.deref.result.now c.requires.walk c.in_default.ensures.none c.deref.ensures.value
-      c.in_ok-remember.ensures.memo c.in_ok-remember.ensures.callers c.in_ok-remember.ensures.only,
-)
+pub retreat-requires-clause-walk : goal.retreat-requires-clause-walk
+retreat-requires-clause-walk c =
+    walk_remembers c.args.table.now c.args.book.now c.args.self.now c.remember.new.self
+    c.deref.result.now c.requires.walk c.in_default.ensures.none c.deref.ensures.value
+    c.in_ok-remember.ensures.memo c.in_ok-remember.ensures.callers c.in_ok-remember.ensures.only
 
 pub returns-in_default-clause-walk : goal.returns-in_default-clause-walk
-returns-in_default-clause-walk c = (c.retreat.ensures c.args.table.now c.args.book.now
-    (walk_remembers c.args.table.now c.args.book.now c.args.self.now c.remember.new.self
-    c.deref.result.now c.requires.walk c.in_default.ensures.none c.deref.ensures.value
-    c.in_ok-remember.ensures.memo c.in_ok-remember.ensures.callers
-    c.in_ok-remember.ensures.only) c.in_default.ensures.none).0
+returns-in_default-clause-walk c = c.retreat.ensures.0
 
 pub returns-in_default-clause-step : goal.returns-in_default-clause-step
-returns-in_default-clause-step c = (c.retreat.ensures c.args.table.now c.args.book.now
-    (walk_remembers c.args.table.now c.args.book.now c.args.self.now c.remember.new.self
-    c.deref.result.now c.requires.walk c.in_default.ensures.none c.deref.ensures.value
-    c.in_ok-remember.ensures.memo c.in_ok-remember.ensures.callers
-    c.in_ok-remember.ensures.only) c.in_default.ensures.none).1
+returns-in_default-clause-step c = c.retreat.ensures.1
 
 pub returns-in_default-clause-lighter : goal.returns-in_default-clause-lighter
-returns-in_default-clause-lighter c = (c.retreat.ensures c.args.table.now c.args.book.now
-    (walk_remembers c.args.table.now c.args.book.now c.args.self.now c.remember.new.self
-    c.deref.result.now c.requires.walk c.in_default.ensures.none c.deref.ensures.value
-    c.in_ok-remember.ensures.memo c.in_ok-remember.ensures.callers
-    c.in_ok-remember.ensures.only) c.in_default.ensures.none).2
+returns-in_default-clause-lighter c = c.retreat.ensures.2
 
 pub index-requires : goal.index-requires
 index-requires c =
@@ -121,8 +106,14 @@ to_try-self-requires-clause-told c =
     ap (λ (o : Option ℕ). told_step table walk.state (unwrap_or o 0)) is_op
     ∙ (sym c.get.ensures ∙ c.in-Some-get.is)
 
-pub enter-requires : goal.enter-requires
-enter-requires c =
+pub enter-requires-clause-walk : goal.enter-requires-clause-walk
+enter-requires-clause-walk c = c.to_try-self.ensures.walk
+
+pub enter-requires-clause-waiting : goal.enter-requires-clause-waiting
+enter-requires-clause-waiting c = c.to_try-self.ensures.marked
+
+pub enter-requires-clause-enters : goal.enter-requires-clause-enters
+enter-requires-clause-enters c =
     let table = c.args.table.now in
     let book = c.args.book.now in
     let walk = c.args.self.now in
@@ -132,7 +123,7 @@ enter-requires c =
     let same = walk_call table book walk caller c.index.result.now c.from-number.result h marked
     c.index.ensures c.from-number.ensures in
     let tried = c.to_try-self.ensures in
-    let enters = walk_may_enter table book (record walk { waiting = c.to_try-self.result })
+    walk_may_enter table book (record walk { waiting = c.to_try-self.result })
     (record {
       caller = caller;
       number = c.from-number.result;
@@ -140,76 +131,25 @@ enter-requires c =
     })
     c.op-op.result c.in-Some-get.transition tried.walk tried.marked same refl c.op-op.ensures
     (sym c.get.ensures ∙ c.in-Some-get.is)
-    (c.is_left_out.ensures.recorded c.if-is_left_out.false) in
-    (table, tried.walk, tried.marked, enters)
+    (c.is_left_out.ensures.recorded c.if-is_left_out.false)
 
 pub returns-clause-walk : goal.returns-clause-walk
 returns-clause-walk c =
-    let table = c.args.table.now in
-    let book = c.args.book.now in
-    let walk = c.args.self.now in
-    let h = c.requires.walk in
-    let caller = c.in-Some.caller in
-    let marked = c.in-Some.ensures.some in
-    let same = walk_call table book walk caller c.index.result.now c.from-number.result h marked
-    c.index.ensures c.from-number.ensures in
-    let tried = c.to_try-self.ensures in
-    let enters = walk_may_enter table book (record walk { waiting = c.to_try-self.result })
-    (record {
-      caller = caller;
-      number = c.from-number.result;
-      reply = c.in-Some-get.transition.reply;
-    })
-    c.op-op.result c.in-Some-get.transition tried.walk tried.marked same refl c.op-op.ensures
-    (sym c.get.ensures ∙ c.in-Some-get.is)
-    (c.is_left_out.ensures.recorded c.if-is_left_out.false) in
-    IfOk-weaker c.enter.result _ (λ step. IsWalk table book c.enter.new.self)
-    (λ step e. (e table tried.walk enters).0) c.enter.ensures
+    IfOk-weaker c.enter.result _
+    (λ step. IsWalk c.args.table.now c.args.book.now c.enter.new.self) (λ step e. e.0)
+    c.enter.ensures
 
 pub returns-clause-step : goal.returns-clause-step
 returns-clause-step c =
-    let table = c.args.table.now in
-    let book = c.args.book.now in
-    let walk = c.args.self.now in
-    let h = c.requires.walk in
-    let caller = c.in-Some.caller in
-    let marked = c.in-Some.ensures.some in
-    let same = walk_call table book walk caller c.index.result.now c.from-number.result h marked
-    c.index.ensures c.from-number.ensures in
-    let tried = c.to_try-self.ensures in
-    let enters = walk_may_enter table book (record walk { waiting = c.to_try-self.result })
-    (record {
-      caller = caller;
-      number = c.from-number.result;
-      reply = c.in-Some-get.transition.reply;
-    })
-    c.op-op.result c.in-Some-get.transition tried.walk tried.marked same refl c.op-op.ensures
-    (sym c.get.ensures ∙ c.in-Some-get.is)
-    (c.is_left_out.ensures.recorded c.if-is_left_out.false) in
-    IfOk-weaker c.enter.result _ (IsRightStep table book)
-    (λ step e. (e table tried.walk enters).1) c.enter.ensures
+    IfOk-weaker c.enter.result _ (IsRightStep c.args.table.now c.args.book.now) (λ step e. e.1)
+    c.enter.ensures
 
 pub returns-clause-lighter : goal.returns-clause-lighter
 returns-clause-lighter c =
-    let table = c.args.table.now in
     let book = c.args.book.now in
     let walk = c.args.self.now in
-    let h = c.requires.walk in
-    let caller = c.in-Some.caller in
-    let marked = c.in-Some.ensures.some in
-    let same = walk_call table book walk caller c.index.result.now c.from-number.result h marked
-    c.index.ensures c.from-number.ensures in
     let tried = c.to_try-self.ensures in
-    let enters = walk_may_enter table book (record walk { waiting = c.to_try-self.result })
-    (record {
-      caller = caller;
-      number = c.from-number.result;
-      reply = c.in-Some-get.transition.reply;
-    })
-    c.op-op.result c.in-Some-get.transition tried.walk tried.marked same refl c.op-op.ensures
-    (sym c.get.ensures ∙ c.in-Some-get.is)
-    (c.is_left_out.ensures.recorded c.if-is_left_out.false) in
     IfOk-weaker c.enter.result _ (λ step. IsLighter book walk step c.enter.new.self)
     (λ step e. lighter_from book walk (record walk { waiting = c.to_try-self.result })
-    c.enter.new.self step (lighter_within book walk c.to_try-self.result tried.fewer)
-    (e table tried.walk enters).2) c.enter.ensures
+    c.enter.new.self step (lighter_within book walk c.to_try-self.result tried.fewer) e.2)
+    c.enter.ensures

@@ -13,17 +13,20 @@ use Rattle.told_models.proofs.walk.Walk.enter.Goals as goal
 
 pub set_count-requires-clause-caller : goal.set_count-requires-clause-caller
 set_count-requires-clause-caller c =
-    walk_counts c.requires.0 c.args.book.now c.args.self.now (call_at c.args.place) c.requires.1
-    c.requires.3.may.is_call
+    walk_counts c.args.table.now c.args.book.now c.args.self.now (call_at c.args.place) c.requires.walk
+    c.requires.enters.may.is_call
 
 pub least_open-requires : goal.least_open-requires
 least_open-requires c =
     ap length (c.deref.ensures.value ∙ c.set_count.ensures)
     ∙ (length-set c.args.self.now.counts.items c.args.place.caller (c.args.place.number + 1)
-    ∙ walk_wide c.requires.0 c.args.book.now c.args.self.now c.requires.1)
+    ∙ walk_wide c.args.table.now c.args.book.now c.args.self.now c.requires.walk)
 
 pub returns-in_default : goal.returns-in_default
-returns-in_default c = λ table h enters.
+returns-in_default c =
+    let table = c.args.table.now in
+    let h = c.requires.walk in
+    let enters = c.requires.enters in
     let book = c.args.book.now in
     let old = c.args.self.now in
     let place = c.args.place in
@@ -48,12 +51,15 @@ set_count-requires-then-remembers-clause-caller c = omega (
   arith,
   ap length c.set_count.ensures,
   length-set c.args.self.now.counts.items c.args.place.caller (c.args.place.number + 1),
-  walk_counts c.requires.0 c.args.book.now c.args.self.now (call_at c.args.place) c.requires.1
-      c.requires.3.may.is_call,
+  walk_counts c.args.table.now c.args.book.now c.args.self.now (call_at c.args.place) c.requires.walk
+      c.requires.enters.may.is_call,
 )
 
 pub returns-then-remembers : goal.returns-then-remembers
-returns-then-remembers c = λ table h enters.
+returns-then-remembers c =
+    let table = c.args.table.now in
+    let h = c.requires.walk in
+    let enters = c.requires.enters in
     let book = c.args.book.now in
     let old = c.args.self.now in
     let place = c.args.place in
@@ -70,7 +76,7 @@ returns-then-remembers c = λ table h enters.
           c.without-self.result place c.without-self.ensures h.here enters
           (h.dead (raised old.counts.items place.caller) c.args.next there)),
       tt,
-      lighter_without table book old c.without-self.result place.caller h c.requires.2
+      lighter_without table book old c.without-self.result place.caller h c.requires.waiting
           c.without-self.ensures,
     )
 
@@ -78,24 +84,27 @@ pub next_callers-waiting-requires-clause-wide : goal.next_callers-waiting-requir
 next_callers-waiting-requires-clause-wide c =
     ap length (c.deref-3.ensures.value ∙ c.set_count.ensures)
     ∙ (length-set c.args.self.now.counts.items c.args.place.caller (c.args.place.number + 1)
-    ∙ walk_wide c.requires.0 c.args.book.now c.args.self.now c.requires.1)
+    ∙ walk_wide c.args.table.now c.args.book.now c.args.self.now c.requires.walk)
 
 pub next_callers-waiting-requires-clause-few : goal.next_callers-waiting-requires-clause-few
 next_callers-waiting-requires-clause-few c = omega (
   arith,
   ap length (c.deref-3.ensures.value ∙ c.set_count.ensures),
   length-set c.args.self.now.counts.items c.args.place.caller (c.args.place.number + 1),
-  walk_wide c.requires.0 c.args.book.now c.args.self.now c.requires.1,
-  c.requires.1.small.callers,
+  walk_wide c.args.table.now c.args.book.now c.args.self.now c.requires.walk,
+  c.requires.walk.small.callers,
 )
 
 pub returns : goal.returns
-returns c = λ table h enters.
+returns c =
+    let table = c.args.table.now in
+    let h = c.requires.walk in
+    let enters = c.requires.enters in
     let book = c.args.book.now in
     let old = c.args.self.now in
     let counts = c.set_count.new.counts.items in
     let place = c.args.place in (
-      walk_enters table book old _ place c.args.next h c.requires.2 enters
+      walk_enters table book old _ place c.args.next h c.requires.waiting enters
           c.in_ok-push-2.ensures.items
           (c.set_count.ensures
           ∙ counts_raised table book old.counts.items old.state c.args.next place enters)
@@ -106,6 +115,12 @@ returns c = λ table h enters.
           (subst (λ (cut : List ℕ). MarksAllNext book cut c.next_callers-waiting.result)
           c.deref-3.ensures.value c.next_callers-waiting.ensures)) refl refl,
       tt,
-      lighter_deeper table book old place _ c.next_callers-waiting.result h c.requires.2
+      lighter_deeper table book old place _ c.next_callers-waiting.result h c.requires.waiting
           c.in_ok-push-2.ensures.items,
     )
+
+pub turn_of-requires-clause-wide : goal.turn_of-requires-clause-wide
+turn_of-requires-clause-wide c =
+    ap length (c.deref-4.ensures.value ∙ c.set_count.ensures)
+    ∙ (length-set c.args.self.now.counts.items c.args.place.caller (c.args.place.number + 1)
+    ∙ walk_wide c.args.table.now c.args.book.now c.args.self.now c.requires.walk)

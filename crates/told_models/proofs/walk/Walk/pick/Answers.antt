@@ -1,22 +1,7 @@
-use Rattle.std.proofs.Common.{ℕ, ◌<◌, Option, Some, None, IfNone, arith}
-use Rattle.book_base.specs.Next.{next_call}
-use Rattle.search_hints.specs.Marks.{IsMarked}
-use Rattle.told_models.proofs.Walks.{walk_wide, walk_counts}
+use Rattle.told_models.proofs.Walks.{walk_low}
 use Rattle.told_models.proofs.walk.Walk.pick.Goals as goal
 
-if_none : {T P Q : Type 0} (o : Option T) → (P → Q) → IfNone o P → IfNone o Q
-if_none (Some x) f p = tt
-if_none None f p = f p
-
-pub returns-clause-none : goal.returns-clause-none
-returns-clause-none c = if_none c.loop-caller.best
-    (λ (none : (i : ℕ) → i < c.loop-caller.caller → IsMarked c.args.self.now.waiting i → ⊥)
-    (i : ℕ) (marked : IsMarked c.args.self.now.waiting i). none i (omega (
-      arith,
-      c.loop-caller-test.false,
-      c.callers-caller-end.ensures.count,
-      walk_wide c.args.table.now c.args.book.now c.args.self.now c.requires,
-      walk_counts c.args.table.now c.args.book.now c.args.self.now
-          (next_call c.args.self.now.counts.items i) c.requires
-          (c.requires.here.may i marked).is_call,
-    )) marked) c.loop-caller.invariant.1
+pub without-left-requires-in-loop-other : goal.without-left-requires-in-loop-other
+without-left-requires-in-loop-other c =
+    walk_low c.args.table.now c.args.book.now c.args.self.now c.in-Some.caller c.requires
+    (c.loop-other.invariant c.in-Some.caller c.in-Some.ensures.some)

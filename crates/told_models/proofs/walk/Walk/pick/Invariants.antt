@@ -1,7 +1,5 @@
-use Rattle.std.proofs.Common.{ℕ, ◌<◌, IfSome, IfNone}
-use Rattle.search_hints.specs.Marks.{IsMarked}
+use Rattle.search_hints.specs.Marks.{IsMarkedWithin}
 use Rattle.told_models.proofs.walk.Walk.pick.Given as goal
 
-abbrev pub invariant-loop-caller : goal.invariant-loop-caller
-invariant-loop-caller l = IfSome l.best (IsMarked l.self.waiting)
-    × IfNone l.best ((i : ℕ) → i < l.caller → IsMarked l.self.waiting i → ⊥)
+abbrev pub invariant-loop-other : goal.invariant-loop-other
+invariant-loop-other l = IsMarkedWithin l.left l.self.waiting
