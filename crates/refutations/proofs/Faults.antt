@@ -1,5 +1,5 @@
 -- Faults of closed lists: a closed list has none, and of all faults of some entries one is first.
-use Rattle.std.proofs.Common.{◌≡◌, ℕ, ◌+◌, ◌<◌, ◌⊎◌, ◌∙◌, List, Some, sym, ap, inl, inr, slice_get, arith}
+use Rattle.std.proofs.Common.{◌≡◌, ℕ, ◌∙◌, sym, ap, inl, inr, arith}
 use Rattle.std.proofs.lemmas.Bool.{cases_lt}
 use Rattle.refutations.specs.declared.fault.ClosedFault.{ClosedFault}
 use Rattle.refutations.specs.declared.fault.ClosedFault.TheVariants.{Unlisted, Whole, Leads}

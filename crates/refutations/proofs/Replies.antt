@@ -1,12 +1,14 @@
 -- A recorded reply is impossible exactly where the object denies it.
-use Rattle.std.proofs.Common.{◌≡◌, ℕ, ◌↔◌, Bool, true, false, not, IsTrue, List, Option, Some, refl, sym, ap, subst, ◌∙◌}
+use Rattle.std.proofs.Common.{◌≡◌, ℕ, ◌<◌, ◌↔◌, length, Bool, true, false, not, IsTrue, List, Some, refl, sym, ap, subst, ◌∙◌}
 use Rattle.std.specs.Option.{IsSomeAnd}
-use Rattle.std.proofs.lemmas.Bool.{cases_Bool, true≢false}
-use Rattle.std.proofs.lemmas.Option.{same_Some}
+use Rattle.std.proofs.lemmas.Bool.{true≢false}
+use Rattle.std.proofs.lemmas.Option.{same_Some, slice_get_within}
 use Rattle.list_laws.proofs.Options.{some_from_is_some_and}
 use Rattle.book_base.specs.declared.call.Call.{Call}
 use Rattle.book_base.specs.declared.call.Record.{Record}
-use Rattle.book_base.specs.Book.{Page, operation_of, record_of}
+use Rattle.book_base.specs.SeqSpec.{SeqSpec}
+use Rattle.book_base.specs.Book.{Page, IsAnswered, operation_of, record_of}
+use Rattle.book_base.proofs.PageLemmas.{caller_from_call}
 use Rattle.book_base.specs.Reaching.{MayReply}
 use Rattle.seq_objects.specs.declared.kind.Kind.{Kind}
 use Rattle.seq_objects.specs.Objects.{kind_next, kind_spec}
@@ -45,3 +47,14 @@ impossible-from_call kind book call op reply may asked answered is =
           (subst (λ (v : ℕ). MayReply (kind_next kind) op v)
           (says ∙ ap (λ (r : Record). r.reply) same_r) (is.0 yes)))),
     )
+
+-- A call with an impossible reply is answered.
+pub answered_if_impossible : (spec : SeqSpec) (book : List Page) (call : Call)
+    → IsImpossible spec book call → IsAnswered book call
+answered_if_impossible spec book call it = slice_get_within _ call.number it.r it.answered
+
+-- The caller of a call with an impossible reply is one of the book's.
+pub caller_if_impossible : (spec : SeqSpec) (book : List Page) (call : Call)
+    → IsImpossible spec book call → call.caller < length book
+caller_if_impossible spec book call it =
+    caller_from_call book call.caller call.number (slice_get_within _ call.number it.op it.asked)

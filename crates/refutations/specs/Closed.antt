@@ -1,7 +1,7 @@
 -- Closed lists: items that each have a cut and a list of the object. A list of items is closed
 -- where it has the item before all calls, each call that may come next at one of its items leads to
 -- one of its items, and none of its items has all answered calls. Then the book has no legal order.
-use Rattle.std.specs.Prelude.{◌≡◌, ℕ, ◌≤◌, List, [], ◌∷◌, ◌++◌, length, replicate, fold, take, unwrap_or, Some, slice_get, slice_index_or}
+use Rattle.std.specs.Prelude.{◌≡◌, ℕ, List, [], ◌∷◌, ◌++◌, length, replicate, fold, take, unwrap_or, Some, slice_get, slice_index_or}
 use Rattle.book_base.specs.declared.call.Place.{Place}
 use Rattle.book_base.specs.SeqSpec.{SeqSpec}
 use Rattle.book_base.specs.Book.{Page, IsCall, operation_of}

@@ -1,5 +1,5 @@
 -- Replies that no list of the object gives.
-use Rattle.std.specs.Prelude.{◌≡◌, ℕ, List, Some}
+use Rattle.std.specs.Prelude.{◌≡◌, ℕ, ◌<◌, ◌⊎◌, List, Some}
 use Rattle.book_base.specs.declared.call.Call.{Call}
 use Rattle.book_base.specs.declared.call.Record.{Record}
 use Rattle.book_base.specs.SeqSpec.{SeqSpec}
@@ -13,3 +13,7 @@ pub record IsImpossible (spec : SeqSpec) (book : List Page) (call : Call) : Type
   pub asked : operation_of book call ≡ Some op
   pub answered : record_of book call ≡ Some r
   pub never : MayReply spec.next op r.reply → ⊥
+
+-- one call is less than another: by caller, and then by number
+abbrev pub IsLesser : Call → Call → Type 0
+IsLesser a b = (a.caller < b.caller) ⊎ ((a.caller ≡ b.caller) × (a.number < b.number))
