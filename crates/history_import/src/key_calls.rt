@@ -180,7 +180,7 @@ impl<'a> KeyCalls<'a> {
         places: &[usize],
     ) -> Result<KeyCalls<'a>, LogError> {
         let mut names = Names::new(alloc, has_numbers(options.kind), options.initial)?;
-        let mut users: IndexSet<&'a [u8]> = IndexSet::new(alloc);
+        let mut users: IndexSet<Option<&'a [u8]>> = IndexSet::new(alloc);
         let mut calls = Vec::new(alloc);
         let mut fault: Option<LogFault> = None;
         for place in places {

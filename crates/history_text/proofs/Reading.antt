@@ -1,19 +1,13 @@
 -- The items that are read of a line so far, and those that are left.
-use Rattle.std.proofs.Common.{◌≡◌, ℕ, suc, ◌+◌, ◌<◌, Bool, List, [], ◌∷◌, ◌++◌, length, get_or, drop, Option, Some, None, refl, sym, ap, ◌∙◌, add-one, append_assoc, append-nil, drop-cons, option_map}
+use Rattle.std.proofs.Common.{◌≡◌, ℕ, ◌+◌, ◌<◌, Bool, List, [], ◌∷◌, ◌++◌, length, get_or, drop, Option, None, sym, ap, ◌∙◌, add-one, drop-cons}
 use Rattle.std.specs.Prelude.{slice_range}
 use Rattle.history_text.specs.declared.scan.Place.{Place}
 use Rattle.history_text.specs.declared.scan.Place.TheVariants.{Between}
 use Rattle.history_text.specs.declared.scan.Step.{Step}
 use Rattle.history_text.specs.declared.scan.Step.TheVariants.{Goes, Ends, Wrong}
 use Rattle.history_text.specs.Scan.{sort_of, step_of}
+use Rattle.history_text.proofs.Stepping.{push_more}
 use Rattle.history_text.specs.Items.{items_after, items_from, with_more}
-
--- an item that was read is one of the items so far
-push_item : (found : List (List ℕ)) (item : List ℕ) (more : Option (List (List ℕ)))
-    → with_more found (option_map (λ items. item ∷ items) more)
-    ≡ with_more (found ++ item ∷ []) more
-push_item found item None = refl
-push_item found item (Some rest) = ap Some (sym (append_assoc found (item ∷ []) rest))
 
 -- reading on by one byte
 reads : (json : Bool) (line : List ℕ) (place : Place) (at : ℕ) → at < length line
@@ -51,8 +45,8 @@ pub ends_on : (json : Bool) (line : List ℕ) (place : Place) (start end at byte
     → with_more (found ++ (slice_range line start end) ∷ [])
     (items_from json line Between (at + 1) (drop (at + 1) line)) ≡ all
 ends_on json line place start end at byte found all low read is before =
-    sym (push_item found (slice_range line start end)
-    (items_from json line Between (at + 1) (drop (at + 1) line)))
+    push_more found (slice_range line start end)
+    (items_from json line Between (at + 1) (drop (at + 1) line))
     ∙ (ap (with_more found) (steps json line place at byte (Ends start end) low read is) ∙ before)
 
 pub is_wrong : (json : Bool) (line : List ℕ) (place : Place) (at byte : ℕ)

@@ -36,5 +36,5 @@ abbrev pub items_of : Bool → List ℕ → Option (List (List ℕ))
 items_of json line = items_from json line Between 0 line
 
 -- the items so far, and further ones
-abbrev pub with_more : List (List ℕ) → Option (List (List ℕ)) → Option (List (List ℕ))
+abbrev pub with_more : {X : Type 0} → List X → Option (List X) → Option (List X)
 with_more found more = option_map (λ rest. found ++ rest) more

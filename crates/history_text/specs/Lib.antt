@@ -1,2 +1,10 @@
 pub mod Scan
 pub mod Items
+pub mod Words
+pub mod Clock
+pub mod Layout
+pub mod Fields
+pub mod Lines
+pub mod Pairing
+pub mod Entry
+pub mod Log

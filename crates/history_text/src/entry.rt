@@ -1,196 +1,116 @@
-use crate::fault::{LogError, LogFault, LogWhat};
+ghost use Rattle.std.specs.Prelude.{◌≡◌, ℕ, map, IfOk, Ok};
+ghost use Rattle.history_text.specs.Layout.{field_text};
+ghost use Rattle.history_text.specs.Entry.{answer_said, whole_said, event_said, entry_said, IsRead};
+
+use crate::call::{LogAnswer, LogCall};
+use crate::event::{Event, Stage};
+use crate::fault::LogWhat;
 use crate::fields::Field;
-use crate::item::{in_brackets, items, plain};
-use crate::layout::{Layout, Role};
-use crate::log::{LogAnswer, LogCall};
-use seq_objects::number;
+use crate::layout::Layout;
+use crate::line_words::{Keyed, LineWords};
+use book_base::NoMemory;
 use std::alloc::Global;
 
-/// What an event of a call is.
-#[derive(Clone, Copy, Debug, PartialEq, Eq)]
-pub enum Stage {
-    /// The call is made.
-    Invoke,
-    /// The call returned.
-    Ok,
-    /// The call took no effect.
-    Fail,
-    /// Whether the call took effect isn't known.
-    Info,
-}
-
-/// An event of a log.
-#[derive(Clone, Copy, Debug)]
-pub struct Event<'a> {
-    pub process: &'a [u8],
-    pub stage: Stage,
-    pub operation: &'a [u8],
-    pub key: Option<&'a [u8]>,
-    pub value: Option<&'a [u8]>,
-    pub arguments: Option<&'a [u8]>,
-    pub time: Option<u64>,
-}
-
 /// What a line of a log says.
-#[derive(Clone, Copy, Debug)]
+#[derive(Clone, Copy)]
 pub enum Entry<'a> {
     /// An event of a call.
     OfCall(Event<'a>),
     /// A whole call: its invocation and, where it has one, its answer.
     Whole(LogCall<'a>),
-    /// An event of no client, as of Jepsen's nemesis.
+    /// No call, as an event of Jepsen's nemesis, or a whole call that failed.
     Other,
 }
 
-impl Stage {
-    // The stage with this name.
-    fn from_name(name: &[u8]) -> Option<Stage> {
-        match name {
-            b"invoke" => Some(Stage::Invoke),
-            b"ok" => Some(Stage::Ok),
-            b"fail" => Some(Stage::Fail),
-            b"info" => Some(Stage::Info),
-            _ => None,
-        }
+/// What a line of a log says, with the line's number.
+#[derive(Clone, Copy)]
+pub struct LinedEntry<'a> {
+    pub line: u64,
+    pub entry: Entry<'a>,
+}
+
+// The answer of a whole call that returned at a moment.
+fn answer<'a>(line: u64, words: &LineWords<'a>, returned: Option<u64>) -> Option<LogAnswer<'a>>
+    ensures { result ≡ answer_said line words.now returned }
+{
+    match returned {
+        None => None,
+        Some(returned) => Some(LogAnswer {
+            line,
+            returned,
+            value: words.reply,
+        }),
     }
 }
 
-// A moment, which is a number.
-fn moment(line: u64, word: Option<&[u8]>) -> Result<Option<u64>, LogError> {
-    match word {
-        None => Ok(None),
-        Some(word) if is_nothing(word) => Ok(None),
-        Some(word) => match number(plain(word)) {
-            Some(moment) => Ok(Some(moment)),
-            None => Err(wrong(line, LogWhat::Time)),
-        },
+// What the line of a whole call says.
+fn whole<'a>(line: u64, words: &LineWords<'a>, operation: &'a [u8], keyed: Keyed<'a>) -> Entry<'a>
+    ensures { result ≡ whole_said line words.now operation.entry keyed.entry }
+{
+    let stage = words.stage();
+    if stage == Stage::Fail {
+        return Entry::Other;
     }
-}
-
-/// Whether an item says that there is nothing: it is empty, `nil` or `null`.
-pub fn is_nothing(item: &[u8]) -> bool {
-    matches!(item, b"" | b"nil" | b"null" | b"\"\"")
-}
-
-// The fault of a line.
-fn wrong(line: u64, what: LogWhat) -> LogError {
-    LogError::Fault(LogFault { line, what })
-}
-
-// The value of a field that says something.
-fn said<'a>(layout: &Layout, fields: &[Field<'a>], role: Role) -> Option<&'a [u8]> {
-    match layout.find(fields, role) {
-        Some(value) if !is_nothing(value) => Some(value),
-        _ => None,
-    }
-}
-
-// The key and the value of a line. Where the layout says that values are pairs, the value is a
-// group of two items, of which the first is the key.
-fn key_and_value<'a>(
-    alloc: Global,
-    layout: &Layout,
-    line: u64,
-    fields: &[Field<'a>],
-) -> Result<(Option<&'a [u8]>, Option<&'a [u8]>), LogError> {
-    let value = layout.find(fields, Role::Value);
-    if !layout.keyed {
-        return Ok((said(layout, fields, Role::Key), value));
-    }
-    let Some(inside) = value.and_then(in_brackets) else {
-        return Err(wrong(line, LogWhat::Value));
+    let answer = match stage {
+        Stage::Info => None,
+        _ => answer(line, words, words.end.at()),
     };
-    match items(alloc, false, inside)? {
-        Some(pair) => match pair.as_slice() {
-            [key, value] => Ok((Some(*key), Some(*value))),
-            _ => Err(wrong(line, LogWhat::Value)),
-        },
-        None => Err(wrong(line, LogWhat::Value)),
+    Entry::Whole(LogCall {
+        process: words.process,
+        key: keyed.key,
+        operation,
+        value: keyed.value,
+        arguments: words.list(),
+        line,
+        invoked: words.start.at().unwrap_or(0),
+        answer,
+    })
+}
+
+// What the line of an event says.
+fn event<'a>(words: &LineWords<'a>, operation: &'a [u8], keyed: Keyed<'a>) -> Entry<'a>
+    ensures { result ≡ event_said words.now operation.entry keyed.entry words.now.process }
+{
+    let Some(process) = words.process else {
+        return Entry::Other;
+    };
+    Entry::OfCall(Event {
+        process,
+        stage: words.stage(),
+        operation,
+        key: keyed.key,
+        value: keyed.value,
+        arguments: words.list(),
+        time: words.time.at(),
+    })
+}
+
+// What a line without a fault says.
+fn said<'a>(line: u64, words: &LineWords<'a>) -> Entry<'a>
+    ensures { result ≡ entry_said line words.now }
+{
+    if words.names_no_client() {
+        return Entry::Other;
+    }
+    match (words.operation, words.keyed) {
+        (Some(operation), Some(keyed)) if words.whole => whole(line, words, operation, keyed),
+        (Some(operation), Some(keyed)) => event(words, operation, keyed),
+        _ => Entry::Other,
     }
 }
 
-/// What a line says, by its fields.
+/// What a line with these fields says, or what is wrong with it by itself.
 pub fn read_entry<'a>(
     alloc: Global,
     layout: &Layout,
     line: u64,
     fields: &[Field<'a>],
-) -> Result<Entry<'a>, LogError> {
-    let process = said(layout, fields, Role::Process);
-    if process.is_some_and(is_no_client) {
-        return Ok(Entry::Other);
+) -> Result<Result<Entry<'a>, LogWhat>, NoMemory>
+    ensures { IfOk result (IsRead layout.now line (map field_text fields.now)) }
+{
+    let words = LineWords::of(alloc, layout, fields)?;
+    match words.own_fault() {
+        None => Ok(Ok(said(line, &words))),
+        Some(what) => Ok(Err(what)),
     }
-    let stage = match said(layout, fields, Role::Type) {
-        None => None,
-        Some(word) => match Stage::from_name(plain(word)) {
-            Some(stage) => Some(stage),
-            None => return Err(wrong(line, LogWhat::Type)),
-        },
-    };
-    let Some(operation) = said(layout, fields, Role::Operation) else {
-        return Err(wrong(line, LogWhat::Operation));
-    };
-    let (key, value) = key_and_value(alloc, layout, line, fields)?;
-    let arguments = match said(layout, fields, Role::Arguments) {
-        None => None,
-        Some(list) => match in_brackets(list) {
-            Some(inside) => Some(inside),
-            None => return Err(wrong(line, LogWhat::Value)),
-        },
-    };
-    match layout.find(fields, Role::Start) {
-        Some(start) => {
-            let Some(invoked) = moment(line, Some(start))? else {
-                return Err(wrong(line, LogWhat::Time));
-            };
-            let answer = match moment(line, layout.find(fields, Role::End))? {
-                None => None,
-                Some(returned) if returned < invoked => return Err(wrong(line, LogWhat::Time)),
-                Some(returned) => Some(LogAnswer {
-                    line,
-                    returned,
-                    value: layout.find(fields, Role::Reply),
-                }),
-            };
-            let call = LogCall {
-                process: process.unwrap_or(b""),
-                key,
-                operation: plain(operation),
-                value,
-                arguments,
-                line,
-                invoked,
-                answer: match stage {
-                    Some(Stage::Info) => None,
-                    _ => answer,
-                },
-            };
-            match stage {
-                Some(Stage::Fail) => Ok(Entry::Other),
-                _ => Ok(Entry::Whole(call)),
-            }
-        }
-        None => {
-            let Some(process) = process else {
-                return Err(wrong(line, LogWhat::Process));
-            };
-            let Some(stage) = stage else {
-                return Err(wrong(line, LogWhat::Type));
-            };
-            Ok(Entry::OfCall(Event {
-                process,
-                stage,
-                operation: plain(operation),
-                key,
-                value,
-                arguments,
-                time: moment(line, layout.find(fields, Role::Time))?,
-            }))
-        }
-    }
-}
-
-// Whether a process is no client, as Jepsen's nemesis: it is a keyword, or named `nemesis`.
-fn is_no_client(process: &[u8]) -> bool {
-    matches!(process, [b':', ..]) || plain(process) == b"nemesis".as_slice()
 }

@@ -1,5 +1,6 @@
-ghost use Rattle.std.specs.Prelude.{◌≡◌, ◌+◌, ◌<◌, length, drop, map, IfOk, IfSome, IfNone, option_map};
+ghost use Rattle.std.specs.Prelude.{◌≡◌, ◌+◌, ◌<◌, length, drop, map, IfOk, IfSome, IfNone, option_map, bytes_eq};
 ghost use Rattle.history_text.specs.Scan.{IsPlaceBefore};
+ghost use Rattle.history_text.specs.Words.{inside_of, in_braces_of, in_brackets_of, plain_of, says_nothing};
 ghost use Rattle.history_text.specs.Items.{with_more, items_from, items_of};
 
 use crate::scan::{Place, Step, sort_of, step_of};
@@ -65,29 +66,57 @@ pub fn items<'a>(
     }
 }
 
-/// What is in the braces of an item that is one map.
-pub fn in_braces(item: &[u8]) -> Option<&[u8]> {
+// Whether bytes are those of a text.
+pub(crate) fn is_text(bytes: &[u8], text: &str) -> bool
+    ensures { result ≡ bytes_eq bytes.now text.now }
+{
+    bytes == text.as_bytes()
+}
+
+// What is between the first and the last byte of an item that begins and ends so.
+fn inside(item: &[u8], first: u8, last: u8) -> Option<&[u8]>
+    ensures { option_map (λ inside. inside.now) result ≡ inside_of first last item.entry.now }
+{
     match item {
-        [b'{', inside @ .., b'}'] => Some(inside),
+        [begin, inside @ .., end] if *begin == first && *end == last => Some(inside),
         _ => None,
     }
 }
 
-/// What is in the brackets of an item that is one list.
-pub fn in_brackets(item: &[u8]) -> Option<&[u8]> {
-    match item {
-        [b'[', inside @ .., b']'] => Some(inside),
-        [b'(', inside @ .., b')'] => Some(inside),
-        _ => None,
+/// What is in the braces of an item that is one map.
+pub fn in_braces(item: &[u8]) -> Option<&[u8]>
+    ensures { option_map (λ inside. inside.now) result ≡ in_braces_of item.entry.now }
+{
+    inside(item, b'{', b'}')
+}
+
+/// What is in the brackets or parentheses of an item that is one list.
+pub fn in_brackets(item: &[u8]) -> Option<&[u8]>
+    ensures { option_map (λ inside. inside.now) result ≡ in_brackets_of item.entry.now }
+{
+    match inside(item, b'[', b']') {
+        Some(list) => Some(list),
+        None => inside(item, b'(', b')'),
     }
 }
 
 /// An item as a plain word: a keyword of EDN without its colon, a text without its quotes, and
 /// anything else as it is.
-pub fn plain(item: &[u8]) -> &[u8] {
+pub fn plain(item: &[u8]) -> &[u8]
+    ensures { result.now ≡ plain_of item.entry.now }
+{
     match item {
         [b':', word @ ..] => word,
-        [b'"', word @ .., b'"'] => word,
-        _ => item,
+        _ => match inside(item, b'"', b'"') {
+            Some(word) => word,
+            None => item,
+        },
     }
+}
+
+/// Whether an item says that there is nothing: it is empty, `nil`, `null` or an empty text.
+pub fn is_nothing(item: &[u8]) -> bool
+    ensures { result ≡ says_nothing item.now }
+{
+    item.is_empty() || is_text(item, "nil") || is_text(item, "null") || is_text(item, "\"\"")
 }

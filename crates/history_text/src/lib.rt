@@ -2,24 +2,30 @@
 //! a header.
 #![tactic(auto)]
 
+mod call;
 mod cell;
+mod clock;
 mod entry;
+mod event;
 mod fault;
 mod fields;
 mod format;
+mod header;
 mod item;
 mod layout;
+mod line_words;
 mod lines;
 mod log;
+mod log_entries;
+mod moment;
 mod pairing;
+mod process_events;
 mod scan;
 
-pub use cell::cells;
-pub use entry::{Entry, Event, Stage, is_nothing};
+pub use call::{LogAnswer, LogCall};
+pub use clock::Clock;
 pub use fault::{LogError, LogFault, LogWhat};
-pub use fields::{Field, fields_of_map, fields_of_row};
 pub use format::Format;
-pub use item::{in_brackets, items, plain};
+pub use item::{in_brackets, is_nothing, items, plain};
 pub use layout::{Layout, NamedRole, Role};
-pub use lines::LogLines;
-pub use log::{Clock, LogAnswer, LogCall, read_log};
+pub use log::read_log;

@@ -1,69 +1,18 @@
-use crate::cell::cells;
-use crate::entry::{Entry, read_entry};
-use crate::fault::{LogError, LogFault, LogWhat};
-use crate::fields::{fields_of_map, fields_of_row};
+ghost use Rattle.std.specs.Prelude.{◌≡◌, List, IfOk, IfErr};
+ghost use Rattle.history_text.specs.declared.entry.LinedEntry.{LinedEntry};
+ghost use Rattle.history_text.specs.Pairing.{calls_of};
+ghost use Rattle.history_text.specs.Log.{IsLog, IsCause};
+
+use crate::call::LogCall;
+use crate::clock::Clock;
+use crate::fault::LogError;
 use crate::format::Format;
-use crate::item::plain;
+use crate::header::header;
 use crate::layout::Layout;
 use crate::lines::LogLines;
-use crate::pairing::Pairing;
+use crate::log_entries::LogEntries;
+use crate::pairing::calls;
 use std::alloc::Global;
-
-/// What the moments of events are.
-#[derive(Clone, Copy, Debug, PartialEq, Eq)]
-pub enum Clock {
-    /// Their lines: an event comes before those of later lines.
-    Lines,
-    /// Their times, which may be wrong by so much.
-    Times(u64),
-}
-
-/// The answer of a call of a log: its line, its moment, and the reply as it is written.
-#[derive(Clone, Copy, Debug)]
-pub struct LogAnswer<'a> {
-    pub line: u64,
-    pub returned: u64,
-    pub value: Option<&'a [u8]>,
-}
-
-/// A call of a log, its words as they are written, with the line and the moment of its invocation.
-/// Its arguments are the value, or the items of the list `arguments` where the log has one.
-#[derive(Clone, Copy, Debug)]
-pub struct LogCall<'a> {
-    pub process: &'a [u8],
-    pub key: Option<&'a [u8]>,
-    pub operation: &'a [u8],
-    pub value: Option<&'a [u8]>,
-    pub arguments: Option<&'a [u8]>,
-    pub line: u64,
-    pub invoked: u64,
-    pub answer: Option<LogAnswer<'a>>,
-}
-
-// The names of the columns, from the first line that isn't blank.
-fn header<'a>(alloc: Global, lines: &mut LogLines<'a>) -> Result<Vec<&'a [u8]>, LogError> {
-    let Some((line, text)) = lines.next() else {
-        return Err(LogError::Fault(LogFault {
-            line: 1,
-            what: LogWhat::Header,
-        }));
-    };
-    let wrong = LogError::Fault(LogFault {
-        line,
-        what: LogWhat::Header,
-    });
-    let Some(names) = cells(alloc, text)? else {
-        return Err(wrong);
-    };
-    let mut known: Vec<&[u8]> = Vec::new(alloc);
-    for name in &names {
-        if known.contains(&plain(*name)) {
-            return Err(wrong);
-        }
-        known.push(plain(*name))?;
-    }
-    Ok(names)
-}
 
 /// The calls of a log that took effect or may have done so, in the order of their invocations in
 /// the log. Calls that failed are left out. The first fault of the log is answered.
@@ -73,33 +22,19 @@ pub fn read_log<'a>(
     layout: &Layout,
     clock: Clock,
     bytes: &'a [u8],
-) -> Result<Vec<LogCall<'a>>, LogError> {
+) -> Result<Vec<LogCall<'a>>, LogError>
+    // The bytes are a log without a fault, and the calls are those of its entries.
+    ensures calls { IfOk result (λ calls. (entries : List LinedEntry)
+        × IsLog format layout.now clock bytes.now entries
+        × (calls.items ≡ calls_of clock entries)) }
+    // A fault is the first one of the log.
+    ensures cause { IfErr result (IsCause format layout.now clock bytes.now) }
+{
     let mut lines = LogLines::new(bytes);
-    let names = match format {
-        Format::Csv => header(alloc, &mut lines)?,
-        _ => Vec::new(alloc),
-    };
-    let mut pairing = Pairing::new(alloc);
-    for _ in 0..u64::MAX {
-        let Some((line, text)) = lines.next() else {
-            break;
-        };
-        let fields = match format {
-            Format::Edn => fields_of_map(alloc, false, text)?,
-            Format::Json => fields_of_map(alloc, true, text)?,
-            Format::Csv => fields_of_row(alloc, &names, text)?,
-        };
-        let Some(fields) = fields else {
-            return Err(LogError::Fault(LogFault {
-                line,
-                what: LogWhat::Line,
-            }));
-        };
-        match read_entry(alloc, layout, line, &fields)? {
-            Entry::OfCall(event) => pairing.take(clock, line, event)?,
-            Entry::Whole(call) => pairing.whole(clock, call)?,
-            Entry::Other => {}
-        }
+    let names = header(alloc, format, &mut lines)?;
+    let mut read = LogEntries::new(alloc);
+    while let Some((line, text)) = lines.next() {
+        read.read(alloc, format, layout, clock, &names, line, text)?;
     }
-    pairing.calls(alloc)
+    Ok(calls(alloc, clock, &read.entries)?)
 }

@@ -4,7 +4,7 @@ ghost use Rattle.std.specs.Prelude.{◌≡◌, ◌+◌, ◌<◌, ◌^◌};
 ghost use Rattle.history_text.specs.Scan.{sort_of, step_of, IsPlaceBefore, IsStepWithin};
 
 /// What a byte is to the reader of items.
-#[derive(Clone, Copy, Debug, PartialEq, Eq)]
+#[derive(Clone, Copy, PartialEq, Eq)]
 pub enum Sort {
     /// It separates items: a space, a tab, a carriage return or a comma; in JSON a colon too.
     Gap,
@@ -21,7 +21,7 @@ pub enum Sort {
 }
 
 /// Where the reader of items stands.
-#[derive(Clone, Copy, Debug, PartialEq, Eq)]
+#[derive(Clone, Copy, PartialEq, Eq)]
 pub enum Place {
     /// Between items.
     Between,
@@ -36,7 +36,7 @@ pub enum Place {
 }
 
 /// What a byte leads to.
-#[derive(Clone, Copy, Debug, PartialEq, Eq)]
+#[derive(Clone, Copy, PartialEq, Eq)]
 pub enum Step {
     /// The reader stands here.
     Goes(Place),

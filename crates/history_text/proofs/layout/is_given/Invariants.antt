@@ -1,0 +1,9 @@
+use Rattle.std.proofs.Common.{◌≡◌, drop}
+use Rattle.std.specs.List.{list_any}
+use Rattle.history_text.specs.Layout.{is_for}
+use Rattle.history_text.proofs.layout.is_given.Given as goal
+
+-- the name is among all names where it is among those that are left
+abbrev pub invariant-loop-one : goal.invariant-loop-one
+invariant-loop-one l =
+    list_any (is_for l.role) (drop l.one-index l.names) ≡ list_any (is_for l.role) l.names
