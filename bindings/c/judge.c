@@ -1,5 +1,5 @@
 /* judge verify|order|certify|smaller|explain|picture: reads a text from standard input, and writes what is said of it, as
- * the program selfcheck writes it, or the book's certificate, a smaller book, which rule it breaks, or its picture. Ends
+ * the program selfcheck writes it, or the book's certificate, a smaller book, why it has no order, or its picture. Ends
  * with the library's status, and with 2 where the word isn't right. */
 #include "selfcheck.h"
 #include <stdio.h>

@@ -84,10 +84,11 @@ SELFCHECK_EXPORT uint32_t selfcheck_certify(const uint8_t *text, size_t length, 
 SELFCHECK_EXPORT uint32_t selfcheck_smaller(const uint8_t *text, size_t length, uint8_t *buffer,
     size_t room, size_t *written, struct selfcheck_refusal *refusal);
 
-/* Writes into the buffer the line that says which rule of its kind the book breaks that such a text gives, and by which
- * calls, or that it breaks none of them; and its length into `written`. ILLEGAL where the book breaks a rule, and so has no
- * legal order; DONE where it breaks none, and may have a legal order or not; REFUSED, NO_MEMORY or NO_ROOM; but for ILLEGAL
- * and DONE the buffer is as it was. All pairs of calls are tried: it is made for small books, as selfcheck_smaller writes. */
+/* Writes into the buffer why the book has no legal order that such a text gives, and the length of that into `written`:
+ * which rule of its kind it breaks, and by which calls, in one line; or, where it breaks none, a longest legal prefix and the
+ * calls that may come next after it. ILLEGAL where it has no legal order; DONE where no rule is broken and it has a legal
+ * order, or has too many legal prefixes to try, which one line says; REFUSED, NO_MEMORY or NO_ROOM; but for ILLEGAL and DONE
+ * the buffer is as it was. All pairs of calls are tried: it is made for small books, as selfcheck_smaller writes. */
 SELFCHECK_EXPORT uint32_t selfcheck_explain(const uint8_t *text, size_t length, uint8_t *buffer,
     size_t room, size_t *written, struct selfcheck_refusal *refusal);
 

@@ -179,10 +179,12 @@ def smaller(book):
 
 
 def explain(book):
-    """Which rule of its kind the book breaks that the text gives, and by which calls, in one line; None where it breaks none.
+    """Why the book has no legal order that the text gives: which rule of its kind it breaks, and by which calls, in one line.
 
-    A book that breaks a rule has no legal order; one that breaks none may have one or not. All pairs of calls are tried, so
-    that this is made for what `smaller` gives. Reads and raises as `smaller` does.
+    Of a book that breaks no rule it is a longest legal prefix, a line for each of its calls, and the calls that may come next
+    after it, with the reply that the object gives each. None where no rule is broken and the book has a legal order, or has too
+    many legal prefixes to try. All pairs of calls are tried, so that this is made for what `smaller` gives. Reads and raises as
+    `smaller` does.
     """
     line, breaks_none = _written_by(_library.selfcheck_explain, _bytes(book), 256)
     return None if breaks_none else line

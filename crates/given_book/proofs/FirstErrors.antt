@@ -1,5 +1,5 @@
 -- The first error line of a report.
-use Rattle.std.proofs.Common.{◌≡◌, ℕ, ◌+◌, ◌<◌, ◌≤◌, ◌⊎◌, ◌∙◌, false, List, [], length, take, Option, Some, None, inl, inr, sym, ap, subst, arith}
+use Rattle.std.proofs.Common.{◌≡◌, ℕ, ◌+◌, ◌<◌, ◌≤◌, ◌⊎◌, ◌∙◌, false, List, [], length, take, Some, None, inl, inr, sym, ap, subst, arith}
 use Rattle.std.specs.Option.{option_and_then}
 use Rattle.std.proofs.Math.Nat.{eq-or-lt_of_le}
 use Rattle.std.proofs.lemmas.Bool.{cases_lt, cases_order}
@@ -9,8 +9,7 @@ use Rattle.list_laws.proofs.Options.{none_from_is_some}
 use Rattle.book_base.specs.declared.call.Call.{Call}
 use Rattle.report_lines.specs.declared.line.Line.{Line}
 use Rattle.report_lines.specs.Lines.{lines_at, line_at, error_in, error_at, is_error}
-use Rattle.reports.specs.Findings.{StandsBefore, IsFirstError}
-use Rattle.given_book.specs.Given.{HasEndAt}
+use Rattle.reports.specs.Findings.{IsFirstError}
 use Rattle.given_book.specs.FirstError.{IsUpToEnd, IsReportPart}
 
 -- a call's error is that of its line

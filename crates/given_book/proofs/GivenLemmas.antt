@@ -13,7 +13,7 @@ use Rattle.given_book.specs.Given.{IsGiven, IsFirstGivenFault, IsNotGiven}
 use Rattle.given_book.proofs.Parts.{told_by, stopped_by}
 use Rattle.smaller_book.proofs.Evidence.{evidence_tells}
 use Rattle.given_book.specs.declared.explained.Explanation.{Explanation}
-use Rattle.given_book.specs.declared.explained.Explanation.TheVariants.{Broken, NoneBroken}
+use Rattle.given_book.specs.declared.explained.Explanation.TheVariants.{Illegal, NoneBroken}
 use Rattle.given_book.specs.Explaining.{IsExplanationOf}
 use Rattle.given_book.specs.Texts.{IsLegalGiven, IsIllegalGiven, IsSmallerWitness, IsPictureOf}
 
@@ -117,10 +117,10 @@ never_refused bytes (Err (Text fault)) refused kind book given =
 
 explained_or_fault : (bytes : List ℕ) (explanation : Explanation) (fault : TextFault)
     → IsExplanationOf bytes explanation → IsFirstGivenFault bytes fault → ⊥
-explained_or_fault bytes (Broken line) fault h first =
+explained_or_fault bytes (Illegal line) fault h first =
     given_or_fault bytes h.kind h.book fault h.told first
 explained_or_fault bytes (NoneBroken line) fault h first =
-    given_or_fault bytes h.0.kind h.0.book fault h.0.told first
+    given_or_fault bytes h.kind h.book fault h.told first
 
 pub first_of_explanation : (bytes : List ℕ) (result : Result Explanation ReadFault)
     → IfOk result (IsExplanationOf bytes) → IfErr result (IsNotGiven bytes)

@@ -1,5 +1,5 @@
 -- Bytes have one part that is read as a book's text, in one version.
-use Rattle.std.proofs.Common.{ℕ, List, ◌++◌, ◌+◌, ◌<◌, ◌≡◌, ◌⊎◌, inl, inr, [], drop, sym, ap, subst, ◌∙◌, get_or, arith}
+use Rattle.std.proofs.Common.{ℕ, List, ◌++◌, ◌<◌, ◌≡◌, ◌⊎◌, inl, inr, drop, sym, ap, subst, ◌∙◌, get_or, arith}
 use Rattle.std.specs.Prelude.{codes}
 use Rattle.std.proofs.lemmas.Bool.{cases_order}
 use Rattle.book_base.specs.declared.fault.TextFault.{TextFault}

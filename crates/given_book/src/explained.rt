@@ -8,25 +8,32 @@ ghost use Rattle.given_book.specs.Explaining.{IsExplanationOf};
 use crate::read_given;
 use book_base::ReadFault;
 use broken_rules::{broken_line, broken_rule};
+use legal_prefixes::{LongestPrefix, blocked_after, longest_prefix, prefix_text};
 use std::alloc::Global;
 
-/// What is said, in one line, of the rules that a book breaks.
+/// What is said of a book: why it has no legal order, or that no rule of its kind is broken.
 pub enum Explanation {
-    /// The book breaks a rule of its kind: which one, and by which calls.
-    Broken(Vec<u8>),
-    /// The book breaks none of the rules.
+    /// The book has no legal order: it breaks a rule of its kind, and the text says which one and by
+    /// which calls; or it breaks none, and the text is that of a longest legal prefix.
+    Illegal(Vec<u8>),
+    /// The book breaks none of the rules. Either it has a legal order, or there are too many legal
+    /// prefixes to look for a longest one, and then the text says that.
     NoneBroken(Vec<u8>),
 }
 
-/// The line that says which rule of its kind the book breaks that the bytes give, or that it breaks
-/// none.
+/// Which rule of its kind the book breaks that the bytes give, in one line. Where it breaks none and
+/// has no legal order: a longest legal prefix of the book, a line for each of its calls, and the calls
+/// that may come next after it, each with the reply that the object gives it there. The search for
+/// such a prefix gives up where it would be long.
 ///
 /// A text fault names the first line that is wrong, counted from the title of the book, and the
 /// first test that this line fails.
 pub fn explained_text(alloc: Global, bytes: &[u8]) -> Result<Explanation, ReadFault>
-    // With `Broken` the bytes give a book that breaks a rule of its kind, and so has no legal
-    // order, and the line says which rule, and by which calls. With `NoneBroken` the book breaks
-    // none, and the line says that.
+    // With `Illegal` the bytes give a book that has no legal order, and the text says which rule of
+    // its kind it breaks; or it breaks none, and the text is that of a longest legal prefix and the
+    // calls that may come next after it. With `NoneBroken` the book breaks none of the rules, and the
+    // text says that; either it has a legal order, or the text says that the search for a longest
+    // legal prefix gave up.
     ensures explained { IfOk result (IsExplanationOf bytes.now) }
     // An error is the first fault of the bytes, which then give no book, or that memory ran out.
     ensures refused { IfErr result (IsNotGiven bytes.now) }
@@ -41,14 +48,28 @@ pub fn explained_text(alloc: Global, bytes: &[u8]) -> Result<Explanation, ReadFa
     explained(alloc, bytes)
 }
 
-// Reads the bytes, and writes the line of a rule that the book breaks, or that it breaks none.
+// Reads the bytes, and writes why the book has no legal order, or that it breaks none of the rules.
 fn explained(alloc: Global, bytes: &[u8]) -> Result<Explanation, ReadFault>
     ensures explained { IfOk result (IsExplanationOf bytes.now) }
     ensures refused { IfErr result (IsNotGiven bytes.now) }
 {
     let (kind, book) = read_given(alloc, bytes)?;
     match broken_rule(kind, &book) {
-        Some(broken) => Ok(Explanation::Broken(broken_line(alloc, kind, &book, broken)?)),
-        None => Ok(Explanation::NoneBroken(b"no rule of these is broken\n".to_vec(alloc)?)),
+        Some(broken) => Ok(Explanation::Illegal(broken_line(alloc, kind, &book, broken)?)),
+        None => match longest_prefix(alloc, kind, &book)? {
+            LongestPrefix::Longest(prefix) => {
+                let all = blocked_after(alloc, kind, &book, &prefix)?;
+                let text = prefix_text(alloc, kind, &book, &prefix, &all)?;
+                Ok(Explanation::Illegal(text))
+            }
+            LongestPrefix::Whole => {
+                Ok(Explanation::NoneBroken(b"no rule of these is broken\n".to_vec(alloc)?))
+            }
+            LongestPrefix::Many => Ok(Explanation::NoneBroken(
+                b"no rule of these is broken, and there are too many legal prefixes to try\n".to_vec(
+                    alloc,
+                )?,
+            )),
+        },
     }
 }

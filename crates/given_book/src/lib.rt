@@ -1,7 +1,6 @@
 //! The book that an input gives: its text in either version, or the witness after the report of a
 //! run or after the verdict of monitors; which error line of the report was the first; and what is
-//! written of the book: a smaller book without a legal order, which rule of its kind it breaks, and
-//! its picture.
+//! written of the book: a smaller book without a legal order, why it has none, and its picture.
 #![tactic(auto)]
 
 mod error_line;

@@ -142,12 +142,13 @@ pub extern "C" fn selfcheck_picture(
     }
 }
 
-/// Writes into a buffer the line that says which rule of its kind the book breaks that the bytes
-/// give, and by which calls, or that it breaks none of them. A book that breaks a rule has no legal
-/// order; one that breaks none may have one or not. The bytes are a book's text in either version,
-/// or what a run or monitors have written with its witness. `written` is the line's length, even
-/// where the buffer can't hold it and nothing is written. Where the bytes are refused, `refusal`
-/// says why.
+/// Writes into a buffer why the book has no legal order that the bytes give: which rule of its kind it
+/// breaks, and by which calls; or, where it breaks none, a longest legal prefix and the calls that may
+/// come next after it, each with the reply that the object gives it there. Of a book that breaks no
+/// rule and has a legal order, or too many legal prefixes to try, one line says that. The bytes are a
+/// book's text in either version, or what a run or monitors have written with its witness. `written`
+/// is the text's length, even where the buffer can't hold it and nothing is written. Where the bytes
+/// are refused, `refusal` says why.
 #[unsafe(no_mangle)]
 pub extern "C" fn selfcheck_explain(
     alloc: Global,
@@ -156,13 +157,15 @@ pub extern "C" fn selfcheck_explain(
     written: &mut usize,
     refusal: &mut Refusal,
 ) -> u32
-    // With `ILLEGAL` or `DONE` the line fits the buffer.
+    // With `ILLEGAL` or `DONE` the text fits the buffer.
     ensures held { (result ≡ ILLEGAL) ⊎ (result ≡ DONE) → written.new ≤ length buffer.new }
-    // With `ILLEGAL` the bytes give a book that breaks a rule of its kind, and so has no legal
-    // order, and the first `written` bytes of the buffer say which rule, and by which calls.
+    // With `ILLEGAL` the bytes give a book that has no legal order, and the first `written` bytes of
+    // the buffer say why: which rule of its kind it breaks, and by which calls, or, where it breaks
+    // none, a longest legal prefix and the calls that may come next after it.
     ensures explained { result ≡ ILLEGAL → IsExplained text.now (take written.new buffer.new) }
     // With `DONE` the bytes give a book that breaks none of the rules of its kind, and the first
-    // `written` bytes of the buffer say that.
+    // `written` bytes of the buffer say that: either the book has a legal order, or they also say that
+    // it has too many legal prefixes to try.
     ensures none_broken { result ≡ DONE → SaysNoneBroken text.now (take written.new buffer.new) }
     // With `ILLEGAL` or `DONE` the bytes of the buffer after the first `written` are as they were.
     ensures rest { (result ≡ ILLEGAL) ⊎ (result ≡ DONE) →
@@ -172,8 +175,7 @@ pub extern "C" fn selfcheck_explain(
     ensures refused { result ≡ REFUSED → IsGivenRefusal text.now refusal.new }
     // With `NO_ROOM` the count `written` is greater than the length of the buffer.
     ensures no_room { result ≡ NO_ROOM → length buffer.old < written.new }
-    // With `NO_ROOM` there is a line, `written` bytes long, that says which rule the book breaks,
-    // and by which calls, or that it breaks none.
+    // With `NO_ROOM` there is such a text, `written` bytes long.
     ensures unheld { result ≡ NO_ROOM → (wanted : List ℕ)
         × (IsExplained text.now wanted ⊎ SaysNoneBroken text.now wanted)
         × (length wanted ≡ written.new) }
@@ -195,7 +197,7 @@ pub extern "C" fn selfcheck_explain(
         (result ≡ REFUSED) ⊎ (result ≡ NO_MEMORY) }
 {
     match explained_text(alloc, text) {
-        Ok(Explanation::Broken(line)) => {
+        Ok(Explanation::Illegal(line)) => {
             *written = line.len();
             if put(buffer, &line) { ILLEGAL } else { NO_ROOM }
         }

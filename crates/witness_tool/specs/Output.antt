@@ -20,7 +20,7 @@ IsFineFor Explain bytes text = SaysNoneBroken bytes text
 IsFineFor Certificate bytes text = Certifies bytes text
 
 -- The text is written of the bytes with the status `Found`: a smaller book of the one that they
--- give; which rule of its kind that book breaks; or that the book whose text they are is illegal.
+-- give; why that book has no legal order; or that the book whose text they are is illegal.
 abbrev pub IsFoundFor : Task → List ℕ → List ℕ → Type 0
 IsFoundFor Picture bytes text = ⊥
 IsFoundFor Smaller bytes text = IsSmallerWitness bytes text

@@ -13,7 +13,8 @@ pub(crate) enum Task {
     Picture,
     /// A smaller book that is illegal still, of the book that the input gives.
     Smaller,
-    /// Which rule of its kind the book breaks that the input gives.
+    /// Why the book has no legal order that the input gives: which rule of its kind it breaks, or how far a legal
+    /// order could begin.
     Explain,
     /// A certificate of the book whose text the input is.
     Certificate,
@@ -54,7 +55,7 @@ impl TextProgram for Task {
                 None => Ok(ProgramAnswer::Fine(b"legal\n".to_vec(alloc)?)),
             },
             Task::Explain => match explained_text(alloc, bytes)? {
-                Explanation::Broken(line) => Ok(ProgramAnswer::Found(line)),
+                Explanation::Illegal(line) => Ok(ProgramAnswer::Found(line)),
                 Explanation::NoneBroken(line) => Ok(ProgramAnswer::Fine(line)),
             },
             Task::Certificate => match certify(alloc, bytes)? {

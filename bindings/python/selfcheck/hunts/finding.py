@@ -11,8 +11,8 @@ class Finding:
 
     `trial` is the run as it was found, and `small` the small one: where `repeats` denies that it
     came again by its seed, they are the same. `small_book` is the smallest part of the small run's
-    book that is illegal too, and None where the run isn't illegal. `explanation` is the line that
-    says which rule of its kind that book breaks, if it breaks one. `again` brings the small run
+    book that is illegal too, and None where the run isn't illegal. `explanation` is the text that
+    says which rule of its kind that book breaks, or, if it breaks none, how far a legal order could begin. `again` brings the small run
     again, by `replay`.
     """
 

@@ -1,6 +1,6 @@
 use Rattle.std.proofs.Common.{◌≡◌, ◌∙◌, true, is_some, below_more, sym, arith}
 use Rattle.list_laws.proofs.Options.{some_from_is_some}
-use Rattle.report_lines.specs.Lines.{lines_at, error_in}
+use Rattle.report_lines.specs.Lines.{error_in}
 use Rattle.given_book.proofs.FirstErrors.{error_by_line, no_error, none_of_caller}
 use Rattle.given_book.proofs.error_line.first_error_in.Goals as goal
 

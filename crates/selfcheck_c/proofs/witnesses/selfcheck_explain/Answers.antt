@@ -4,8 +4,8 @@ use Rattle.selfcheck_c.proofs.witnesses.selfcheck_explain.Goals as goal
 
 pub returns-then-put-clause-explained : goal.returns-then-put-clause-explained
 returns-then-put-clause-explained c = λ _.
-    let said = rw c.in-Ok-Broken.field-0-is at c.in-Ok-Broken.ensures.explained in
-    let items = c.in-Ok-Broken.line.items in
+    let said = rw c.in-Ok-Illegal.field-0-is at c.in-Ok-Illegal.ensures.explained in
+    let items = c.in-Ok-Illegal.line.items in
     let counted : c.len.result ≡ length items = omega (arith, c.len.ensures) in
     let same : c.len.result ≡ length c.deref.result.now =
     counted ∙ ap (λ (l : List ℕ). length l) (sym c.deref.ensures.value) in
@@ -16,15 +16,15 @@ returns-then-put-clause-explained c = λ _.
     subst (λ (bytes : List ℕ). IsExplained c.args.text.now bytes) (sym written) said
 
 pub returns-then-put-clause-fault_told : goal.returns-then-put-clause-fault_told
-returns-then-put-clause-fault_told c = λ fault h. absurd (c.in-Ok-Broken.ensures.first fault h)
+returns-then-put-clause-fault_told c = λ fault h. absurd (c.in-Ok-Illegal.ensures.first fault h)
 
-pub returns-in-Ok-Broken-clause-unheld : goal.returns-in-Ok-Broken-clause-unheld
-returns-in-Ok-Broken-clause-unheld c = λ _.
-    let said = rw c.in-Ok-Broken.field-0-is at c.in-Ok-Broken.ensures.explained in
-    (c.in-Ok-Broken.line.items, inl said, omega (arith, c.len.ensures))
+pub returns-in-Ok-Illegal-clause-unheld : goal.returns-in-Ok-Illegal-clause-unheld
+returns-in-Ok-Illegal-clause-unheld c = λ _.
+    let said = rw c.in-Ok-Illegal.field-0-is at c.in-Ok-Illegal.ensures.explained in
+    (c.in-Ok-Illegal.line.items, inl said, omega (arith, c.len.ensures))
 
-pub returns-in-Ok-Broken-clause-fault_told : goal.returns-in-Ok-Broken-clause-fault_told
-returns-in-Ok-Broken-clause-fault_told c = λ fault h. absurd (c.in-Ok-Broken.ensures.first fault h)
+pub returns-in-Ok-Illegal-clause-fault_told : goal.returns-in-Ok-Illegal-clause-fault_told
+returns-in-Ok-Illegal-clause-fault_told c = λ fault h. absurd (c.in-Ok-Illegal.ensures.first fault h)
 
 pub returns-then-put-2-clause-none_broken : goal.returns-then-put-2-clause-none_broken
 returns-then-put-2-clause-none_broken c = λ _.

@@ -1,0 +1,5 @@
+pub mod Leading
+pub mod Layering
+pub mod Adding
+pub mod Blocking
+pub mod Joining

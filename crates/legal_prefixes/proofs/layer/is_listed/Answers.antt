@@ -1,0 +1,13 @@
+use Rattle.legal_prefixes.proofs.Adding.{item_has}
+use Rattle.legal_prefixes.proofs.layer.is_listed.Goals as goal
+
+pub returns-then-leads_to : goal.returns-then-leads_to
+returns-then-leads_to c _ =
+    let same = c.leads_to.ensures c.if-leads_to.true in (
+      c.loop-prefix.prefix-index,
+      c.prefix-item.result,
+      item_has c.args.prefixes.now c.loop-prefix.prefix-index c.prefix-item.result
+          c.loop-prefix-test.true c.prefix-item.is,
+      same.0,
+      same.1,
+    )

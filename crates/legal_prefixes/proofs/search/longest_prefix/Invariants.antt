@@ -1,0 +1,10 @@
+use Rattle.std.proofs.Common.{◌≡◌}
+use Rattle.legal_prefixes.specs.declared.TheConstants.{LIST_ROOM}
+use Rattle.legal_prefixes.specs.Layers.{IsLayer}
+use Rattle.legal_prefixes.proofs.search.longest_prefix.Given as goal
+
+abbrev pub invariant-loop-count : goal.invariant-loop-count
+invariant-loop-count l = record {
+  room : l.here.room ≡ LIST_ROOM;
+  layer : IsLayer l.kind l.book l.count l.layer.items;
+}

@@ -1,0 +1,4 @@
+pub mod Prefixes
+pub mod Layers
+pub mod Longest
+pub mod Texts
