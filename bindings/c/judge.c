@@ -1,6 +1,8 @@
 /* judge verify|order|certify|smaller|explain|picture: reads a text from standard input, and writes what is said of it, as
  * the program selfcheck writes it, or the book's certificate, a smaller book, why it has no order, or its picture. Ends
- * with the library's status, and with 2 where the word isn't right. */
+ * with the library's status, and with 2 where the word isn't right.
+ *
+ * judge import WORD ..: reads a log, and writes its books and ends as the program selfcheck-import does. */
 #include "selfcheck.h"
 #include <stdio.h>
 #include <stdlib.h>
@@ -41,15 +43,59 @@ static uint32_t write_by(writer *write, uint32_t wanted, uint32_t other, const u
     }
 }
 
+/* The words, each with a line feed after it; null for want of memory. */
+static char *lines_of(char **words, int count) {
+    size_t length = 1;
+    for (int i = 0; i < count; i++) length += strlen(words[i]) + 1;
+    char *lines = malloc(length);
+    if (lines == NULL) return NULL;
+    char *end = lines;
+    for (int i = 0; i < count; i++) end += sprintf(end, "%s\n", words[i]);
+    *end = 0;
+    return lines;
+}
+
+/* Writes the books of a log, or its first fault. */
+static int import_log(const char *words, const uint8_t *log, size_t length) {
+    struct selfcheck_refusal refusal = {0, 0};
+    size_t room = length, written = 0;
+    for (;;) {
+        char *buffer = malloc(room + 1);
+        if (buffer == NULL) return SELFCHECK_NO_MEMORY;
+        uint32_t status = selfcheck_import((const uint8_t *)words, strlen(words), log, length, (uint8_t *)buffer, room,
+                                           &written, &refusal);
+        if (status == SELFCHECK_DONE) {
+            fwrite(buffer, 1, written, stdout);
+            buffer[written] = 0;
+            /* a key without a book has such a line, and no other line begins so */
+            if (strstr(buffer, "\nrefused ") != NULL) status = SELFCHECK_REFUSED;
+        } else if (status == SELFCHECK_REFUSED) {
+            printf("refused %llu %s\n", (unsigned long long)refusal.line, selfcheck_log_name(refusal.what));
+        }
+        free(buffer);
+        if (status != SELFCHECK_NO_ROOM) return status == SELFCHECK_UNFIT ? 2 : (int)status;
+        room = written;
+    }
+}
+
 int main(int count, char **words) {
-    const char *word = count == 2 ? words[1] : "";
+    const char *word = count >= 2 ? words[1] : "";
     struct selfcheck_refusal refusal = {0, 0};
     int says = 0; /* whether the verdict is told by a word */
     uint32_t status;
     size_t length;
     uint8_t *text = read_all(stdin, &length);
     if (text == NULL) return SELFCHECK_NO_MEMORY;
-    if (strcmp(word, "verify") == 0) {
+    if (strcmp(word, "import") == 0) {
+        char *lines = lines_of(words + 2, count - 2);
+        int ended = lines == NULL ? SELFCHECK_NO_MEMORY : import_log(lines, text, length);
+        free(lines);
+        free(text);
+        return ended;
+    }
+    if (count != 2) {
+        status = 2;
+    } else if (strcmp(word, "verify") == 0) {
         says = 1;
         status = selfcheck_verify(text, length, &refusal);
     } else if (strcmp(word, "order") == 0) {

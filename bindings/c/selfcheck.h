@@ -1,5 +1,6 @@
-/* Verdicts on the texts of books and certificates, smaller books, explanations and pictures, calls that check themselves
- * or that monitors judge, and checks of histories by models, by a proved library. docs/FORMATS.md has the texts.
+/* Verdicts on the texts of books and certificates, smaller books, explanations and pictures, books of the logs of other
+ * tools, calls that check themselves or that monitors judge, and checks of histories by models, by a proved library.
+ * docs/FORMATS.md has the texts.
  *
  * Link libselfcheck.a or libselfcheck.so, which takes memory from malloc.
  *
@@ -36,7 +37,7 @@ enum selfcheck_status {
     SELFCHECK_REFUSED = 3,   /* the text isn't one of the wanted form: the refusal says why */
     SELFCHECK_NO_MEMORY = 6, /* nothing is said of the text, or of the reply */
     SELFCHECK_NO_ROOM = 8,   /* the buffer is too short, and `written` says how long a one is needed */
-    SELFCHECK_UNFIT = 9,     /* the slot isn't as the call wants it, or there is no such table: nothing has changed */
+    SELFCHECK_UNFIT = 9,     /* the slot or the words aren't as the call wants them, or there is no such table: nothing has changed */
     SELFCHECK_ASK = 10,      /* the question is written: what its operation does at its state is to be told */
     SELFCHECK_PAUSED = 11,   /* the steps are used up, and nothing is said yet: a further call goes on */
     SELFCHECK_CONTRADICTS = 12, /* another step was told of this state and operation: nothing has changed */
@@ -51,8 +52,15 @@ enum selfcheck_what {
     SELFCHECK_LAST, SELFCHECK_STOP, SELFCHECK_TURNS, SELFCHECK_END, SELFCHECK_REST
 };
 
-/* The first fault of a text: its line, counted from 1, and what is wrong there, an enum selfcheck_what. A call writes
- * it where its status is SELFCHECK_REFUSED, and else leaves it as it was. */
+/* What is wrong with a log, by the names of docs/FORMATS.md. */
+enum selfcheck_log_what {
+    SELFCHECK_LOG_LINE, SELFCHECK_LOG_HEADER, SELFCHECK_LOG_PROCESS, SELFCHECK_LOG_TYPE, SELFCHECK_LOG_OPERATION,
+    SELFCHECK_LOG_TIME, SELFCHECK_LOG_PENDING, SELFCHECK_LOG_UNASKED, SELFCHECK_LOG_VALUE, SELFCHECK_LOG_REPLY,
+    SELFCHECK_LOG_TOO_MANY, SELFCHECK_LOG_LONG
+};
+
+/* The first fault of a text: its line, counted from 1, and what is wrong there, an enum selfcheck_what, or of a log an
+ * enum selfcheck_log_what. A call writes it where its status is SELFCHECK_REFUSED, and else leaves it as it was. */
 struct selfcheck_refusal {
     uint64_t line;
     uint32_t what;
@@ -96,6 +104,15 @@ SELFCHECK_EXPORT uint32_t selfcheck_explain(const uint8_t *text, size_t length, 
  * REFUSED, NO_MEMORY or NO_ROOM; but for DONE the buffer is as it was. */
 SELFCHECK_EXPORT uint32_t selfcheck_picture(const uint8_t *text, size_t length, uint8_t *buffer,
     size_t room, size_t *written, struct selfcheck_refusal *refusal);
+
+/* Writes into the buffer the books of a log of another tool, and the text's length into `written`: for each key its name,
+ * the names of its values, the lines of its calls and its book, or why it has none, as "Logs of other tools" in
+ * docs/FORMATS.md has it. The words say how the log is read, as they do there, each with a line feed after it:
+ * "--format\njepsen\n--kind\nqueue\n". REFUSED where the log has a fault, UNFIT where the words aren't right. But for DONE
+ * the buffer is as it was. DONE, REFUSED, NO_MEMORY, NO_ROOM or UNFIT. */
+SELFCHECK_EXPORT uint32_t selfcheck_import(const uint8_t *words, size_t words_length,
+    const uint8_t *log, size_t length, uint8_t *buffer, size_t room, size_t *written,
+    struct selfcheck_refusal *refusal);
 
 /* Calls that check themselves. A table of callers stands beside an object: each caller announces a call there, makes the
  * object's own call, and hands in its reply, which is delivered, or is an error with a witness. Or callers hand in replies
@@ -297,6 +314,14 @@ static inline const char *selfcheck_name(uint32_t what) {
     return what <= SELFCHECK_REST ? names[what] : "?";
 }
 
+/* The name of what is wrong with a log; "?" where no fault of a log has this number. */
+static inline const char *selfcheck_log_name(uint32_t what) {
+    static const char *const names[SELFCHECK_LOG_LONG + 1] = {
+        "Line", "Header", "Process", "Type", "Operation", "Time", "Pending", "Unasked", "Value", "Reply", "TooMany", "Long",
+    };
+    return what <= SELFCHECK_LOG_LONG ? names[what] : "?";
+}
+
 /* The fences round the object's own call: the first one between the announcement and the call, the
  * second one between the call and what hands in its reply. The inline functions below have them.
  *
@@ -388,6 +413,15 @@ static inline uint32_t selfcheck_picture_inline(const uint8_t *text, size_t leng
     return selfcheck_picture(text, length, selfcheck_buffer(buffer, room), room, written, refusal);
 }
 
+static inline uint32_t selfcheck_import_inline(const uint8_t *words, size_t words_length,
+    const uint8_t *log, size_t length, uint8_t *buffer, size_t room, size_t *written,
+    struct selfcheck_refusal *refusal) {
+    words = selfcheck_text(words, words_length);
+    log = selfcheck_text(log, length);
+    return selfcheck_import(words, words_length, log, length, selfcheck_buffer(buffer, room), room,
+        written, refusal);
+}
+
 static inline uint32_t selfcheck_open_inline(const uint8_t *kind, size_t length, uint32_t callers,
     uint64_t calls, struct selfcheck_slot *slot) {
     return selfcheck_open(selfcheck_text(kind, length), length, callers, calls, slot);
@@ -436,6 +470,7 @@ static inline void selfcheck_point_of(const char *file, int line) {
 #define selfcheck_smaller selfcheck_smaller_inline
 #define selfcheck_explain selfcheck_explain_inline
 #define selfcheck_picture selfcheck_picture_inline
+#define selfcheck_import selfcheck_import_inline
 #define selfcheck_open selfcheck_open_inline
 #define selfcheck_witness selfcheck_witness_inline
 #define selfcheck_model_order selfcheck_model_order_inline

@@ -23,6 +23,9 @@ static void try_names(void) {
     HOLDS(strcmp(selfcheck_name(SELFCHECK_REST), "Rest") == 0);
     HOLDS(strcmp(selfcheck_name(SELFCHECK_REST + 1), "?") == 0);
     HOLDS(strcmp(selfcheck_name(UINT32_MAX), "?") == 0);
+    HOLDS(strcmp(selfcheck_log_name(SELFCHECK_LOG_LINE), "Line") == 0);
+    HOLDS(strcmp(selfcheck_log_name(SELFCHECK_LOG_LONG), "Long") == 0);
+    HOLDS(strcmp(selfcheck_log_name(SELFCHECK_LOG_LONG + 1), "?") == 0);
 }
 
 /* Each text, kind and buffer of length 0 may be null. */
@@ -40,6 +43,10 @@ static void try_empty(void) {
     HOLDS(selfcheck_explain(NULL, 0, NULL, 0, &written, &refusal) == SELFCHECK_REFUSED);
     HOLDS(selfcheck_picture(NULL, 0, NULL, 0, &written, &refusal) == SELFCHECK_REFUSED);
     HOLDS(written == 0);
+    const uint8_t words[] = "--format\njsonl\n--kind\nqueue\n";
+    HOLDS(selfcheck_import(NULL, 0, NULL, 0, NULL, 0, &written, &refusal) == SELFCHECK_UNFIT && written == 0);
+    HOLDS(selfcheck_import(words, sizeof words - 1, NULL, 0, NULL, 0, &written, &refusal) == SELFCHECK_NO_ROOM);
+    HOLDS(written > strlen("key\nbook 2\n"));
     HOLDS(selfcheck_smaller(book, length, NULL, 0, &written, &refusal) == SELFCHECK_NO_ROOM);
     HOLDS(written == length);
     HOLDS(selfcheck_explain(book, length, NULL, 0, &written, &refusal) == SELFCHECK_NO_ROOM);

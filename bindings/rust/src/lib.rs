@@ -33,6 +33,8 @@
 //! Code that uses the types of [`schedule`] in place of the standard library's runs one thread at a time, by a seed, and
 //! [`hunt()`] makes random calls of an object under such schedules, until one is wrong; what it finds comes again.
 //!
+//! The log of another tool, such as Jepsen's `history.edn`, is read by [`logs`] as books, one for each key.
+//!
 //! An object that is of no [`Kind`] is judged by a [`Model`], a sequential object in plain Rust: see [`model`].
 //!
 //! ```
@@ -95,6 +97,8 @@ pub mod hunt;
 mod kind;
 #[allow(unsafe_code)]
 mod library;
+#[forbid(unsafe_code)]
+pub mod logs;
 #[forbid(unsafe_code)]
 pub mod model;
 #[forbid(unsafe_code)]

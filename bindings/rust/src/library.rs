@@ -79,6 +79,16 @@ unsafe extern "C" {
         written: &mut usize,
         refusal: &mut Refusal,
     ) -> u32;
+    fn selfcheck_import(
+        words: *const u8,
+        words_length: usize,
+        log: *const u8,
+        length: usize,
+        buffer: *mut u8,
+        room: usize,
+        written: &mut usize,
+        refusal: &mut Refusal,
+    ) -> u32;
     fn selfcheck_open(
         kind: *const u8,
         length: usize,
@@ -354,6 +364,55 @@ pub fn picture(text: impl AsRef<[u8]>) -> Result<String, Fault> {
     match status {
         DONE => Ok(picture),
         status => Err(fault(status, &refusal)),
+    }
+}
+
+/// What the library says of a log.
+pub(crate) enum Imported {
+    /// What it writes of it.
+    Text(Vec<u8>),
+    /// The line of the first fault, and the number of what is wrong there.
+    Refused { line: u64, what: u32 },
+    /// The words that say how the log is read aren't right.
+    Unfit,
+    /// Want of memory.
+    NoMemory,
+}
+
+/// What the library says of a log, which is read as the words say, each with a line feed after it.
+pub(crate) fn import(words: &[u8], log: &[u8]) -> Imported {
+    check_version();
+    // mostly enough
+    let mut buffer = vec![0; 2 * log.len() + 4096];
+    loop {
+        let (mut written, mut refusal) = (0, Refusal::default());
+        // SAFETY: as in `written_by`.
+        let status = unsafe {
+            selfcheck_import(
+                words.as_ptr(),
+                words.len(),
+                log.as_ptr(),
+                log.len(),
+                buffer.as_mut_ptr(),
+                buffer.len(),
+                &mut written,
+                &mut refusal,
+            )
+        };
+        match status {
+            DONE => {
+                buffer.truncate(written);
+                return Imported::Text(buffer);
+            }
+            NO_ROOM => buffer.resize(written, 0),
+            REFUSED => {
+                let Refusal { line, what } = refusal;
+                return Imported::Refused { line, what };
+            }
+            UNFIT => return Imported::Unfit,
+            NO_MEMORY => return Imported::NoMemory,
+            status => no_such_status(status),
+        }
     }
 }
 

@@ -1,17 +1,17 @@
 -- What a swept book says once all calls are named and none is due, and where no caller is free.
-use Rattle.std.proofs.Common.{◌≡◌, ℕ, ◌+◌, ◌-◌, ◌<◌, ◌≤◌, ◌⊎◌, ◌∙◌, ◌↔◌, List, [], ◌∷◌, length, Option, Some, None, refl, sym, ap, subst, inl, inr, slice_get, arith}
+use Rattle.std.proofs.Common.{◌≡◌, ℕ, ◌+◌, ◌-◌, ◌<◌, ◌≤◌, ◌⊎◌, ◌∙◌, List, length, Option, Some, None, refl, sym, ap, subst, inl, inr, slice_get, arith}
 use Rattle.std.specs.Prelude.{IsSomeAnd, slice_index}
 use Rattle.std.proofs.lemmas.Bool.{cases_lt}
-use Rattle.std.proofs.lemmas.Option.{none-some, same_Some, slice_get_within, slice_get_cases, slice_get_past}
+use Rattle.std.proofs.lemmas.Option.{none-some, same_Some, slice_get_cases, slice_get_past}
 use Rattle.book_base.specs.declared.call.Call.{Call}
 use Rattle.book_base.specs.declared.call.Record.{Record}
 use Rattle.book_base.specs.declared.TheConstants.{MAX_CALLS}
-use Rattle.book_base.specs.Book.{Page, page_of, calls_of, answers_of, IsCall, IsAnswered, record_of, IsValid, IsSmall, Precedes, first_unanswered}
+use Rattle.book_base.specs.Book.{Page, calls_of, answers_of, IsCall, IsAnswered, record_of, IsValid, IsSmall, first_unanswered}
 use Rattle.book_base.proofs.PageLemmas.{caller_from_call}
 use Rattle.book_base.proofs.ViewLemmas.{same_call, answer_stands, precedes_by_view}
 use Rattle.history_books.specs.declared.timed_call.TimedCall.{TimedCall}
 use Rattle.history_books.specs.declared.timed_call.Answer.{Answer}
-use Rattle.history_books.specs.Calls.{LogPrecedes, IsDue}
+use Rattle.history_books.specs.Calls.{LogPrecedes}
 use Rattle.history_books.specs.BookOf.{IsBookOf}
 use Rattle.history_books.specs.Sweep.{IsSwept, NoneIsDue, IsFree}
 use Rattle.history_books.specs.Causes.{AreGiven, IsBusy, IsFull, NoneTakes}

@@ -1,12 +1,11 @@
 -- What one more call and one more answer change in a book, and one new item in a list.
-use Rattle.std.proofs.Common.{◌≡◌, ◌≢◌, ℕ, zero, suc, ◌+◌, ◌<◌, ◌≤◌, ◌⊎◌, ◌∙◌, List, [], ◌∷◌, ◌++◌, length, set, get_or, Some, refl, sym, ap, subst, inl, inr, slice_get, arith, length-append}
+use Rattle.std.proofs.Common.{◌≡◌, ◌≢◌, ℕ, zero, suc, ◌+◌, ◌<◌, ◌⊎◌, ◌∙◌, List, [], ◌∷◌, ◌++◌, length, set, Some, refl, sym, ap, subst, inl, inr, slice_get, arith, length-append}
 use Rattle.std.proofs.lemmas.Bool.{cases_eq, cases_lt}
-use Rattle.std.proofs.lemmas.Option.{slice_get_within}
 use Rattle.list_laws.proofs.Places.{slice_get-push_old, slice_get-push_last}
 use Rattle.book_base.specs.declared.call.Call.{Call}
 use Rattle.book_base.specs.declared.call.Record.{Record}
 use Rattle.book_base.specs.Book.{Page, page_of, calls_of, answers_of, IsCall, operation_of, record_of, with_call, with_answer}
-use Rattle.book_base.proofs.GrowthLemmas.{page_of-set_same, page_of-set_other, records-with_call, calls_of-with_answer}
+use Rattle.book_base.proofs.GrowthLemmas.{page_of-set_same, page_of-set_other, records-with_call}
 use Rattle.book_base.proofs.ViewLemmas.{same_call}
 
 -- the item that is put into a list is at its place

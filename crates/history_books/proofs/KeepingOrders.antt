@@ -1,7 +1,7 @@
 -- A legal order of a book of timed calls, under the names that another book of the same calls has
 -- for them.
-use Rattle.std.proofs.Common.{◌≡◌, ℕ, zero, suc, ◌<◌, ◌∙◌, List, [], ◌∷◌, length, map, Option, Some, None, unwrap_or, refl, sym, ap, subst, slice_get, inl, inr, arith}
-use Rattle.std.proofs.lemmas.Option.{same_Some, none-some, slice_get_within, slice_get_cases}
+use Rattle.std.proofs.Common.{◌≡◌, ℕ, zero, suc, ◌<◌, ◌∙◌, List, [], ◌∷◌, map, Option, Some, unwrap_or, refl, sym, ap, subst, slice_get, inl, inr, arith}
+use Rattle.std.proofs.lemmas.Option.{same_Some, none-some, slice_get_within}
 use Rattle.list_laws.proofs.Options.{cases_Option}
 use Rattle.book_base.specs.declared.call.Call.{Call}
 use Rattle.book_base.specs.declared.call.Record.{Record}
@@ -9,10 +9,9 @@ use Rattle.book_base.specs.declared.call.Place.{Place}
 use Rattle.book_base.specs.SeqSpec.{SeqSpec}
 use Rattle.book_base.specs.Book.{Page, page_of, IsCall, IsValid, operation_of, record_of, Precedes}
 use Rattle.book_base.specs.Sequential.{IsLegalRun}
-use Rattle.book_base.specs.Order.{call_at, StandsAt, step_at, IsLegalOrder, HasLegalOrder}
+use Rattle.book_base.specs.Order.{call_at, StandsAt, step_at, IsLegalOrder}
 use Rattle.history_books.specs.declared.timed_call.TimedCall.{TimedCall}
 use Rattle.history_books.specs.declared.timed_call.Answer.{Answer}
-use Rattle.history_books.specs.Calls.{LogPrecedes}
 use Rattle.history_books.specs.BookOf.{IsBookOf}
 use Rattle.history_books.specs.Laws.{AreWider, AreSameCalls, WiderCallsKeepLegalOrders}
 use Rattle.history_books.proofs.Sweeping.{there_is}
@@ -148,9 +147,10 @@ module _ (calls wides : List TimedCall) (book other : List Page) (names others :
       let wide = wide_of s.at one s.other in
       let first = is.operations s.at call known.0 s.named known.1 in
       let second = its.operations s.at one wide.0 s.other wide.1 in
-      let op = (same.same s.at known.0 wide.0 known.1 wide.1).operation in
-      (second ∙ (ap (λ (n : ℕ). Some n) op ∙ sym first),
-      slice_get_within (page_of other one.caller).operations one.number wide.0.op second)
+      let op = (same.same s.at known.0 wide.0 known.1 wide.1).operation in (
+        second ∙ (ap (λ (n : ℕ). Some n) op ∙ sym first),
+        slice_get_within (page_of other one.caller).operations one.number wide.0.op second,
+      )
 
   -- a call that has an answer in the wider calls has one in the calls, with the same reply
   record IsAnsweredAs (k : ℕ) (late : Answer) : Type 0 where
@@ -265,14 +265,14 @@ module _ (calls wides : List TimedCall) (book other : List Page) (names others :
         elim (cases_Option wide.0.answer) [
           | inl none ↦ absurd (its.unanswered name.0 one wide.0 name.1 wide.1 none inside)
           | inr some ↦
-            (let anew = stands_anew name.0 one wide.0 some.0 name.1 wide.1 some.1 in
-            let its_r = its.answered name.0 one wide.0 some.0 name.1 wide.1 some.1 in
-            let same_r : its_r.0 ≡ r = same_Some its_r.0 r (sym its_r.1 ∙ e) in
-            let reply : anew.place.reply ≡ r.reply =
-            anew.replied ∙ (sym its_r.2 ∙ ap (λ (x : Record). x.reply) same_r) in
-            let caller : anew.place.caller ≡ one.caller = ap (λ (c : Call). c.caller) anew.is_one in
-            let number : anew.place.number ≡ one.number = ap (λ (c : Call). c.number) anew.is_one in
-            (anew.j, anew.at ∙ same_place anew.place one.caller one.number r.reply caller number reply))
+              (let anew = stands_anew name.0 one wide.0 some.0 name.1 wide.1 some.1 in
+              let its_r = its.answered name.0 one wide.0 some.0 name.1 wide.1 some.1 in
+              let same_r : its_r.0 ≡ r = same_Some its_r.0 r (sym its_r.1 ∙ e) in
+              let reply : anew.place.reply ≡ r.reply =
+              anew.replied ∙ (sym its_r.2 ∙ ap (λ (x : Record). x.reply) same_r) in
+              let caller : anew.place.caller ≡ one.caller = ap (λ (c : Call). c.caller) anew.is_one in
+              let number : anew.place.number ≡ one.number = ap (λ (c : Call). c.number) anew.is_one in
+              (anew.j, anew.at ∙ same_place anew.place one.caller one.number r.reply caller number reply))
         ]
 
     run_new : IsLegalRun spec (map (step_at other) new)
@@ -288,18 +288,20 @@ wider_calls_keep_legal_orders spec calls wides book other names others is its va
     let legal = has.1 in
     let new = renamed names others order (λ k call at.
     named_other calls wides book other names others is its wider same call
-    (legal.calls k call at)) in
-    (new.0, record {
-      calls = calls_new calls wides book other names others is its wider same spec order legal
-          new.0 new.1;
-      once = once_new calls wides book other names others is its wider same spec order legal
-          new.0 new.1;
-      earlier = earlier_new calls wides book other names others is its wider same spec order legal
-          new.0 new.1;
-      answered = answered_new calls wides book other names others is its wider same spec order
-          legal new.0 new.1 valid;
-      run = run_new calls wides book other names others is its wider same spec order legal new.0
-          new.1;
-      precedence = precedence_new calls wides book other names others is its wider same spec order
-          legal new.0 new.1;
-    })
+    (legal.calls k call at)) in (
+      new.0,
+      record {
+        calls = calls_new calls wides book other names others is its wider same spec order legal
+            new.0 new.1;
+        once = once_new calls wides book other names others is its wider same spec order legal
+            new.0 new.1;
+        earlier = earlier_new calls wides book other names others is its wider same spec order legal
+            new.0 new.1;
+        answered = answered_new calls wides book other names others is its wider same spec order
+            legal new.0 new.1 valid;
+        run = run_new calls wides book other names others is its wider same spec order legal new.0
+            new.1;
+        precedence = precedence_new calls wides book other names others is its wider same spec order
+            legal new.0 new.1;
+      },
+    )

@@ -1,5 +1,5 @@
 -- A swept book stays swept with one more call, and with one more answer.
-use Rattle.std.proofs.Common.{◌≡◌, ◌≢◌, ℕ, zero, suc, ◌+◌, ◌<◌, ◌≤◌, ◌⊎◌, ◌∙◌, ◌↔◌, List, [], ◌∷◌, ◌++◌, length, set, get_or, replicate, Option, Some, None, refl, sym, ap, subst, inl, inr, slice_get, arith, length-append}
+use Rattle.std.proofs.Common.{◌≡◌, ◌≢◌, ℕ, zero, suc, ◌+◌, ◌<◌, ◌≤◌, ◌∙◌, List, [], ◌∷◌, ◌++◌, length, set, get_or, replicate, Option, Some, None, refl, sym, ap, subst, inl, inr, slice_get, arith, length-append}
 use Rattle.std.proofs.lemmas.Bool.{cases_eq, cases_lt}
 use Rattle.std.specs.Prelude.{IfSome}
 use Rattle.std.proofs.lemmas.List.{length-set, length-replicate}
@@ -8,14 +8,14 @@ use Rattle.list_laws.proofs.Places.{slice_get-push_old, slice_get-push_last, sli
 use Rattle.book_base.specs.declared.call.Call.{Call}
 use Rattle.book_base.specs.declared.call.Record.{Record}
 use Rattle.book_base.specs.Cut.{Holds, IsWithin}
-use Rattle.book_base.specs.Book.{Page, page_of, calls_of, answers_of, IsCall, IsAnswered, operation_of, record_of, announced, IsValid, with_call, with_answer, first_unanswered}
+use Rattle.book_base.specs.Book.{Page, page_of, calls_of, answers_of, IsCall, operation_of, record_of, announced, IsValid, with_call, with_answer, first_unanswered}
 use Rattle.book_base.specs.Refusal.{MayAnswer}
-use Rattle.book_base.proofs.GrowthLemmas.{announced_at, within_announced, below_calls, calls_of-with_answer, record_of-with_answer_cases}
+use Rattle.book_base.proofs.GrowthLemmas.{announced_at, calls_of-with_answer, record_of-with_answer_cases}
 use Rattle.book_base.proofs.ViewLemmas.{same_call}
 use Rattle.history_books.specs.declared.timed_call.TimedCall.{TimedCall}
 use Rattle.history_books.specs.declared.timed_call.Answer.{Answer}
 use Rattle.history_books.specs.Calls.{IsInOrder, IsDue}
-use Rattle.history_books.specs.Sweep.{SeesWhatWasInvoked, IsRecordFor, IsSwept, NoneIsDue, IsFree}
+use Rattle.history_books.specs.Sweep.{SeesWhatWasInvoked, IsSwept, NoneIsDue, IsFree}
 use Rattle.history_books.proofs.Growing.{slice_get-set_here, slice_get-set_other, calls_of-with_call_same, calls_of-with_call_other, answers_of-with_call, record_of-with_call, operation_of-with_call_old, operation_of-with_call_new, is_call-with_call, operation_of-with_answer, answers_of-with_answer_same, answers_of-with_answer_other}
 
 -- an item at a place of a list that is at most as long as another has one there

@@ -1,12 +1,8 @@
 -- Wider calls precede less.
-use Rattle.std.proofs.Common.{◌≡◌, ℕ, ◌≤◌, List, Some, slice_get, subst, sym, arith}
-use Rattle.book_base.specs.declared.call.Call.{Call}
-use Rattle.book_base.specs.Book.{Page, Precedes}
+use Rattle.std.proofs.Common.{ℕ, List, arith}
 use Rattle.history_books.specs.declared.timed_call.TimedCall.{TimedCall}
-use Rattle.history_books.specs.declared.timed_call.Answer.{Answer}
 use Rattle.history_books.specs.Calls.{LogPrecedes}
-use Rattle.history_books.specs.BookOf.{IsBookOf}
-use Rattle.history_books.specs.Laws.{IsWider, AreWider, WiderCallsPrecedeLess}
+use Rattle.history_books.specs.Laws.{AreWider, WiderCallsPrecedeLess}
 
 narrow : (calls wides : List TimedCall) → AreWider calls wides → (a b : ℕ)
     → LogPrecedes wides a b → LogPrecedes calls a b

@@ -1,25 +1,15 @@
 //! The program: it reads a log of another tool on standard input, and writes a book for each key.
 #![tactic(auto)]
 
-mod importing;
-mod key_book;
-mod key_calls;
-mod keys;
-mod names;
-mod operation;
-mod options;
-mod words;
-
 use book_base::NoMemory;
-use byte_streams::{Failed, Source, Status, StdSink, StdSource, write_text};
-use importing::import;
-use options::Options;
+use byte_streams::{Source, Status, StdSink, StdSource, write_text};
+use history_text::LogError;
+use log_books::{Options, import, log_refusal, options_of};
 use std::alloc::Global;
 use std::env;
 use std::io::ErrorKind;
 use std::process::ExitCode;
 use std::rt::Env;
-use words::options as options_of;
 
 /// The code that the program ends with where the system doesn't hand over the command words.
 const NO_WORDS: u8 = 7;
@@ -83,13 +73,23 @@ fn given_words<R: Env + AllocGlobal>(rt: &R) -> Result<Vec<String>, u8> {
     Ok(words)
 }
 
+// What is written of a log, and the status that the program ends with.
+fn written(alloc: Global, options: &Options, bytes: &[u8]) -> Result<(Status, Vec<u8>), NoMemory> {
+    match import(alloc, options, bytes) {
+        Ok(imported) if imported.has_books => Ok((Status::Fine, imported.text)),
+        Ok(imported) => Ok((Status::Refused, imported.text)),
+        Err(LogError::Fault(fault)) => Ok((Status::Refused, log_refusal(alloc, fault)?)),
+        Err(LogError::NoMemory) => Err(NoMemory),
+    }
+}
+
 // Reads the log, and writes its books.
 fn write_books<R: Input + Print + AllocGlobal>(rt: &R, options: &Options) -> Status {
     let mut source = StdSource::new(rt);
     let mut sink = StdSink::new(rt);
     match read_whole(rt.alloc(), &mut source) {
-        Ok(bytes) => match import(rt.alloc(), options, &bytes) {
-            Ok(imported) => write_text(&mut sink, imported.status, &imported.text),
+        Ok(bytes) => match written(rt.alloc(), options, &bytes) {
+            Ok((status, text)) => write_text(&mut sink, status, &text),
             Err(NoMemory) => Status::NoMemory,
         },
         Err(Unread::Fault) => Status::ReadFault,

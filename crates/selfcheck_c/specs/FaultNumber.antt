@@ -1,7 +1,9 @@
--- The numbers by which faults of texts are told to programs in other languages.
+-- The numbers by which faults of texts and of logs are told to programs in other languages.
 use Rattle.std.specs.Prelude.{ℕ}
 use Rattle.book_base.specs.declared.fault.What.{What}
 use Rattle.book_base.specs.declared.fault.What.TheVariants.{Long, Cut, Head, Object, Callers, Calls, Place, Op, Gap, Reply, View, ViewOutside, ViewLacksOwn, ViewHasLater, ViewsCross, Mark, Seen, Last, Stop, Turns, End, Rest}
+use Rattle.history_text.specs.declared.fault.LogWhat.{LogWhat}
+use Rattle.history_text.specs.declared.fault.LogWhat.TheVariants as log
 
 -- The number by which programs in other languages are told what is wrong with a text.
 abbrev pub fault_number : What → ℕ
@@ -27,3 +29,18 @@ fault_number Stop = 18
 fault_number Turns = 19
 fault_number End = 20
 fault_number Rest = 21
+
+-- The number by which programs in other languages are told what is wrong with a log.
+abbrev pub log_fault_number : LogWhat → ℕ
+log_fault_number log.Line = 0
+log_fault_number log.Header = 1
+log_fault_number log.Process = 2
+log_fault_number log.«Type» = 3
+log_fault_number log.Operation = 4
+log_fault_number log.Time = 5
+log_fault_number log.Pending = 6
+log_fault_number log.Unasked = 7
+log_fault_number log.Value = 8
+log_fault_number log.Reply = 9
+log_fault_number log.TooMany = 10
+log_fault_number log.Long = 11

@@ -6,7 +6,8 @@ use Rattle.certificate_text.specs.CertificateRules.{IsFirstCertificateFault}
 use Rattle.given_book.specs.Given.{IsFirstGivenFault}
 use Rattle.text_fields.specs.declared.version.Version.TheVariants.{Second}
 use Rattle.selfcheck_c.specs.declared.refusal.Refusal.{Refusal}
-use Rattle.selfcheck_c.specs.FaultNumber.{fault_number}
+use Rattle.history_text.specs.declared.fault.LogFault.{LogFault}
+use Rattle.selfcheck_c.specs.FaultNumber.{fault_number, log_fault_number}
 
 -- A refusal tells a fault of a text: the fault's line, and the number of what is wrong in it.
 abbrev pub TellsFault : TextFault → Refusal → Type 0
@@ -28,3 +29,12 @@ IsCertificateRefusal bytes refusal = IsRefusalOf (IsFirstCertificateFault bytes)
 -- title of the book.
 abbrev pub IsGivenRefusal : List ℕ → Refusal → Type 0
 IsGivenRefusal bytes refusal = IsRefusalOf (IsFirstGivenFault bytes) refusal
+
+-- A refusal tells a fault of a log: the fault's line, and the number of what is wrong in it.
+abbrev pub TellsLogFault : LogFault → Refusal → Type 0
+TellsLogFault fault refusal = (refusal.line ≡ fault.line)
+    × (refusal.what ≡ log_fault_number fault.what)
+
+-- A refusal tells a fault of a log.
+abbrev pub IsLogRefusal : Refusal → Type 0
+IsLogRefusal refusal = (fault : LogFault) × TellsLogFault fault refusal

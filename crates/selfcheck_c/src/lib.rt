@@ -15,6 +15,7 @@ ghost use Rattle.selfcheck_c.specs.Refusals.{IsBookRefusal, IsCertificateRefusal
 mod buffer;
 mod crossing;
 mod handles;
+mod logs;
 mod models;
 mod placed;
 mod refusal;

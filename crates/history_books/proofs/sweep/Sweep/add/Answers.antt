@@ -1,4 +1,4 @@
-use Rattle.std.proofs.Common.{◌≡◌, ℕ, arith, List, ◌∷◌, [], ◌++◌, Option, Some, set, length, ap, ◌∙◌}
+use Rattle.std.proofs.Common.{◌≡◌, ℕ, arith, ◌∷◌, [], ◌++◌, Some, set, length, ap, ◌∙◌}
 use Rattle.book_base.specs.declared.call.Call.{Call}
 use Rattle.book_base.specs.Book.{with_call, calls_of}
 use Rattle.history_books.proofs.Sweeping.{swept-with_call, swept_along}

@@ -1,4 +1,4 @@
-use Rattle.std.proofs.Common.{◌≡◌, ℕ, ◌<◌, IfSome, IfNone, length}
+use Rattle.std.proofs.Common.{ℕ, ◌<◌, IfSome, IfNone, length}
 use Rattle.history_books.specs.Sweep.{IsFree}
 use Rattle.history_books.proofs.sweep.Sweep.free_caller.Given as goal
 

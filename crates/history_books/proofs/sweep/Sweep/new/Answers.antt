@@ -1,4 +1,4 @@
-use Rattle.std.proofs.Common.{ℕ, List, [], Option, None, replicate}
+use Rattle.std.proofs.Common.{ℕ, [], Option, None, replicate}
 use Rattle.book_base.specs.Book.{Page}
 use Rattle.history_books.proofs.Sweeping.{swept_start, swept_along}
 use Rattle.history_books.proofs.sweep.Sweep.new.Goals as goal

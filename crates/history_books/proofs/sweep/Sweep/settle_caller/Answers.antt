@@ -1,6 +1,5 @@
-use Rattle.std.proofs.Common.{◌≡◌, ℕ, ◌<◌, List, length, get_or, set, Option, Some, None, refl, sym, ap, subst, arith, ◌∙◌, slice_get}
+use Rattle.std.proofs.Common.{◌≡◌, ℕ, List, length, set, Option, Some, None, refl, sym, ap, subst, arith, ◌∙◌}
 use Rattle.std.proofs.lemmas.Option.{same_Some, slice_get_read}
-use Rattle.book_base.specs.declared.call.Record.{Record}
 use Rattle.book_base.specs.Book.{announced, with_answer}
 use Rattle.book_base.specs.Refusal.{MayAnswer}
 use Rattle.book_base.proofs.GrowthLemmas.{announced-with_answer}

@@ -1,4 +1,4 @@
-//! The command words: how the log is read.
+//! The words that say how a log is read.
 
 use crate::operation::Operation;
 use crate::options::{NamedOperation, Options};
@@ -38,7 +38,7 @@ fn nothing(format: Format) -> &'static [u8] {
 /// The words that say how a log is read: `--format F`, `--kind K`, and as many as one likes of
 /// `--keyed`, `--error N`, `--initial V`, `--field ROLE=NAME` and `--op NAME=OPERATION`. `None` for
 /// other words.
-pub fn options<'a>(alloc: Global, words: &[&'a [u8]]) -> Result<Option<Options<'a>>, NoMemory> {
+pub fn options_of<'a>(alloc: Global, words: &[&'a [u8]]) -> Result<Option<Options<'a>>, NoMemory> {
     let mut format: Option<Format> = None;
     let mut kind: Option<Kind> = None;
     let mut clock = Clock::Lines;
@@ -104,4 +104,18 @@ pub fn options<'a>(alloc: Global, words: &[&'a [u8]]) -> Result<Option<Options<'
         roles,
         operations,
     }))
+}
+
+/// The words of some lines, each of which is a word with a line feed after it.
+pub fn words_of_lines(alloc: Global, lines: &[u8]) -> Result<Vec<&[u8]>, NoMemory> {
+    let mut words = Vec::new(alloc);
+    let mut rest = lines;
+    for _ in 0..u64::MAX {
+        let Some(end) = rest.iter().position(|byte| *byte == b'\n') else {
+            break;
+        };
+        words.push(&rest[..end])?;
+        rest = &rest[end + 1..];
+    }
+    Ok(words)
 }

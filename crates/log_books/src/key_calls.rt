@@ -1,5 +1,9 @@
 //! The calls of one key, as calls of the kind with numbers for their values.
 
+ghost use Rattle.std.specs.Prelude.{◌≡◌, None, IfOk, IfSome, IfNone, IsPermutation, List};
+ghost use Rattle.log_books.specs.declared.key_calls.LinedCall.{LinedCall};
+ghost use Rattle.log_books.specs.Calls.{IsMadeOf, AreMadeAt};
+
 use crate::names::Names;
 use crate::operation::{Operation, Says, has_numbers};
 use crate::options::Options;
@@ -48,7 +52,10 @@ fn arguments<'a>(
     let missing = operation.arguments.saturating_sub(found.len());
     let list = match call.arguments {
         Some(list) => Some(list),
-        None if missing > 1 => call.value.and_then(in_brackets),
+        None if missing > 1 => match call.value {
+            Some(value) => in_brackets(value),
+            None => None,
+        },
         None => None,
     };
     match list {
@@ -145,18 +152,22 @@ fn lined<'a>(
     names: &mut Names<'a>,
     process: u64,
     call: &LogCall<'a>,
-) -> Result<Option<LinedCall>, LogError> {
+) -> Result<Option<LinedCall>, LogError>
+    ensures made { IfOk result (λ found. IfSome found (IsMadeOf call.now)) }
+    ensures lost { IfOk result (λ found. IfNone found (call.now.answer ≡ None)) }
+{
     let Some(operation) = options.operation(call.operation) else {
         return Err(wrong(call.line, LogWhat::Operation));
     };
     let op = word_of(alloc, options, operation, names, call)?;
-    let answer = match &call.answer {
+    let (answer, end) = match call.answer {
         None if operation.reads => return Ok(None),
-        None => None,
-        Some(answer) => Some(Answer {
-            returned: answer.returned,
-            reply: reply_of(operation, names, options.initial, answer)?,
-        }),
+        None => (None, None),
+        Some(answer) => {
+            let reply = reply_of(operation, names, options.initial, &answer)?;
+            let returned = answer.returned;
+            (Some(Answer { returned, reply }), Some(answer.line))
+        }
     };
     Ok(Some(LinedCall {
         call: TimedCall {
@@ -166,19 +177,23 @@ fn lined<'a>(
             answer,
         },
         line: call.line,
-        end: call.answer.map(|answer| answer.line),
+        end,
     }))
 }
 
 impl<'a> KeyCalls<'a> {
     /// The calls at these places of the log, without lost ones that change nothing. Of all faults
     /// of their words the first one, by its line, is answered.
+    #[tactic(auto, using(crate::proofs::Making::made_lost, crate::proofs::Making::made_more))]
     pub fn of(
         alloc: Global,
         options: &Options<'a>,
         log: &[LogCall<'a>],
         places: &[usize],
-    ) -> Result<KeyCalls<'a>, LogError> {
+    ) -> Result<KeyCalls<'a>, LogError>
+        ensures { IfOk result (λ found. (made : List LinedCall)
+            × AreMadeAt log.now places.now made × IsPermutation made found.calls.items) }
+    {
         let mut names = Names::new(alloc, has_numbers(options.kind), options.initial)?;
         let mut users: IndexSet<Option<&'a [u8]>> = IndexSet::new(alloc);
         let mut calls = Vec::new(alloc);

@@ -1,7 +1,13 @@
 //! What is written of one key: its name, its values' names, its calls' lines, and its book.
 
+ghost use Rattle.std.specs.Prelude.{◌≡◌, IfOk, map};
+ghost use Rattle.history_books.specs.Calls.{IsInOrder};
+ghost use Rattle.history_books.specs.BookOf.{IsBookOf};
+ghost use Rattle.log_books.specs.Parts.{IsPart};
+
 use crate::key_calls::{KeyCalls, LinedCall};
 use crate::options::Options;
+use crate::refused::log_refusal;
 use book_base::{Call, NoMemory};
 use book_text::write_book;
 use history_books::{HistoryBook, HistoryError, TimedCall, are_in_order, book_of};
@@ -9,32 +15,11 @@ use history_text::{LogCall, LogError, LogFault, LogWhat};
 use seq_objects::put_number;
 use std::alloc::Global;
 
-// The name of what is wrong with a line, as it is written.
-fn name_of(what: LogWhat) -> &'static str {
-    match what {
-        LogWhat::Line => "Line",
-        LogWhat::Header => "Header",
-        LogWhat::Process => "Process",
-        LogWhat::Type => "Type",
-        LogWhat::Operation => "Operation",
-        LogWhat::Time => "Time",
-        LogWhat::Pending => "Pending",
-        LogWhat::Unasked => "Unasked",
-        LogWhat::Value => "Value",
-        LogWhat::Reply => "Reply",
-        LogWhat::TooMany => "TooMany",
-        LogWhat::Long => "Long",
-    }
-}
-
-/// Appends the line of a fault.
-pub fn put_fault(out: &mut Vec<u8>, fault: LogFault) -> Result<(), NoMemory> {
-    out.extend_from_slice(b"refused ")?;
-    put_number(out, fault.line)?;
-    out.push(b' ')?;
-    out.extend_from_slice(name_of(fault.what).as_bytes())?;
-    out.push(b'\n')?;
-    Ok(())
+/// What is written of a key, and whether that ends with a book.
+#[derive(Drop)]
+pub struct KeyPart {
+    pub text: Vec<u8>,
+    pub has_book: bool,
 }
 
 // Appends a line of a word and what it names.
@@ -80,12 +65,24 @@ fn put_lines(out: &mut Vec<u8>, calls: &[LinedCall], names: &[Call]) -> Result<(
     Ok(())
 }
 
-// The book of the calls of a key, or why there is none.
-fn made(alloc: Global, calls: &KeyCalls) -> Result<HistoryBook, LogError> {
+// The calls, without their lines.
+fn timed(alloc: Global, calls: &[LinedCall]) -> Result<Vec<TimedCall>, NoMemory>
+    ensures { IfOk result (λ timed. timed.items ≡ map LinedCall.call calls.now) }
+{
     let mut timed: Vec<TimedCall> = Vec::new(alloc);
-    for lined in &calls.calls {
+    for lined in calls {
         timed.push(lined.call)?;
     }
+    Ok(timed)
+}
+
+// The book of the calls of a key, or why there is none.
+fn made(alloc: Global, calls: &[LinedCall]) -> Result<HistoryBook, LogError>
+    ensures order { IfOk result (λ made. IsInOrder (map LinedCall.call calls.now)) }
+    ensures book { IfOk result (λ made.
+        IsBookOf (map LinedCall.call calls.now) made.book made.names.items) }
+{
+    let timed = timed(alloc, calls)?;
     if !are_in_order(&timed) {
         return Err(at_call(calls, 0, LogWhat::Time));
     }
@@ -98,36 +95,46 @@ fn made(alloc: Global, calls: &KeyCalls) -> Result<HistoryBook, LogError> {
 }
 
 // The fault at a call's line.
-fn at_call(calls: &KeyCalls, place: usize, what: LogWhat) -> LogError {
-    let line = match calls.calls.get(place) {
+fn at_call(calls: &[LinedCall], place: usize, what: LogWhat) -> LogError {
+    let line = match calls.get(place) {
         Some(call) => call.line,
         None => 0,
     };
     LogError::Fault(LogFault { line, what })
 }
 
-/// Appends what is written of one key, whose calls are at these places of the log: whether it has a
-/// book. A fault of the log's words is answered.
-pub fn put_key<'a>(
+/// What is written of one key, whose calls are at these places of the log. A fault of the log's
+/// words is answered.
+pub fn key_part<'a>(
     alloc: Global,
-    out: &mut Vec<u8>,
     options: &Options<'a>,
     key: Option<&'a [u8]>,
     log: &[LogCall<'a>],
     places: &[usize],
-) -> Result<bool, LogError> {
+) -> Result<KeyPart, LogError>
+    // The part ends with the text of the book of the calls, or with the line of a fault.
+    ensures { IfOk result (λ part.
+        IsPart options.now.kind log.now places.now part.has_book part.text.items) }
+{
     let calls = KeyCalls::of(alloc, options, log, places)?;
-    put_line(out, b"key", key)?;
-    match made(alloc, &calls) {
+    let mut text = Vec::new(alloc);
+    put_line(&mut text, b"key", key)?;
+    match made(alloc, &calls.calls) {
         Ok(made) => {
-            put_names(out, &calls)?;
-            put_lines(out, &calls.calls, &made.names)?;
-            out.extend_from_slice(&write_book(alloc, options.kind, &made.book)?)?;
-            Ok(true)
+            put_names(&mut text, &calls)?;
+            put_lines(&mut text, &calls.calls, &made.names)?;
+            text.extend_from_slice(&write_book(alloc, options.kind, &made.book)?)?;
+            Ok(KeyPart {
+                text,
+                has_book: true,
+            })
         }
         Err(LogError::Fault(fault)) => {
-            put_fault(out, fault)?;
-            Ok(false)
+            text.extend_from_slice(&log_refusal(alloc, fault)?)?;
+            Ok(KeyPart {
+                text,
+                has_book: false,
+            })
         }
         Err(LogError::NoMemory) => Err(LogError::NoMemory),
     }
