@@ -1,0 +1,12 @@
+pub mod Items
+pub mod Views
+pub mod Alike
+pub mod Ascending
+pub mod Listing
+pub mod KnownReplies
+pub mod Taking
+pub mod Adding
+pub mod SoFar
+pub mod Beginning
+pub mod Deciding
+pub mod Revealing

@@ -1,0 +1,5 @@
+pub mod Reached
+pub mod Known
+pub mod Placing
+pub mod LateOnes
+pub mod Laws

@@ -1,0 +1,14 @@
+use Rattle.std.proofs.Common.{refl}
+use Rattle.watch_core.proofs.Verdicts.{taken_none}
+use Rattle.watch_core.proofs.watch.Watch.new.Goals as goal
+
+pub returns-clause-fresh : goal.returns-clause-fresh
+returns-clause-fresh c later = taken_none (record {
+  kind = c.args.kind;
+  limit = c.args.limit;
+  taken = 0;
+  seen = 0;
+  calls = c.new.result.items;
+  residue = c.in_ok-new.field-0;
+  last = _;
+}) later refl refl c.new.ensures.items c.in_ok-new.ensures refl

@@ -1,0 +1,4 @@
+pub mod Event
+pub mod Table
+pub mod Verdict
+pub mod Watch

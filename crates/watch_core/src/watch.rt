@@ -1,0 +1,298 @@
+ghost use Rattle.std.specs.Prelude.{◌≡◌, ◌↔◌, IsTrue, ℕ, ◌+◌, ◌<◌, ◌^◌, [], ◌∷◌, ◌++◌, false, List, length, slice_get, IfOk, IfErr, IfSome, IfNone, OnOk, OnErr, max};
+ghost use Rattle.seq_objects.specs.Objects.{kind_spec};
+ghost use Rattle.streams.specs.Stream.{StreamEvent, Called, Returned, Lost, IsValidStream, IsWaiting, Returns};
+ghost use Rattle.late_residue.specs.declared.open_call.OpenCall.{OpenCall};
+ghost use Rattle.watch_core.specs.Event.{event_of};
+ghost use Rattle.late_residue.specs.Reached.{Has};
+ghost use Rattle.watch_core.specs.Table.{Waits, IsTable};
+ghost use Rattle.watch_core.specs.Verdict.{IsVerdict, IsRefusal};
+ghost use Rattle.watch_core.specs.Watch.{IsHeld, IsSeen, HasTaken};
+
+use crate::MAX_OPEN;
+use crate::event::Event;
+use crate::verdict::{Refused, Verdict};
+use book_base::{NoMemory, OpWord};
+use late_residue::{LateResidue, OpenCall};
+use seq_objects::Kind;
+use std::alloc::Global;
+use std::marker::Model;
+
+/// A watch of one object of a kind.
+///
+/// Its memory depends on the calls that are open and on what the object can hold now, and not on how
+/// many events it has taken.
+#[derive(Drop)]
+pub struct Watch {
+    alloc: Global,
+    kind: Kind,
+    limit: usize,
+    taken: u64,
+    seen: u64,
+    calls: Vec<OpenCall>,
+    residue: LateResidue,
+    last: Option<Verdict>,
+}
+
+impl Model for Watch {
+    ghost use Rattle.watch_core.specs.Watch.{Watched};
+
+    ghost Value = { Watched };
+
+    ghost view = { λ w. record {
+      kind = w.kind;
+      limit = w.limit;
+      taken = w.taken;
+      seen = w.seen;
+      calls = w.calls.items;
+      residue = w.residue;
+      last = w.last;
+    } };
+}
+
+impl Watch {
+    /// A watch of an object that has had no call. It holds at most `limit` configurations, each of
+    /// which is one of the ways in which the events so far may have taken effect.
+    pub fn new(alloc: Global, kind: Kind, limit: usize) -> Result<Watch, NoMemory>
+        // The watch has taken no event.
+        ensures fresh { IfOk result (λ watch. (later : List StreamEvent)
+            → HasTaken watch [] later) }
+        // It has this kind and this limit.
+        ensures kind { IfOk result (λ watch. (watch.kind ≡ kind) × (watch.limit ≡ limit)) }
+    {
+        Ok(Watch {
+            alloc,
+            kind,
+            limit,
+            taken: 0,
+            seen: 0,
+            calls: Vec::new(alloc),
+            residue: LateResidue::new(alloc, &kind)?,
+            last: None,
+        })
+    }
+
+    /// What is said of the events that were taken.
+    pub fn verdict(&self) -> Verdict
+        // The verdict is right for the events that the watch has taken: it says that they have a
+        // legal order, or names the events one of which is the first with which there is none, or
+        // the event before which the limit was met.
+        ensures { (stream later : List StreamEvent) → HasTaken self.now stream later
+            → IsVerdict (kind_spec self.now.kind) self.now.limit stream later result }
+    {
+        match self.last {
+            Some(verdict) => verdict,
+            None => Verdict::Legal(self.taken),
+        }
+    }
+
+    /// How many configurations the watch holds.
+    pub fn configurations(&self) -> usize
+        ensures { result ≡ length self.now.residue }
+    {
+        self.residue.len()
+    }
+
+    /// How many calls are open, lost ones too.
+    pub fn open_calls(&self) -> usize
+        ensures { result ≡ length self.now.calls }
+    {
+        self.calls.len()
+    }
+
+    /// Takes the next event.
+    pub fn take(&mut self, event: Event) -> Result<(), Refused>
+        // The watch has taken one event more, and the stream with it is valid.
+        ensures taken { OnOk result ((stream later : List StreamEvent)
+            → HasTaken self.old stream (event_of event ∷ later)
+            → HasTaken self.new (stream ++ event_of event ∷ []) later) }
+        // An event is refused only for a named cause.
+        ensures refused { IfErr result (λ refused. (stream later : List StreamEvent)
+            → HasTaken self.old stream later
+            → IsRefusal stream (length self.old.calls) (event_of event) refused) }
+        // An event that is refused changes nothing.
+        ensures same { OnErr result (self.new ≡ self.old) }
+        // The kind and the limit stay.
+        ensures kind { (self.new.kind ≡ self.old.kind) × (self.new.limit ≡ self.old.limit) }
+    {
+        if self.taken == u64::MAX {
+            return Err(Refused::Full);
+        }
+        match event {
+            Event::Call { process, op } => self.take_call(process, op),
+            Event::Return { process, reply } => self.take_return(process, reply),
+            Event::Lost { process } => self.take_loss(process),
+        }
+    }
+
+    /// Tells with which reply the pending call of a process will return, at the latest by the event of
+    /// a number, counted from 1. The answer is whether the process has a pending call.
+    pub fn expect(&mut self, process: u64, reply: u64, by: u64) -> bool
+        // Where the call does so in the later events, the watch has taken what it had taken, and knows
+        // of the reply.
+        ensures expected { (stream later near far : List StreamEvent)
+            → HasTaken self.old stream later → later ≡ near ++ far → by ≡ length (stream ++ near)
+            → ((call : ℕ) → IsWaiting stream process call
+            → (end : ℕ) × Returns (stream ++ near) call end reply)
+            → HasTaken self.new stream later }
+        // The answer is whether the process has a pending call.
+        ensures answer { (stream later : List StreamEvent) → HasTaken self.old stream later
+            → (IsTrue result ↔ Waits stream process) }
+        // Without one nothing changes.
+        ensures same { result ≡ false → self.new ≡ self.old }
+        // The kind and the limit stay.
+        ensures kind { (self.new.kind ≡ self.old.kind) × (self.new.limit ≡ self.old.limit) }
+    {
+        let Some(at) = pending(&self.calls, process) else {
+            return false;
+        };
+        let call = self.calls[at].call;
+        self.calls[at].reply = Some(reply);
+        self.residue.reveal(call, reply);
+        self.seen = greater(self.seen, by);
+        true
+    }
+
+    fn take_call(&mut self, process: u64, op: OpWord) -> Result<(), Refused>
+        requires { self.old.taken + 1 < 2 ^ 64 }
+        ensures taken { OnOk result ((stream later : List StreamEvent)
+            → HasTaken self.old stream (Called process op ∷ later)
+            → HasTaken self.new (stream ++ Called process op ∷ []) later) }
+        ensures refused { IfErr result (λ refused. (stream later : List StreamEvent)
+            → HasTaken self.old stream later
+            → IsRefusal stream (length self.old.calls) (Called process op) refused) }
+        ensures same { OnErr result (self.new ≡ self.old) }
+        ensures kind { (self.new.kind ≡ self.old.kind) × (self.new.limit ≡ self.old.limit) }
+    {
+        if pending(&self.calls, process).is_some() {
+            return Err(Refused::Busy);
+        }
+        if self.calls.len() >= MAX_OPEN {
+            return Err(Refused::Open);
+        }
+        let call = OpenCall {
+            call: self.taken,
+            process,
+            op,
+            is_lost: false,
+            reply: None,
+        };
+        if self.calls.push(call).is_err() {
+            return Err(Refused::NoMemory);
+        }
+        self.taken += 1;
+        self.seen = greater(self.seen, self.taken);
+        Ok(())
+    }
+
+    fn take_loss(&mut self, process: u64) -> Result<(), Refused>
+        requires { self.old.taken + 1 < 2 ^ 64 }
+        ensures taken { OnOk result ((stream later : List StreamEvent)
+            → HasTaken self.old stream (Lost process ∷ later)
+            → HasTaken self.new (stream ++ Lost process ∷ []) later) }
+        ensures refused { IfErr result (λ refused. (stream later : List StreamEvent)
+            → HasTaken self.old stream later
+            → IsRefusal stream (length self.old.calls) (Lost process) refused) }
+        ensures same { OnErr result (self.new ≡ self.old) }
+        ensures kind { (self.new.kind ≡ self.old.kind) × (self.new.limit ≡ self.old.limit) }
+    {
+        let Some(at) = pending(&self.calls, process) else {
+            return Err(Refused::Idle);
+        };
+        self.calls[at].is_lost = true;
+        self.taken += 1;
+        self.seen = greater(self.seen, self.taken);
+        Ok(())
+    }
+
+    fn take_return(&mut self, process: u64, reply: u64) -> Result<(), Refused>
+        requires { self.old.taken + 1 < 2 ^ 64 }
+        ensures taken { OnOk result ((stream later : List StreamEvent)
+            → HasTaken self.old stream (Returned process reply ∷ later)
+            → HasTaken self.new (stream ++ Returned process reply ∷ []) later) }
+        ensures refused { IfErr result (λ refused. (stream later : List StreamEvent)
+            → HasTaken self.old stream later
+            → IsRefusal stream (length self.old.calls) (Returned process reply) refused) }
+        ensures same { OnErr result (self.new ≡ self.old) }
+        ensures kind { (self.new.kind ≡ self.old.kind) × (self.new.limit ≡ self.old.limit) }
+    {
+        let Some(at) = pending(&self.calls, process) else {
+            return Err(Refused::Idle);
+        };
+        let last = match self.last {
+            Some(verdict) => Some(verdict),
+            None => judge(
+                self.alloc,
+                self.kind,
+                self.limit,
+                self.taken,
+                self.seen,
+                &self.calls,
+                at,
+                reply,
+                &mut self.residue,
+            )?,
+        };
+        self.last = last;
+        self.calls.remove(at);
+        self.taken += 1;
+        self.seen = greater(self.seen, self.taken);
+        Ok(())
+    }
+}
+
+// The index of the pending call of a process among the open calls.
+fn pending(calls: &[OpenCall], process: u64) -> Option<usize>
+    ensures some { IfSome result (λ at. (one : OpenCall) × (slice_get calls.now at ≡ Some one)
+        × (one.process ≡ process) × (one.is_lost ≡ false)) }
+    ensures none { IfNone result ((one : OpenCall) → Has calls.now one → one.process ≡ process
+        → one.is_lost ≡ false → ⊥) }
+{
+    for at in 0..calls.len() {
+        if calls[at].process == process && !calls[at].is_lost {
+            return Some(at);
+        }
+    }
+    None
+}
+
+// The greater one of two numbers.
+fn greater(one: u64, other: u64) -> u64
+    ensures { result ≡ max one other }
+{
+    if one < other { other } else { one }
+}
+
+// Takes the return of the open call at an index, after `taken` events, where replies are known from
+// the events up to `seen`, and answers the verdict where it is final now.
+fn judge(
+    alloc: Global,
+    kind: Kind,
+    limit: usize,
+    taken: u64,
+    seen: u64,
+    calls: &[OpenCall],
+    at: usize,
+    reply: u64,
+    residue: &mut LateResidue,
+) -> Result<Option<Verdict>, NoMemory>
+    requires within { at < length calls.now }
+    requires count { taken + 1 < 2 ^ 64 }
+    ensures held { IfOk result (λ last. (stream later : List StreamEvent) (one : OpenCall)
+        → slice_get calls.now at ≡ Some one → one.is_lost ≡ false → IsTable stream calls.now
+        → IsValidStream (stream ++ Returned one.process reply ∷ []) → taken ≡ length stream
+        → IsSeen stream (Returned one.process reply ∷ later) calls.now seen
+        → IsHeld (kind_spec kind) limit stream (Returned one.process reply ∷ later) calls.now
+        residue.old None
+        → IsHeld (kind_spec kind) limit (stream ++ Returned one.process reply ∷ []) later calls.now
+        residue.new last) }
+    ensures err { OnErr result (residue.new ≡ residue.old) }
+{
+    let returning = calls[at];
+    if !residue.take_return(alloc, &kind, calls, &returning, reply, limit)? {
+        return Ok(Some(Verdict::Unsure(taken + 1)));
+    }
+    if residue.is_empty() {
+        return Ok(Some(Verdict::Illegal(taken + 1, greater(seen, taken + 1))));
+    }
+    Ok(None)
+}
