@@ -143,6 +143,11 @@ SELFCHECK_EXPORT uint32_t selfcheck_caller(struct selfcheck_slot *table,
 SELFCHECK_EXPORT uint32_t selfcheck_monitor(struct selfcheck_slot *table,
     struct selfcheck_slot *slot);
 
+/* Makes the slot's caller, which is between two calls, a monitor of its table, and its calls stay published. So a table of 16
+ * callers has a monitor too, as soon as one of them has made its calls. UNFIT where the slot has no caller, amid a call, and
+ * after an error. DONE or UNFIT. */
+SELFCHECK_EXPORT uint32_t selfcheck_watch(struct selfcheck_slot *caller);
+
 /* Announces a call of the caller: to be written right before the object's own. `low` is selfcheck_word of the operation
  * and its first argument, `high` its second argument, or 0. UNFIT where a call is announced already, where the caller
  * has made all its calls, and after an error; then the object isn't to be asked. DONE or UNFIT. */

@@ -94,10 +94,33 @@ static void use_handles(unsigned round) {
         HOLDS(selfcheck_drop(&slots[(place + round) % HANDLES]) == SELFCHECK_DONE);
 }
 
+/* A table of 16 callers has a monitor too, once one of them has made its calls. */
+static void try_watch(void) {
+    struct selfcheck_slot table = {0, NULL}, callers[16] = {{0, NULL}}, more = {0, NULL};
+    HOLDS(selfcheck_open((const uint8_t *)"queue", 5, 16, 1, &table) == SELFCHECK_DONE);
+    for (int caller = 0; caller < 16; caller++)
+        HOLDS(selfcheck_caller(&table, &callers[caller]) == SELFCHECK_DONE);
+    HOLDS(selfcheck_monitor(&table, &more) == SELFCHECK_UNFIT && selfcheck_watch(&more) == SELFCHECK_UNFIT);
+    HOLDS(selfcheck_watch(&table) == SELFCHECK_UNFIT);
+    HOLDS(selfcheck_announce(&callers[15], selfcheck_word(SELFCHECK_OP_ENQ, 5), 0) == SELFCHECK_DONE);
+    HOLDS(selfcheck_watch(&callers[15]) == SELFCHECK_UNFIT);
+    HOLDS(selfcheck_publish(&callers[15], SELFCHECK_REPLY_DONE) == SELFCHECK_DONE);
+    HOLDS(selfcheck_watch(&callers[15]) == SELFCHECK_DONE);
+    HOLDS(selfcheck_watch(&callers[15]) == SELFCHECK_UNFIT);
+    HOLDS(selfcheck_judge(&callers[15]) == SELFCHECK_LEGAL);
+    HOLDS(selfcheck_announce(&callers[0], selfcheck_word(SELFCHECK_OP_DEQ, 0), 0) == SELFCHECK_DONE);
+    HOLDS(selfcheck_publish(&callers[0], SELFCHECK_REPLY_NONE) == SELFCHECK_DONE);
+    HOLDS(selfcheck_judge(&callers[15]) == SELFCHECK_ILLEGAL);
+    for (int caller = 0; caller < 16; caller++)
+        HOLDS(selfcheck_drop(&callers[caller]) == SELFCHECK_DONE);
+    HOLDS(selfcheck_drop(&table) == SELFCHECK_DONE);
+}
+
 /* Dropped handles give their memory back: after the first rounds, further ones leave no byte more
  * in use. */
 static void try_handles(unsigned rounds) {
     size_t in_use = 0;
+    try_watch();
     for (unsigned round = 0; round < rounds + 100; round++) {
         if (round == 100) in_use = mallinfo2().uordblks;
         use_handles(round);

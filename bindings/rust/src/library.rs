@@ -98,6 +98,7 @@ unsafe extern "C" {
     ) -> u32;
     fn selfcheck_caller(table: &mut Slot, slot: &mut Slot) -> u32;
     fn selfcheck_monitor(table: &mut Slot, slot: &mut Slot) -> u32;
+    fn selfcheck_watch(slot: &mut Slot) -> u32;
     fn selfcheck_announce(slot: &mut Slot, low: u64, high: u64) -> u32;
     fn selfcheck_answered(slot: &mut Slot, reply: u64) -> u32;
     fn selfcheck_publish(slot: &mut Slot, reply: u64) -> u32;
@@ -423,7 +424,8 @@ unsafe impl Send for Slot {}
 
 // What the safety rests on, for each export that is given a slot whose handle goes from thread to
 // thread.
-const _: [unsafe extern "C" fn(&mut Slot) -> u32; 2] = [selfcheck_judge, selfcheck_drop];
+const _: [unsafe extern "C" fn(&mut Slot) -> u32; 3] =
+    [selfcheck_watch, selfcheck_judge, selfcheck_drop];
 const _: [unsafe extern "C" fn(&mut Slot, &mut Slot) -> u32; 3] =
     [selfcheck_caller, selfcheck_monitor, selfcheck_model_caller];
 const _: unsafe extern "C" fn(u32, u64, &mut Slot) -> u32 = selfcheck_model_table;
@@ -602,6 +604,14 @@ impl Idle {
         match unsafe { selfcheck_announce(&mut self.0, low, high) } {
             DONE => Ok(Announced(self.0)),
             UNFIT => Err(self),
+            status => no_such_status(status),
+        }
+    }
+
+    pub(crate) fn watch(mut self) -> Watching {
+        // SAFETY: the slot is this caller's own.
+        match unsafe { selfcheck_watch(&mut self.0) } {
+            DONE => Watching(self.0),
             status => no_such_status(status),
         }
     }

@@ -230,6 +230,17 @@ impl<K: Kind, O> MonitoredCaller<K, O> {
         self.idle = Some(announced.publish(reply.into().word()));
         Ok(reply)
     }
+
+    /// A monitor in the place of this caller, whose calls stay published. So a table whose places are all those of callers
+    /// has a monitor too, as soon as one of them has made its calls. `None` where a call of the caller stayed unanswered.
+    #[must_use]
+    pub fn into_monitor(self) -> Option<Monitor<K>> {
+        let watching = self.idle?.watch();
+        Some(Monitor {
+            stage: Some(Stage::Watching(watching)),
+            kind: PhantomData,
+        })
+    }
 }
 
 impl<K: Kind> Monitor<K> {

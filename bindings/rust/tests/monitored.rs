@@ -294,3 +294,38 @@ fn any_thread_calls() {
         Err(JudgeError::Illegal(_))
     ));
 }
+
+/// A table of 16 callers has a monitor too, once one of them has made its calls.
+#[test]
+fn a_caller_becomes_a_monitor() {
+    fn tried<O: QueueObject>(object: O, last: Option<u32>) -> Monitored<Queue, O> {
+        let queue = Monitored::<Queue, _>::new(object, 16, 0, 2).unwrap();
+        let mut callers: Vec<_> = (0..16).map(|_| queue.caller().unwrap()).collect();
+        assert_eq!(queue.monitor().unwrap_err(), CallerError::NoneLeft);
+        for (value, caller) in callers.iter_mut().enumerate() {
+            caller.enq(value as u32).unwrap();
+        }
+        let mut monitor = callers.pop().unwrap().into_monitor().unwrap();
+        assert_eq!(monitor.judge(), Ok(()));
+        assert_eq!(callers[0].deq(), Ok(Some(0)));
+        assert_eq!(callers[1].deq(), Ok(last));
+        assert_eq!(
+            monitor.judge().is_ok(),
+            last.is_some(),
+            "the monitor sees all 16 callers"
+        );
+        queue
+    }
+    tried(Right::<Mutex<VecDeque<u32>>>::default(), Some(1));
+    let queue = tried(Forgetful::default(), None);
+    assert_eq!(queue.caller().unwrap_err(), CallerError::NoneLeft);
+
+    // a call that stays unanswered leaves no monitor
+    let queue = Monitored::<Queue, _>::new(Forgetful::default(), 1, 0, 2).unwrap();
+    let mut caller = queue.caller().unwrap();
+    let panics = catch_unwind(AssertUnwindSafe(|| {
+        caller.call(QueueOp::Enq(7), |_| fails())
+    }));
+    assert!(panics.is_err());
+    assert!(caller.into_monitor().is_none());
+}

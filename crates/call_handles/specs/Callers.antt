@@ -75,6 +75,10 @@ IsSoundCaller h = IsSoundAt (rows_of h) h.kept.kind h.kept.gathered h.stage × K
 abbrev pub IsOfSameTable : CallerHandle → CallerHandle → Type 0
 IsOfSameTable h k = (rows_of k ≡ rows_of h) × (kind_of k ≡ kind_of h)
 
+-- The caller is between two calls.
+abbrev pub IsBetweenCalls : CallerHandle → Type 0
+IsBetweenCalls h = (c : Caller Outside) × (h.stage ≡ Idle c)
+
 -- The caller is between two calls and has a call left.
 abbrev pub MayAnnounce : CallerHandle → Type 0
 MayAnnounce h = (c : Caller Outside) × (h.stage ≡ Idle c)

@@ -19,6 +19,9 @@ use Rattle.monitor.specs.declared.round.Round.TheVariants as round
 use Rattle.monitor.specs.declared.witness.Witness.{Witness}
 use Rattle.monitor.specs.Monitors.{caller_of, local_of, own_of, kept_by, IsOn, IsMonitorOf, HasScannedSome, HasFound}
 use Rattle.monitor.specs.Worlds.{IsRightRound}
+use Rattle.call_handles.specs.declared.caller_handle.CallerHandle.{CallerHandle}
+use Rattle.call_handles.specs.declared.stage.HandleStage.TheVariants.{Idle}
+use Rattle.call_handles.specs.Callers.{rows_of, kind_of, stage_of}
 use Rattle.call_handles.specs.declared.verdict.HandleVerdict.{HandleVerdict}
 use Rattle.call_handles.specs.declared.verdict.HandleVerdict.TheVariants.{Legal, Illegal, Unjudged}
 use Rattle.call_handles.specs.declared.monitor_handle.MonitorHandle.{MonitorHandle}
@@ -51,6 +54,11 @@ pub record IsSoundMonitor (h : MonitorHandle) : Type 0 where
 -- The two handles are of one table, and judge by one kind.
 abbrev pub IsOfSameWatch : MonitorHandle → MonitorHandle → Type 0
 IsOfSameWatch h k = (rows_watched k ≡ rows_watched h) × (kind_watched k ≡ kind_watched h)
+
+-- The monitor is the caller of a caller's handle, of its table and kind, and has no witness.
+abbrev pub IsMonitorFrom : CallerHandle → MonitorHandle → Type 0
+IsMonitorFrom h m = (rows_watched m ≡ rows_of h) × (kind_watched m ≡ kind_of h)
+    × (stage_of h ≡ Idle (caller_of (monitor_in m))) × (own_of (monitor_in m) ≡ None)
 
 -- The monitor has made no illegal round.
 abbrev pub MayJudge : MonitorHandle → Type 0

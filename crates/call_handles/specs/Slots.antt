@@ -11,7 +11,7 @@ use Rattle.call_handles.specs.declared.table_handle.TableHandle.{TableHandle}
 use Rattle.call_handles.specs.declared.handle.Handle.{Handle}
 use Rattle.call_handles.specs.declared.handle.Handle.TheVariants.{Spare, Table, Caller, Monitor, Modelled, Model}
 use Rattle.call_handles.specs.Callers.{IsOfSameTable, IsInError, HasBegun, HasEnded, HasPublished, IsWitnessOf}
-use Rattle.call_handles.specs.Monitors.{IsOfSameWatch, HasFoundWrong, HasJudged, IsFoundWitness}
+use Rattle.call_handles.specs.Monitors.{IsOfSameWatch, IsMonitorFrom, HasFoundWrong, HasJudged, IsFoundWitness}
 use Rattle.call_handles.specs.Tables.{rows_in, kind_in, next_of, GivesNext, IsFreshOf, IsFreshMonitorOf}
 use Rattle.call_handles.specs.declared.role.CallerRole.{CallerRole}
 use Rattle.call_handles.specs.declared.role.CallerRole.TheVariants as role
@@ -118,6 +118,13 @@ abbrev pub Judges : HandleVerdict → Option Handle → Option Handle → Type 0
 Judges judgement before after =
     (m k : MonitorHandle) × (before ≡ Some (Monitor m)) × (after ≡ Some (Monitor k))
     × IsOfSameWatch m k × HasJudged m judgement k
+
+-- The handle before is that of a caller between two calls, and the handle after is that of this caller
+-- as a monitor, which has made no round, of the same table and kind.
+abbrev pub BecomesMonitor : Option Handle → Option Handle → Type 0
+BecomesMonitor before after =
+    (h : CallerHandle) × (m : MonitorHandle) × (before ≡ Some (Caller h)) × (after ≡ Some (Monitor m))
+    × IsMonitorFrom h m
 
 -- The last call of the handle's caller was an error, or a round of its monitor was illegal.
 abbrev pub HasWitness : Option Handle → Type 0

@@ -22,6 +22,7 @@ mod slot;
 mod stage;
 mod table_handle;
 mod verdict;
+mod watching;
 
 pub use caller_handle::CallerHandle;
 pub use calls::{announce, answered, close, judge, publish, witness};
@@ -37,3 +38,4 @@ pub use slot::Slot;
 pub use stage::{HandleStage, Wrong};
 pub use table_handle::TableHandle;
 pub use verdict::HandleVerdict;
+pub use watching::watch;

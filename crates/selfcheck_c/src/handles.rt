@@ -1,15 +1,16 @@
 ghost use Rattle.std.specs.Prelude.{◌≡◌, ◌↔◌, ◌⊎◌, ℕ, ◌<◌, ◌≤◌, List, None, IsTrue, is_some, drop, length, take};
 ghost use Rattle.book_base.specs.OperationWord.{joined};
-ghost use Rattle.call_handles.specs.Callers.{MayAnnounce, HasAnnounced};
+ghost use Rattle.call_handles.specs.Callers.{IsBetweenCalls, MayAnnounce, HasAnnounced};
 ghost use Rattle.call_handles.specs.Monitors.{MayJudge};
-ghost use Rattle.call_handles.specs.Slots.{handle_in, IsSized, IsOpened, MayGive, HasGiven, IsCallers, Begins, Ends, Publishes, IsMonitors, Judges, HasWitness, Witnesses};
+ghost use Rattle.call_handles.specs.Slots.{handle_in, IsSized, IsOpened, MayGive, HasGiven, IsCallers, Begins, Ends, Publishes, BecomesMonitor, IsMonitors, Judges, HasWitness, Witnesses};
 ghost use Rattle.selfcheck_c.specs.declared.TheConstants.{LEGAL, ILLEGAL, NO_MEMORY, NO_ROOM};
 
 use crate::buffer::put;
 use crate::{ILLEGAL, LEGAL, NO_MEMORY, NO_ROOM};
 use book_base::{NoMemory, join};
 use call_handles::{
-    CallerRole, HandleVerdict, Slot, announce, answered, close, give, judge, open, publish, witness,
+    CallerRole, HandleVerdict, Slot, announce, answered, close, give, judge, open, publish, watch,
+    witness,
 };
 use std::alloc::Global;
 
@@ -103,6 +104,23 @@ pub extern "C" fn selfcheck_monitor(alloc: Global, table: &mut Slot, slot: &mut 
         Ok(false) => UNFIT,
         Err(NoMemory) => NO_MEMORY,
     }
+}
+
+/// Makes the slot's caller, which is to be between two calls, a monitor of its table. So a table
+/// whose callers are all given has a monitor too, as soon as one of them has made its calls.
+#[unsafe(no_mangle)]
+pub extern "C" fn selfcheck_watch(alloc: Global, slot: &mut Slot) -> u32
+    // The status is `DONE` exactly where the slot has a caller that is between two calls.
+    ensures when { (result ≡ DONE) ↔ IsCallers IsBetweenCalls (handle_in slot.old) }
+    // With `DONE` the slot has this caller as a monitor of the same table and kind, which has made
+    // no round.
+    ensures watching { result ≡ DONE → BecomesMonitor (handle_in slot.old) (handle_in slot.new) }
+    // With each status but `DONE` the handle is as it was.
+    ensures unchanged { ¬ (result ≡ DONE) → handle_in slot.new ≡ handle_in slot.old }
+    // The status is `DONE` or `UNFIT`.
+    ensures ends { (result ≡ DONE) ⊎ (result ≡ UNFIT) }
+{
+    if watch(alloc, slot) { DONE } else { UNFIT }
 }
 
 /// Announces a call of the slot's caller, which is to be between two calls and have one left, with
