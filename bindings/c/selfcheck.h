@@ -39,6 +39,7 @@ enum selfcheck_status {
     SELFCHECK_NO_ROOM = 8,   /* the buffer is too short, and `written` says how long a one is needed */
     SELFCHECK_UNFIT = 9,     /* the slot or the words aren't as the call wants them, or there is no such table: nothing has changed */
     SELFCHECK_ASK = 10,      /* the question is written: what its operation does at its state is to be told */
+    SELFCHECK_UNKNOWN = 11,  /* the steps are used up, and nothing is said of the book */
     SELFCHECK_PAUSED = 11,   /* the steps are used up, and nothing is said yet: a further call goes on */
     SELFCHECK_CONTRADICTS = 12, /* another step was told of this state and operation: nothing has changed */
     SELFCHECK_LEAVES_NOT = 13   /* the step breaks a promise, or a told step breaks this one: nothing has changed */
@@ -72,6 +73,13 @@ uint32_t selfcheck_version(void);
 /* Whether the book with this text has a legal order. */
 SELFCHECK_EXPORT uint32_t selfcheck_verify(const uint8_t *text, size_t length,
     struct selfcheck_refusal *refusal);
+
+/* As selfcheck_verify, with a limit: where the library has to search for a legal order, it makes so many steps at the most,
+ * and a step tries a call next or goes back by one. UNKNOWN where they are used up first; a further call begins anew. With
+ * 0 steps nothing is searched. Only the search has this limit: reading the text, and deciding a queue's or a stack's book
+ * without a search, take what they take. LEGAL, ILLEGAL, UNKNOWN, REFUSED or NO_MEMORY. */
+SELFCHECK_EXPORT uint32_t selfcheck_verify_within(const uint8_t *text, size_t length,
+    uint64_t steps, struct selfcheck_refusal *refusal);
 
 /* Whether the list of the certificate with this text is a legal order of its book. */
 SELFCHECK_EXPORT uint32_t selfcheck_order(const uint8_t *text, size_t length,
@@ -389,6 +397,11 @@ static inline uint32_t selfcheck_verify_inline(const uint8_t *text, size_t lengt
     return selfcheck_verify(selfcheck_text(text, length), length, refusal);
 }
 
+static inline uint32_t selfcheck_verify_within_inline(const uint8_t *text, size_t length,
+    uint64_t steps, struct selfcheck_refusal *refusal) {
+    return selfcheck_verify_within(selfcheck_text(text, length), length, steps, refusal);
+}
+
 static inline uint32_t selfcheck_order_inline(const uint8_t *text, size_t length,
     struct selfcheck_refusal *refusal) {
     return selfcheck_order(selfcheck_text(text, length), length, refusal);
@@ -470,6 +483,7 @@ static inline void selfcheck_point_of(const char *file, int line) {
 #define selfcheck_answered selfcheck_answered_inline
 #define selfcheck_publish selfcheck_publish_inline
 #define selfcheck_verify selfcheck_verify_inline
+#define selfcheck_verify_within selfcheck_verify_within_inline
 #define selfcheck_order selfcheck_order_inline
 #define selfcheck_certify selfcheck_certify_inline
 #define selfcheck_smaller selfcheck_smaller_inline

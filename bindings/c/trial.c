@@ -1,4 +1,4 @@
-/* trial names | empty | handles ROUNDS: what neither `judge` nor `ring` shows of the header and of
+/* trial names | empty | limits | handles ROUNDS: what neither `judge` nor `ring` shows of the header and of
  * the library. Ends with 0 where all holds, with 1 and what doesn't where something doesn't, and
  * with 2 where the words aren't right. */
 #include "selfcheck.h"
@@ -61,6 +61,33 @@ static void try_empty(void) {
     written = 0;
     HOLDS(selfcheck_witness(&caller, NULL, 0, &written) == SELFCHECK_NO_ROOM && written == length);
     HOLDS(selfcheck_drop(&table) == SELFCHECK_DONE && selfcheck_drop(&caller) == SELFCHECK_DONE);
+}
+
+/* Eight callers write to a register, each another value, and a ninth one reads, all at once. An order of nine calls takes nine
+ * steps, and before it is known that nobody wrote what is read, each of the 256 sets of writes is tried. */
+static void try_limit(int value, uint64_t few, uint32_t verdict) {
+    const char *view = "view 0:1 1:1 2:1 3:1 4:1 5:1 6:1 7:1 8:1";
+    struct selfcheck_refusal refusal = {0, SELFCHECK_REST};
+    char book[1024];
+    int length = snprintf(book, sizeof book, "book 2\nobject casreg\ncallers 9\ncalls 1 1 1 1 1 1 1 1 1\n");
+    for (int caller = 0; caller < 8; caller++)
+        length += snprintf(book + length, sizeof book - (size_t)length, "%d 0 write %d done %s\n", caller, caller, view);
+    length += snprintf(book + length, sizeof book - (size_t)length, "8 0 read =%d %s\nend\n", value, view);
+    HOLDS((size_t)length < sizeof book);
+    const uint8_t *text = (const uint8_t *)book;
+    HOLDS(selfcheck_verify_within(text, (size_t)length, 0, &refusal) == SELFCHECK_UNKNOWN);
+    HOLDS(selfcheck_verify_within(text, (size_t)length, few, &refusal) == SELFCHECK_UNKNOWN);
+    HOLDS(selfcheck_verify_within(text, (size_t)length, 1000000, &refusal) == verdict);
+    HOLDS(selfcheck_verify_within(text, (size_t)length, UINT64_MAX, &refusal) == verdict);
+    HOLDS(selfcheck_verify(text, (size_t)length, &refusal) == verdict);
+    HOLDS(refusal.line == 0 && refusal.what == SELFCHECK_REST);
+    HOLDS(selfcheck_verify_within(NULL, 0, 0, &refusal) == SELFCHECK_REFUSED);
+    HOLDS(refusal.line == 1 && refusal.what == SELFCHECK_CUT);
+}
+
+static void try_limits(void) {
+    try_limit(7, 8, SELFCHECK_LEGAL);
+    try_limit(8, 255, SELFCHECK_ILLEGAL);
 }
 
 /* A table with all sorts of handles: callers between two calls, amid one and after an error, one
@@ -133,6 +160,8 @@ int main(int count, char **words) {
         try_names();
     else if (count == 2 && strcmp(words[1], "empty") == 0)
         try_empty();
+    else if (count == 2 && strcmp(words[1], "limits") == 0)
+        try_limits();
     else if (count == 3 && strcmp(words[1], "handles") == 0)
         try_handles((unsigned)strtoul(words[2], NULL, 10));
     else

@@ -96,6 +96,27 @@ class Texts(unittest.TestCase):
         with self.assertRaises(selfcheck.Refused):
             selfcheck.verify("")
 
+    # Eight callers write to a register, each another value, and a ninth one reads, all at once. An order of nine calls takes
+    # nine steps, and before it is known that nobody wrote what is read, each of the 256 sets of writes is tried.
+    def test_limit(self):
+        view = "".join(f" {caller}:1" for caller in range(9))
+        writes = "".join(f"{caller} 0 write {caller} done view{view}\n" for caller in range(8))
+        for value, is_legal, few in (7, True, 8), (8, False, 255):
+            book = f"book 2\nobject casreg\ncallers 9\ncalls{' 1' * 9}\n{writes}8 0 read ={value} view{view}\nend\n"
+            for steps in 0, few:
+                self.assertIsNone(selfcheck.verify(book, steps=steps))
+                self.assertEqual(selfcheck.verify_many([book], steps=steps), [(0, None, None)])
+            for steps in 10**6, None:
+                self.assertIs(selfcheck.verify(book, steps=steps), is_legal)
+                self.assertEqual(selfcheck.verify_many([book], steps=steps), [(0, is_legal, None)])
+        for judge in selfcheck.verify, lambda book, steps: selfcheck.verify_many([book], steps=steps):
+            for steps in -1, 2**64:
+                with self.assertRaises(ValueError):
+                    judge(book, steps=steps)
+        with self.assertRaises(selfcheck.Refused) as it:
+            selfcheck.verify("", steps=0)
+        self.assertEqual((it.exception.line, it.exception.what), (1, "Cut"))
+
 
 class ManyBooks(unittest.TestCase):
     LEGAL = LOST_VALUE.replace("deq none", "deq =5")

@@ -59,7 +59,8 @@ _WHATS = (
     "Long Cut Head Object Callers Calls Place Op Gap Reply View ViewOutside ViewLacksOwn ViewHasLater ViewsCross "
     "Mark Seen Last Stop Turns End Rest"
 ).split()
-_LEGAL, _ILLEGAL, _REFUSED, _NO_MEMORY, _NO_ROOM = 0, 1, 3, 6, 8
+_LEGAL, _ILLEGAL, _REFUSED, _NO_MEMORY, _NO_ROOM, _UNKNOWN = 0, 1, 3, 6, 8, 11
+_ALL_STEPS = 2**64 - 1
 
 
 class Refused(ValueError):
@@ -114,6 +115,7 @@ if _found != __version__:
     raise ImportError(f"the library {_library._name} has the version {_found}, and this module {__version__}")
 for _name, _more in [
     ("selfcheck_verify", []),
+    ("selfcheck_verify_within", [ctypes.c_uint64]),
     ("selfcheck_order", []),
     ("selfcheck_certify", _BUFFER),
     ("selfcheck_smaller", _BUFFER),
@@ -137,10 +139,24 @@ def _is_legal(status, refusal):
     return status == _LEGAL
 
 
-def verify(book):
-    """Whether the book with this text, a `str` or bytes, has a legal order. Raises `Refused`, `MemoryError`."""
+def _limit(steps):
+    if not 0 <= steps < _ALL_STEPS:
+        raise ValueError(f"{steps} is no number of steps below 2^64 - 1")
+    return steps
+
+
+def verify(book, steps=None):
+    """Whether the book with this text, a `str` or bytes, has a legal order. Raises `Refused`, `MemoryError`.
+
+    With a number of `steps` a search for a legal order makes so many at the most, and None is given where they are used up
+    before that is known. A step tries a call next or goes back by one. Only the search has this limit: reading the text,
+    and deciding a queue's or a stack's book without a search, take what they take.
+    """
     text, refusal = _bytes(book), _Refusal()
-    return _is_legal(_library.selfcheck_verify(text, len(text), refusal), refusal)
+    if steps is None:
+        return _is_legal(_library.selfcheck_verify(text, len(text), refusal), refusal)
+    status = _library.selfcheck_verify_within(text, len(text), _limit(steps), refusal)
+    return None if status == _UNKNOWN else _is_legal(status, refusal)
 
 
 def order(certificate):

@@ -38,12 +38,11 @@ import ctypes
 import threading
 from typing import Any, NamedTuple, Optional
 
-from . import _ILLEGAL, _LEGAL, _NO_MEMORY, Incomplete, _library, _ModelOperation
+from . import _ALL_STEPS, _ILLEGAL, _LEGAL, _NO_MEMORY, Incomplete, _library, _limit, _ModelOperation
 from .enforced import _DONE, _SLOT, _Handle, Illegal, _filled, _text_of
 from .history import MAX_CALLERS, MAX_CALLS, pages_of
 
 _ASK, _PAUSED, _CONTRADICTS, _LEAVES_NOT = 10, 11, 12, 13
-_ALL_STEPS = 2**64 - 1
 # steps that are made between two looks at the limit
 _PORTION = 16
 
@@ -233,14 +232,13 @@ def _whole(verdicts, left_out):
 
 def _decided(model, events, steps):
     """A check of events, and whether they have a legal order."""
-    if steps is not None and not 0 <= steps < _ALL_STEPS:
-        raise ValueError(f"{steps} is no number of steps below 2^64 - 1")
+    steps = _ALL_STEPS if steps is None else _limit(steps)
     if isinstance(model, WithOutput):
         events = model._seeing(events)
     check = _Check(model)
     for what, caller, value in events:
         check.begin(caller, value) if what == "begin" else check.end(caller, value)
-    return check, check.decide(_ALL_STEPS if steps is None else steps)
+    return check, check.decide(steps)
 
 
 def _judged(model, events, left_out, steps, recheck):

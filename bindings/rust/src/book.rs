@@ -2,7 +2,7 @@
 
 use crate::fault::{Fault, Verdict};
 use crate::kind::Kind;
-use crate::library::{certify, explain, picture, smaller, verify};
+use crate::library::{certify, explain, picture, smaller, verify, verify_within};
 use crate::record::Call;
 use crate::reply::Reply;
 use std::fmt;
@@ -53,6 +53,16 @@ impl<K: Kind> Book<K> {
     /// For want of memory. The text of a book is never refused.
     pub fn verify(&self) -> Result<Verdict, Fault> {
         verify(&self.text)
+    }
+
+    /// As [`verify`](Book::verify), but [`Verdict::Unknown`] where a search for a legal order takes more steps, which
+    /// [`verify_within`](crate::verify_within) counts.
+    ///
+    /// # Errors
+    ///
+    /// For want of memory. The text of a book is never refused.
+    pub fn verify_within(&self, steps: u64) -> Result<Verdict, Fault> {
+        verify_within(&self.text, steps)
     }
 
     /// The book's text with a legal order of its calls, which [`order`](crate::order) judges without a search; `None`

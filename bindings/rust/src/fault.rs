@@ -11,6 +11,8 @@ pub enum Verdict {
     Legal,
     /// The calls have none, and the object isn't linearizable; the list of a certificate isn't one.
     Illegal,
+    /// The steps were used up, and nothing is known of the calls. Only what takes a number of steps says this.
+    Unknown,
 }
 
 impl fmt::Display for Verdict {
@@ -18,6 +20,7 @@ impl fmt::Display for Verdict {
         f.write_str(match self {
             Verdict::Legal => "legal",
             Verdict::Illegal => "illegal",
+            Verdict::Unknown => "unknown",
         })
     }
 }

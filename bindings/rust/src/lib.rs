@@ -126,7 +126,7 @@ pub use kind::{
     PriorityQueue, PriorityQueueOp, Queue, QueueOp, Register, RegisterOp, Set, SetOp, Stack,
     StackOp,
 };
-pub use library::{certify, explain, order, picture, smaller, verify};
+pub use library::{certify, explain, order, picture, smaller, verify, verify_within};
 pub use model::Model;
 pub use monitored::{JudgeError, Monitor, Monitored, MonitoredCaller};
 pub use objects::{

@@ -46,6 +46,12 @@ pub(crate) struct PlacedCall {
 unsafe extern "C" {
     fn selfcheck_version() -> u32;
     fn selfcheck_verify(text: *const u8, length: usize, refusal: &mut Refusal) -> u32;
+    fn selfcheck_verify_within(
+        text: *const u8,
+        length: usize,
+        steps: u64,
+        refusal: &mut Refusal,
+    ) -> u32;
     fn selfcheck_order(text: *const u8, length: usize, refusal: &mut Refusal) -> u32;
     fn selfcheck_certify(
         text: *const u8,
@@ -138,6 +144,7 @@ const NO_MEMORY: u32 = 6;
 const NO_ROOM: u32 = 8;
 const UNFIT: u32 = 9;
 const ASK: u32 = 10;
+const UNKNOWN: u32 = 11;
 const PAUSED: u32 = 11;
 const CONTRADICTS: u32 = 12;
 const LEAVES_NOT: u32 = 13;
@@ -218,6 +225,38 @@ pub fn verify(text: impl AsRef<[u8]>) -> Result<Verdict, Fault> {
     verdict(status, &refusal)
 }
 
+/// As [`verify`], but [`Verdict::Unknown`] where a search for a legal order takes more steps. A step tries a call next or
+/// goes back by one; with 0 steps nothing is searched.
+///
+/// Only the search has this limit: reading the text, and deciding a queue's or a stack's book without a search, take what
+/// they take.
+///
+/// ```
+/// use selfcheck::{Verdict, verify, verify_within};
+///
+/// // two calls, one after the other
+/// let book = "book 2\nobject register\ncallers 1\ncalls 2\n\
+///     0 0 write 5 done view 0:1\n0 1 read =5 view 0:2\nend\n";
+/// assert_eq!(verify_within(book, 1), Ok(Verdict::Unknown));
+/// assert_eq!(verify_within(book, 2), Ok(Verdict::Legal));
+/// assert_eq!(verify(book), Ok(Verdict::Legal));
+/// ```
+///
+/// # Errors
+///
+/// As [`verify`].
+pub fn verify_within(text: impl AsRef<[u8]>, steps: u64) -> Result<Verdict, Fault> {
+    check_version();
+    let text = text.as_ref();
+    let mut refusal = Refusal::default();
+    // SAFETY: as in `verify`.
+    let status = unsafe { selfcheck_verify_within(text.as_ptr(), text.len(), steps, &mut refusal) };
+    match status {
+        UNKNOWN => Ok(Verdict::Unknown),
+        status => verdict(status, &refusal),
+    }
+}
+
 /// Whether the list of the certificate with this text is a legal order of its book.
 ///
 /// # Errors
@@ -289,10 +328,7 @@ pub fn certify(text: impl AsRef<[u8]>) -> Result<Option<String>, Fault> {
     let text = text.as_ref();
     // mostly enough, since a place has a line as its call has, and a shorter one
     let (status, refusal, certificate) = written_by(selfcheck_certify, text, 2 * text.len() + 64);
-    match verdict(status, &refusal)? {
-        Verdict::Illegal => Ok(None),
-        Verdict::Legal => Ok(Some(certificate)),
-    }
+    Ok((verdict(status, &refusal)? == Verdict::Legal).then_some(certificate))
 }
 
 /// The text of a smaller book, which is a part of the book with this text: it has no legal order and shows that the
@@ -317,10 +353,7 @@ pub fn certify(text: impl AsRef<[u8]>) -> Result<Option<String>, Fault> {
 pub fn smaller(text: impl AsRef<[u8]>) -> Result<Option<String>, Fault> {
     let text = text.as_ref();
     let (status, refusal, small) = written_by(selfcheck_smaller, text, text.len());
-    match verdict(status, &refusal)? {
-        Verdict::Illegal => Ok(Some(small)),
-        Verdict::Legal => Ok(None),
-    }
+    Ok((verdict(status, &refusal)? == Verdict::Illegal).then_some(small))
 }
 
 /// Why the book has no legal order that the text gives: which rule of its kind it breaks, and by which calls, in one line;

@@ -213,6 +213,7 @@ fn said(answer: Result<Verdict, Fault>) -> (i32, String) {
     match answer {
         Ok(Verdict::Legal) => (0, "legal\n".into()),
         Ok(Verdict::Illegal) => (1, "illegal\n".into()),
+        Ok(Verdict::Unknown) => panic!("there is no limit"),
         Err(fault @ Fault::Refused { .. }) => (3, format!("{fault}\n")),
         Err(fault) => panic!("{fault}"),
     }

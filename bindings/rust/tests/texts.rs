@@ -1,6 +1,7 @@
 //! Texts of any origin: the books of `examples/`, texts with faults, and texts that end early.
 
-use selfcheck::{Fault, Verdict, What, certify, explain, order, verify};
+use selfcheck::{Fault, Verdict, What, certify, explain, order, verify, verify_within};
+use std::fmt::Write;
 use std::fs;
 use std::path::Path;
 
@@ -150,4 +151,34 @@ fn what_ends_early_is_cut() {
         let lines = book[..length].matches('\n').count() as u64;
         assert_eq!(verify(&book[..length]), Err(refused(lines + 1, What::Cut)));
     }
+}
+
+/// Eight callers write to a register, each another value, and a ninth one reads this value, all at once.
+fn written_and_read(value: u32) -> String {
+    let view: String = (0..9).map(|caller| format!(" {caller}:1")).collect();
+    let mut book = format!(
+        "book 2\nobject casreg\ncallers 9\ncalls{}\n",
+        " 1".repeat(9)
+    );
+    for caller in 0..8 {
+        writeln!(book, "{caller} 0 write {caller} done view{view}").unwrap();
+    }
+    book + &format!("8 0 read ={value} view{view}\nend\n")
+}
+
+/// An order of nine calls takes nine steps, and before it is known that nobody wrote what is read, each of the 256 sets of
+/// writes is tried.
+#[test]
+fn a_search_with_a_limit_says_what_one_without_says_or_nothing() {
+    for (value, verdict, few) in [(7, Verdict::Legal, 8), (8, Verdict::Illegal, 255)] {
+        let book = written_and_read(value);
+        for steps in [0, few] {
+            assert_eq!(verify_within(&book, steps), Ok(Verdict::Unknown), "{steps}");
+        }
+        for steps in [1_000_000, u64::MAX] {
+            assert_eq!(verify_within(&book, steps), Ok(verdict), "{steps}");
+        }
+        assert_eq!(verify(&book), Ok(verdict));
+    }
+    assert_eq!(verify_within("", 0), Err(refused(1, What::Cut)));
 }

@@ -6,17 +6,16 @@ use Rattle.book_base.specs.declared.fault.ReadFault.{ReadFault}
 use Rattle.book_base.specs.declared.fault.ReadFault.TheVariants.{Text, NoMemory}
 use Rattle.text_fields.specs.Faults.{IsFaultOf}
 
--- what bytes are found to say, where this is one thing and they have no fault then, is answered,
--- want of memory aside
-pub only_answer : {V : Type 0} (IsFound : V → Type 0) (IsFirst : TextFault → Type 0)
+-- Of bytes that have no fault something is answered, want of memory aside, and so what holds of all
+-- that they may be found to say.
+pub only_answer : {V : Type 0} (IsFound IsAnswer : V → Type 0) (IsFirst : TextFault → Type 0)
     (result : Result V ReadFault) → IfOk result IsFound → IfErr result (IsFaultOf IsFirst)
-    → ((a b : V) → IsFound a → IsFound b → a ≡ b)
-    → ((v : V) (fault : TextFault) → IsFound v → IsFirst fault → ⊥)
-    → (v : V) → IsFound v → MatchResult result (λ w. w ≡ v) (λ e. e ≡ NoMemory)
-only_answer IsFound IsFirst (Ok w) found refused one none v is = one w v found is
-only_answer IsFound IsFirst (Err NoMemory) found refused one none v is = refl
-only_answer IsFound IsFirst (Err (Text fault)) found refused one none v is =
-    absurd (none v fault is refused)
+    → ((v : V) → IsFound v → IsAnswer v) → ((fault : TextFault) → IsFirst fault → ⊥)
+    → MatchResult result IsAnswer (λ e. e ≡ NoMemory)
+only_answer IsFound IsAnswer IsFirst (Ok v) found refused all none = all v found
+only_answer IsFound IsAnswer IsFirst (Err NoMemory) found refused all none = refl
+only_answer IsFound IsAnswer IsFirst (Err (Text fault)) found refused all none =
+    absurd (none fault refused)
 
 -- bytes with one first fault are refused for it, want of memory aside
 pub first_answer : {V : Type 0} (IsFound : V → Type 0) (IsFirst : TextFault → Type 0)

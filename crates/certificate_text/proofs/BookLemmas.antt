@@ -1,6 +1,6 @@
 -- What bytes say of a book: a text is that of one book, legal or not, or has one first fault.
 use Rattle.std.proofs.Common.{◌≡◌, ◌⊎◌, ℕ, List, Option, Some, None, Result, Ok, Err, Vec, Global, refl, subst}
-use Rattle.std.specs.Prelude.{IfOk, IfErr, IsSome, IsNone, MatchOption, MatchResult}
+use Rattle.std.specs.Prelude.{IfOk, IfErr, IfSome, IsSome, IsNone, MatchOption, MatchResult}
 use Rattle.book_base.specs.declared.fault.TextFault.{TextFault}
 use Rattle.book_base.specs.declared.fault.ReadFault.{ReadFault}
 use Rattle.book_base.specs.declared.fault.ReadFault.TheVariants.{Text, NoMemory}
@@ -70,21 +70,36 @@ verdict_or_fault bytes Legal fault h first =
 verdict_or_fault bytes Illegal fault h first =
     book_or_fault bytes fault (IsTextOfBook-from_illegal bytes h) first
 
-pub only_verdict : (bytes : List ℕ) (result : Result BookVerdict ReadFault)
-    → IfOk result (IsBookVerdict bytes) → IfErr result (IsFaultOf (IsFirstBookFault Second bytes))
-    → (verdict : BookVerdict) → IsBookVerdict bytes verdict
-    → MatchResult result (λ v. v ≡ verdict) (λ e. e ≡ NoMemory)
-only_verdict bytes result found refused =
-    only_answer (IsBookVerdict bytes) (IsFirstBookFault Second bytes) result found refused
-    (one_verdict bytes) (verdict_or_fault bytes)
+-- a verdict on the book, or that the bytes are the text of one
+abbrev pub IsAnswerOn : List ℕ → Option BookVerdict → Type 0
+IsAnswerOn bytes said = MatchOption said (IsTextOfBook bytes) (IsBookVerdict bytes)
 
-pub first_of_verdict : (bytes : List ℕ) (result : Result BookVerdict ReadFault)
-    → IfOk result (IsBookVerdict bytes) → IfErr result (IsFaultOf (IsFirstBookFault Second bytes))
+one_answer : (bytes : List ℕ) (verdict : BookVerdict) → IsBookVerdict bytes verdict
+    → (said : Option BookVerdict) → IsAnswerOn bytes said → IfSome said (λ v. v ≡ verdict)
+one_answer bytes verdict h None told = tt
+one_answer bytes verdict h (Some v) is = one_verdict bytes v verdict is h
+
+answer_or_fault : (bytes : List ℕ) (said : Option BookVerdict) (fault : TextFault)
+    → IsAnswerOn bytes said → IsFirstBookFault Second bytes fault → ⊥
+answer_or_fault bytes None fault told first = book_or_fault bytes fault told first
+answer_or_fault bytes (Some verdict) fault is first = verdict_or_fault bytes verdict fault is first
+
+pub only_verdict : (bytes : List ℕ) (result : Result (Option BookVerdict) ReadFault)
+    → IfOk result (IsAnswerOn bytes) → IfErr result (IsFaultOf (IsFirstBookFault Second bytes))
+    → (verdict : BookVerdict) → IsBookVerdict bytes verdict
+    → MatchResult result (λ said. IfSome said (λ v. v ≡ verdict)) (λ e. e ≡ NoMemory)
+only_verdict bytes result found refused verdict h =
+    only_answer (IsAnswerOn bytes) (λ said. IfSome said (λ v. v ≡ verdict))
+    (IsFirstBookFault Second bytes) result found refused (one_answer bytes verdict h)
+    (λ fault first. verdict_or_fault bytes verdict fault h first)
+
+pub first_of_verdict : (bytes : List ℕ) (result : Result (Option BookVerdict) ReadFault)
+    → IfOk result (IsAnswerOn bytes) → IfErr result (IsFaultOf (IsFirstBookFault Second bytes))
     → (fault : TextFault) → IsFirstBookFault Second bytes fault
     → MatchResult result (λ _. ⊥) (λ e. (e ≡ Text fault) ⊎ (e ≡ NoMemory))
 first_of_verdict bytes result found refused =
-    first_answer (IsBookVerdict bytes) (IsFirstBookFault Second bytes) result found refused
-    (one_first_fault Second bytes) (verdict_or_fault bytes)
+    first_answer (IsAnswerOn bytes) (IsFirstBookFault Second bytes) result found refused
+    (one_first_fault Second bytes) (answer_or_fault bytes)
 
 -- ---- the answers of `certify`
 

@@ -1,6 +1,6 @@
 -- What bytes say of a certificate: its list is a legal order of its book, or the list has one first
 -- fault, or the bytes have one.
-use Rattle.std.proofs.Common.{◌≡◌, ◌⊎◌, ℕ, List, Result, Ok, Err, refl, ap, subst}
+use Rattle.std.proofs.Common.{◌≡◌, ◌⊎◌, ℕ, List, Result, refl, ap, subst}
 use Rattle.std.specs.Prelude.{IfOk, IfErr, MatchResult}
 use Rattle.book_base.specs.declared.call.Place.{Place}
 use Rattle.book_base.specs.declared.fault.TextFault.{TextFault}
@@ -108,9 +108,10 @@ pub only_verdict : (bytes : List ℕ) (result : Result OrderVerdict ReadFault)
     → IfOk result (IsOrderVerdict bytes) → IfErr result (IsFaultOf (IsFirstCertificateFault bytes))
     → (verdict : OrderVerdict) → IsOrderVerdict bytes verdict
     → MatchResult result (λ v. v ≡ verdict) (λ e. e ≡ NoMemory)
-only_verdict bytes result found refused =
-    only_answer (IsOrderVerdict bytes) (IsFirstCertificateFault bytes) result found refused
-    (one_verdict bytes) (verdict_or_fault bytes)
+only_verdict bytes result found refused verdict h =
+    only_answer (IsOrderVerdict bytes) (λ v. v ≡ verdict) (IsFirstCertificateFault bytes) result
+    found refused (λ v is. one_verdict bytes v verdict is h)
+    (λ fault first. verdict_or_fault bytes verdict fault h first)
 
 pub first_of_verdict : (bytes : List ℕ) (result : Result OrderVerdict ReadFault)
     → IfOk result (IsOrderVerdict bytes) → IfErr result (IsFaultOf (IsFirstCertificateFault bytes))

@@ -14,7 +14,7 @@ mod places;
 mod reader;
 mod writer;
 
-pub use book_verdict::{BookVerdict, verify};
+pub use book_verdict::{BookVerdict, verify, verify_within};
 pub use certificate::Certificate;
 pub use certification::certify;
 pub use laws::{

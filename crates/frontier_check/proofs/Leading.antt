@@ -1,5 +1,5 @@
 -- The frames of a walk: with one more, with one fewer, and the order that their places make.
-use Rattle.std.proofs.Common.{◌≡◌, ℕ, ◌+◌, ◌*◌, ◌<◌, ◌≤◌, ◌∙◌, List, [], ◌∷◌, ◌++◌, length, get_or, set, sum, Option, Some, None, Result, Ok, Err, IfOk, IfNone, refl, sym, ap, subst, inl, inr, arith}
+use Rattle.std.proofs.Common.{◌≡◌, ℕ, ◌+◌, ◌*◌, ◌<◌, ◌≤◌, ◌∙◌, List, [], ◌∷◌, ◌++◌, length, get_or, set, sum, Result, Ok, Err, IfOk, refl, sym, ap, subst, inl, inr, arith}
 use Rattle.std.specs.List.{All}
 use Rattle.std.proofs.lemmas.Bool.{cases_eq}
 use Rattle.std.proofs.lemmas.List.{append-nil, append_assoc, length-append, length-map, length-set, length-replicate, set-set, set-get_or}
@@ -22,7 +22,10 @@ use Rattle.frontier_check.specs.declared.walk.TheConstants.{MOST_CALLS}
 use Rattle.frontier_check.specs.declared.prefix.Prefix.{Prefix}
 use Rattle.frontier_check.specs.Prefix.{no_calls, IsBookCapacity, IsPrefix}
 use Rattle.book_base.specs.Pruning.{IsDeadEnd, IsReached}
-use Rattle.frontier_check.specs.Search.{places_of, IsOpen, FramesLead, MayGrow, order_of}
+use Rattle.search_hints.specs.declared.decision.Decision.{Decision}
+use Rattle.search_hints.specs.declared.decision.Decision.TheVariants.{Order, NoOrder, Unsaid}
+use Rattle.search_hints.specs.Decision.{IsRightDecision}
+use Rattle.frontier_check.specs.Search.{places_of, IsOpen, IsRightAfter, FramesLead, MayGrow, order_of}
 
 -- Frames with one more at their end lead to the cut and the list after the call at its place.
 pub leads-push : (book : List Page) (next : List ℕ → ℕ → List ℕ × ℕ) (cut list : List ℕ)
@@ -317,14 +320,16 @@ pub lowered : (cut : List ℕ) (i n : ℕ) → n ≡ get_or cut i 0 → set (rai
 lowered cut i n e =
     set-set cut i (get_or cut i 0 + 1) n ∙ (ap (λ (m : ℕ). set cut i m) e ∙ set-get_or cut i 0)
 
--- Where a search that finds no places says that the cut without calls and the first list are a dead
--- end, it says that the book has no legal order.
-pub none-found : {X E : Type 0} (book : List Page) (spec : SeqSpec) (cut list : List ℕ)
-    (result : Result (Option X) E) → cut ≡ no_calls book → list ≡ spec.init
-    → IfOk result (λ found. IfNone found (IsDeadEnd book spec.next cut list))
-    → IfOk result (λ found. IfNone found (HasLegalOrder spec book → ⊥))
-none-found book spec cut list (Ok None) same_cut same_list dead =
+-- What a search says after a prefix without places, which has the object as it is at first, decides
+-- the book.
+pub decision-from_after : {E : Type 0} (book : List Page) (spec : SeqSpec) (prefix : Prefix)
+    (result : Result Decision E) → prefix.places.items ≡ [] → prefix.cut ≡ no_calls book
+    → prefix.here.words ≡ spec.init → IfOk result (IsRightAfter spec book prefix)
+    → IfOk result (IsRightDecision spec book)
+decision-from_after book spec prefix (Ok (Order rest)) no_places same_cut same_list legal =
+    subst (λ (places : List Place). IsLegalOrder spec book (places ++ rest.items)) no_places legal
+decision-from_after book spec prefix (Ok NoOrder) no_places same_cut same_list dead =
     none-from_dead book spec (subst (λ (c : List ℕ). IsDeadEnd book spec.next c spec.init) same_cut
-    (subst (λ (l : List ℕ). IsDeadEnd book spec.next cut l) same_list dead))
-none-found book spec cut list (Ok (Some found)) same_cut same_list dead = tt
-none-found book spec cut list (Err e) same_cut same_list dead = tt
+    (subst (λ (l : List ℕ). IsDeadEnd book spec.next prefix.cut l) same_list dead))
+decision-from_after book spec prefix (Ok Unsaid) no_places same_cut same_list said = tt
+decision-from_after book spec prefix (Err e) no_places same_cut same_list said = tt

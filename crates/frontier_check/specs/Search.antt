@@ -6,6 +6,8 @@ use Rattle.book_base.specs.declared.TheConstants.{MAX_CALLERS}
 use Rattle.book_base.specs.SeqSpec.{SeqSpec}
 use Rattle.book_base.specs.Order.{IsLegalOrder}
 use Rattle.book_base.specs.Book.{Page}
+use Rattle.search_hints.specs.declared.decision.Decision.{Decision}
+use Rattle.search_hints.specs.declared.decision.Decision.TheVariants.{Order, NoOrder, Unsaid}
 use Rattle.search_hints.specs.declared.marked_callers.MarkedCallers.{MarkedCallers}
 use Rattle.book_base.specs.Pruning.{IsDeadEnd}
 use Rattle.search_hints.specs.Marks.{IsMarked, MarksSuffice}
@@ -167,3 +169,11 @@ IsRightOutcome book prefix spec before walk NoneLeft =
     IsDeadEnd book spec.next prefix.cut prefix.here.words
 IsRightOutcome book prefix spec before walk GoesOn =
     IsWalk book prefix spec walk (places_of walk.choices.items) × (weight walk < before)
+
+-- What a search says of the places after those of a prefix is right: they make a legal order, or the
+-- cut and the list of the prefix are a dead end, or it says nothing.
+abbrev pub IsRightAfter : SeqSpec → List Page → Prefix → Decision → Type 0
+IsRightAfter spec book prefix (Order rest) =
+    IsLegalOrder spec book (prefix.places.items ++ rest.items)
+IsRightAfter spec book prefix NoOrder = IsDeadEnd book spec.next prefix.cut prefix.here.words
+IsRightAfter spec book prefix Unsaid = Unit {0}

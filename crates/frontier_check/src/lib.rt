@@ -22,5 +22,5 @@ pub use book_base::Place;
 pub use guide::Guide;
 pub use kept_order::KeptOrder;
 pub use memo::Memo;
-pub use verdict::{Verdict, check, check_after, check_from};
+pub use verdict::{Verdict, check, check_after, check_from, check_within};
 pub use walk::load;

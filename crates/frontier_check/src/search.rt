@@ -1,4 +1,4 @@
-ghost use Rattle.std.specs.Prelude.{◌≡◌, ℕ, ◌+◌, ◌<◌, ◌≤◌, ◌↔◌, ◌∷◌, ◌++◌, [], List, length, slice_index, IfOk, IfSome, IfNone, IsTrue, Some, OnOk};
+ghost use Rattle.std.specs.Prelude.{◌≡◌, ◌≢◌, ℕ, ◌+◌, ◌<◌, ◌≤◌, ◌↔◌, ◌∷◌, ◌++◌, [], List, length, slice_index, IfOk, IfSome, IfNone, IsTrue, Some, OnOk};
 ghost use Rattle.std.specs.List.{AllByRecursion};
 ghost use Rattle.book_base.specs.declared.call.Place.{Place};
 ghost use Rattle.book_base.specs.declared.call.Record.{Record};
@@ -9,7 +9,8 @@ ghost use Rattle.book_base.specs.Next.{next_call, raised, list_after, HoldsAnswe
 ghost use Rattle.frontier_check.specs.Prefix.{IsBookCapacity, IsPrefix};
 ghost use Rattle.book_base.specs.Pruning.{HasOneOpen, IsLeast, IsDeadEnd, ViewsAreWithin, IsReached, StandsAtOnce};
 ghost use Rattle.search_hints.specs.Marks.{MarksAllNext};
-ghost use Rattle.frontier_check.specs.Search.{places_of, AreToTry, IsOneMore, IsOpen, IsWalk, IsRightOutcome, MayGrow, weigh, weight};
+ghost use Rattle.search_hints.specs.declared.decision.Decision.{Decision};
+ghost use Rattle.frontier_check.specs.Search.{places_of, AreToTry, IsOneMore, IsOpen, IsWalk, IsRightAfter, IsRightOutcome, MayGrow, weigh, weight};
 
 use crate::call_turns::CallTurns;
 use crate::choice::Choice;
@@ -18,7 +19,9 @@ use crate::prefix::Prefix;
 use crate::twins::choose;
 use crate::walk::{MOST_CALLS, StepOutcome, Walk, WalkFrame, empty_state, load, places, set_count};
 use book_base::{Book, Call, Cut, NoMemory, Place, State};
-use search_hints::{MarkedCallers, SearchHints, Sight, all_next, cut_of, first_view, least_open};
+use search_hints::{
+    Decision, MarkedCallers, SearchHints, Sight, all_next, cut_of, first_view, least_open,
+};
 use std::alloc::Global;
 use std::mem;
 
@@ -49,44 +52,23 @@ impl<S> Drop for Search<'_, S> {
 }
 
 impl<S: SearchHints> Search<'_, S> {
-    /// Finds places that make a legal order after those of the prefix, if there are any.
-    pub fn run(&self) -> Result<Option<Vec<Place>>, NoMemory>
+    /// Finds places that make a legal order after those of the prefix, if there are any. Where a
+    /// number of steps is given, it makes so many at the most, and says nothing where they end
+    /// first: no clause says how far it looks with them.
+    pub fn run(&self, steps: Option<u64>) -> Result<Decision, NoMemory>
         requires open { IsTrue self.now.one_open → HasOneOpen self.now.book.now }
         requires sight { IfSome self.now.sight.now (λ sight. HasOneOpen self.now.book.now
             × S.sees self.now.object.now self.now.book.now sight) }
         requires prefix { IsPrefix (S.spec self.now.object.now) self.now.book.now
             self.now.prefix.now }
-        ensures found { IfOk result
-            (λ found. IfSome found (λ rest. IsLegalOrder (S.spec self.now.object.now)
-            self.now.book.now (self.now.prefix.now.places.items ++ rest.items))) }
-        ensures none { IfOk result
-            (λ found. IfNone found (IsDeadEnd self.now.book.now (S.spec self.now.object.now).next
-            self.now.prefix.now.cut self.now.prefix.now.here.words)) }
+        ensures right { IfOk result (IsRightAfter (S.spec self.now.object.now) self.now.book.now
+            self.now.prefix.now) }
+        ensures unlimited { IfNone steps (IfOk result (λ decision. decision ≢ Decision.Unsaid)) }
     {
         let mut spare = empty_state(self.alloc, self.object)?;
         match self.begin(&mut spare)? {
-            None => Ok(Some(Vec::new(self.alloc))),
-            Some(mut walk) => self.go_on(&mut walk, &mut spare),
-        }
-    }
-
-    /// Places that make a legal order after those of the prefix, if some are found within `steps`
-    /// steps. `None` says nothing of the book: it may have a legal order, and no clause says how
-    /// far the search looks.
-    pub fn run_few(&self, steps: u64) -> Result<Option<Vec<Place>>, NoMemory>
-        requires open { IsTrue self.now.one_open → HasOneOpen self.now.book.now }
-        requires sight { IfSome self.now.sight.now (λ sight. HasOneOpen self.now.book.now
-            × S.sees self.now.object.now self.now.book.now sight) }
-        requires prefix { IsPrefix (S.spec self.now.object.now) self.now.book.now
-            self.now.prefix.now }
-        ensures found { IfOk result
-            (λ found. IfSome found (λ rest. IsLegalOrder (S.spec self.now.object.now)
-            self.now.book.now (self.now.prefix.now.places.items ++ rest.items))) }
-    {
-        let mut spare = empty_state(self.alloc, self.object)?;
-        match self.begin(&mut spare)? {
-            None => Ok(Some(Vec::new(self.alloc))),
-            Some(mut walk) => self.go_few(&mut walk, &mut spare, steps),
+            None => Ok(Decision::Order(Vec::new(self.alloc))),
+            Some(mut walk) => self.go_on(&mut walk, &mut spare, steps),
         }
     }
 
@@ -122,57 +104,39 @@ impl<S: SearchHints> Search<'_, S> {
         }))
     }
 
-    // Makes steps of a walk until a legal order is found or nothing is left to try. `None` comes
-    // where no places continue an order from the end of the prefix.
-    fn go_on(&self, walk: &mut Walk, spare: &mut State) -> Result<Option<Vec<Place>>, NoMemory>
-        requires open { IsTrue self.now.one_open → HasOneOpen self.now.book.now }
-        requires sight { IfSome self.now.sight.now (λ sight. HasOneOpen self.now.book.now
-            × S.sees self.now.object.now self.now.book.now sight) }
-        requires walk { IsWalk self.now.book.now self.now.prefix.now
-            (S.spec self.now.object.now) walk.old (places_of walk.old.choices.items) }
-        requires room { IsBookCapacity (S.spec self.now.object.now) spare.old.room }
-        ensures found { IfOk result
-            (λ found. IfSome found (λ rest. IsLegalOrder (S.spec self.now.object.now)
-            self.now.book.now (self.now.prefix.now.places.items ++ rest.items))) }
-        ensures none { IfOk result
-            (λ found. IfNone found (IsDeadEnd self.now.book.now (S.spec self.now.object.now).next
-            self.now.prefix.now.cut self.now.prefix.now.here.words)) }
-    {
-        'steps: loop {
-            match self.advance(walk, spare)? {
-                StepOutcome::Found => return Ok(Some(places(self.alloc, &walk.frames)?)),
-                StepOutcome::NoneLeft => return Ok(None),
-                StepOutcome::GoesOn => {}
-            }
-        }
-    }
-
-    // Makes at most `steps` steps of a walk, until a legal order is found or nothing is left to
-    // try. `None` may come in a book that has a legal order.
-    fn go_few(
+    // Makes steps of a walk until a legal order is found or nothing is left to try, or until so many
+    // are made, where a number is given.
+    fn go_on(
         &self,
         walk: &mut Walk,
         spare: &mut State,
-        steps: u64,
-    ) -> Result<Option<Vec<Place>>, NoMemory>
+        steps: Option<u64>,
+    ) -> Result<Decision, NoMemory>
         requires open { IsTrue self.now.one_open → HasOneOpen self.now.book.now }
         requires sight { IfSome self.now.sight.now (λ sight. HasOneOpen self.now.book.now
             × S.sees self.now.object.now self.now.book.now sight) }
         requires walk { IsWalk self.now.book.now self.now.prefix.now
             (S.spec self.now.object.now) walk.old (places_of walk.old.choices.items) }
         requires room { IsBookCapacity (S.spec self.now.object.now) spare.old.room }
-        ensures found { IfOk result
-            (λ found. IfSome found (λ rest. IsLegalOrder (S.spec self.now.object.now)
-            self.now.book.now (self.now.prefix.now.places.items ++ rest.items))) }
+        ensures right { IfOk result (IsRightAfter (S.spec self.now.object.now) self.now.book.now
+            self.now.prefix.now) }
+        ensures unlimited { IfNone steps (IfOk result (λ decision. decision ≢ Decision.Unsaid)) }
     {
-        for _ in 0..steps {
+        let mut left = steps;
+        'steps: loop {
+            match left {
+                Some(0) => return Ok(Decision::Unsaid),
+                Some(more) => left = Some(more - 1),
+                None => {}
+            }
             match self.advance(walk, spare)? {
-                StepOutcome::Found => return Ok(Some(places(self.alloc, &walk.frames)?)),
-                StepOutcome::NoneLeft => return Ok(None),
+                StepOutcome::Found => {
+                    return Ok(Decision::Order(places(self.alloc, &walk.frames)?));
+                }
+                StepOutcome::NoneLeft => return Ok(Decision::NoOrder),
                 StepOutcome::GoesOn => {}
             }
         }
-        Ok(None)
     }
 
     // Makes one step of a walk: it tries the last choice, which is the best one; where no choice is

@@ -1,6 +1,8 @@
-ghost use Rattle.std.specs.Prelude.{◌≡◌, ◌++◌, IfOk, IfSome, IfNone, IsTrue};
+ghost use Rattle.std.specs.Prelude.{◌≡◌, ◌≢◌, ◌++◌, None, IfOk, IfSome, IfNone, IsTrue};
 ghost use Rattle.book_base.specs.Order.{IsLegalOrder, HasLegalOrder};
 ghost use Rattle.book_base.specs.Pruning.{HasOneOpen};
+ghost use Rattle.search_hints.specs.declared.decision.Decision.{Decision};
+ghost use Rattle.search_hints.specs.Decision.{IsRightDecision};
 ghost use Rattle.frontier_check.specs.Prefix.{IsBookCapacity, IsPut, IsPrefix};
 ghost use Rattle.frontier_check.specs.Standing.{AreMarks, IsStandingFor};
 ghost use Rattle.frontier_check.specs.Verdict.{IsRight, KeepsLastOrder};
@@ -36,9 +38,35 @@ pub fn check<S: SearchHints>(alloc: Global, object: &S, book: &Book) -> Result<V
     // A verdict `Legal` carries a legal order of the book, and with `Illegal` the book has none.
     ensures verdict { IfOk result (λ verdict. IsRight (S.spec object.now) book.now verdict) }
 {
-    match order_anywhere(alloc, object, book, &[])? {
-        None => Ok(Verdict::Illegal),
-        Some(order) => Ok(Verdict::Legal(order)),
+    match check_within(alloc, object, book, None)? {
+        Some(verdict) => Ok(verdict),
+        None => unreachable!(),
+    }
+}
+
+/// Looks for a legal order of a book as `check` does, by a search of so many steps at the most,
+/// where a number is given. `None` is answered where the steps ended first, and says nothing of the
+/// book.
+///
+/// A step of the search puts a call next or goes back by one; with the number 0 none is made. Only
+/// the search counts: an object that decides books makes what it needs for that, by limits of its
+/// own, before the search begins.
+pub fn check_within<S: SearchHints>(
+    alloc: Global,
+    object: &S,
+    book: &Book,
+    steps: Option<u64>,
+) -> Result<Option<Verdict>, NoMemory>
+    // A verdict `Legal` carries a legal order of the book, and with `Illegal` the book has none.
+    ensures verdict { IfOk result
+        (λ said. IfSome said (λ verdict. IsRight (S.spec object.now) book.now verdict)) }
+    // Where no number of steps is given, a verdict is answered.
+    ensures unlimited { IfNone steps (IfOk result (λ said. said ≢ None)) }
+{
+    match decide_within(alloc, object, book, &[], steps)? {
+        Decision::Order(order) => Ok(Some(Verdict::Legal(order))),
+        Decision::NoOrder => Ok(Some(Verdict::Illegal)),
+        Decision::Unsaid => Ok(None),
     }
 }
 
@@ -461,11 +489,14 @@ fn places_after<S: SearchHints>(
         call_turns: &call_turns,
         prefix,
     };
-    search.run_few(calls_after(book, &prefix.cut).saturating_add(more))
+    let steps = calls_after(book, &prefix.cut).saturating_add(more);
+    match search.run(Some(steps))? {
+        Decision::Order(rest) => Ok(Some(rest)),
+        Decision::NoOrder | Decision::Unsaid => Ok(None),
+    }
 }
 
-// A legal order of a book, if it has one: where the object may give each reply of the book and
-// doesn't decide the book, a search looks everywhere.
+// A legal order of a book, if it has one, with the guide's places tried first.
 fn order_anywhere<S: SearchHints>(
     alloc: Global,
     object: &S,
@@ -477,28 +508,46 @@ fn order_anywhere<S: SearchHints>(
     ensures none { IfOk result
         (λ found. IfNone found (HasLegalOrder (S.spec object.now) book.now → ⊥)) }
 {
-    if has_impossible_reply(object, book, &Cut::zero(book.callers())) {
-        return Ok(None);
-    }
-    match object.decide(alloc, book)? {
+    match decide_within(alloc, object, book, guide, None)? {
         Decision::Order(order) => Ok(Some(order)),
         Decision::NoOrder => Ok(None),
-        Decision::Unsaid => order_searched(alloc, object, book, guide),
+        Decision::Unsaid => unreachable!(),
     }
 }
 
-// A legal order of a book, if it has one: a search looks everywhere, with the guide's places tried
-// first.
-fn order_searched<S: SearchHints>(
+// Decides a book: where the object may give each reply of the book and doesn't decide the book, a
+// search looks everywhere, by so many steps at the most, where a number is given.
+fn decide_within<S: SearchHints>(
     alloc: Global,
     object: &S,
     book: &Book,
     guide: &[Place],
-) -> Result<Option<Vec<Place>>, NoMemory>
-    ensures found { IfOk result
-        (λ found. IfSome found (λ order. IsLegalOrder (S.spec object.now) book.now order.items)) }
-    ensures none { IfOk result
-        (λ found. IfNone found (HasLegalOrder (S.spec object.now) book.now → ⊥)) }
+    steps: Option<u64>,
+) -> Result<Decision, NoMemory>
+    ensures right { IfOk result (IsRightDecision (S.spec object.now) book.now) }
+    ensures unlimited { IfNone steps (IfOk result (λ decision. decision ≢ Decision.Unsaid)) }
+{
+    if has_impossible_reply(object, book, &Cut::zero(book.callers())) {
+        return Ok(Decision::NoOrder);
+    }
+    match object.decide(alloc, book)? {
+        Decision::Order(order) => Ok(Decision::Order(order)),
+        Decision::NoOrder => Ok(Decision::NoOrder),
+        Decision::Unsaid => search_within(alloc, object, book, guide, steps),
+    }
+}
+
+// Decides a book: a search looks everywhere, with the guide's places tried first, by so many steps
+// at the most, where a number is given.
+fn search_within<S: SearchHints>(
+    alloc: Global,
+    object: &S,
+    book: &Book,
+    guide: &[Place],
+    steps: Option<u64>,
+) -> Result<Decision, NoMemory>
+    ensures right { IfOk result (IsRightDecision (S.spec object.now) book.now) }
+    ensures unlimited { IfNone steps (IfOk result (λ decision. decision ≢ Decision.Unsaid)) }
 {
     let one_open = has_one_open(book);
     let sight = sight_of(alloc, object, book, one_open)?;
@@ -513,7 +562,7 @@ fn order_searched<S: SearchHints>(
         call_turns: &call_turns,
         prefix: &prefix,
     };
-    search.run()
+    search.run(steps)
 }
 
 // The sight by which the object narrows which callers are tried, in a book with one open; `None` in

@@ -8,7 +8,7 @@ ghost use Rattle.book_base.specs.declared.fault.TextFault.{TextFault};
 ghost use Rattle.book_text.specs.BookRules.{IsFirstBookFault};
 ghost use Rattle.certificate_text.specs.CertificateRules.{IsFirstCertificateFault};
 ghost use Rattle.text_fields.specs.declared.version.Version.TheVariants.{Second};
-ghost use Rattle.certificate_text.specs.Books.{IsLegalBook, IsIllegalBook, Certifies};
+ghost use Rattle.certificate_text.specs.Books.{IsTextOfBook, IsLegalBook, IsIllegalBook, Certifies};
 ghost use Rattle.certificate_text.specs.Certificates.{IsLegalCertificate, IsIllegalCertificate};
 ghost use Rattle.selfcheck_c.specs.Refusals.{IsBookRefusal, IsCertificateRefusal};
 
@@ -24,7 +24,7 @@ mod witnesses;
 use crate::buffer::put;
 pub use crate::refusal::Refusal;
 use book_base::ReadFault;
-use certificate_text::{BookVerdict, OrderVerdict, certify, order, verify};
+use certificate_text::{BookVerdict, OrderVerdict, certify, order, verify, verify_within};
 use std::alloc::Global;
 
 /// The book is legal, or the order of the certificate is.
@@ -37,6 +37,8 @@ pub const REFUSED: u32 = 3;
 pub const NO_MEMORY: u32 = 6;
 /// The buffer is too short for the text that the call would write.
 pub const NO_ROOM: u32 = 8;
+/// The steps are used up, and nothing is said of the book.
+pub const UNKNOWN: u32 = 11;
 /// The version: 65536 times the major number, 256 times the minor one, and the patch.
 pub const VERSION: u32 = 0x00_01_00;
 
@@ -76,6 +78,53 @@ pub extern "C" fn selfcheck_verify(alloc: Global, text: &[u8], refusal: &mut Ref
     match verify(alloc, text) {
         Ok(BookVerdict::Legal) => LEGAL,
         Ok(BookVerdict::Illegal) => ILLEGAL,
+        Err(ReadFault::Text(fault)) => {
+            *refusal = Refusal::from(fault);
+            REFUSED
+        }
+        Err(ReadFault::NoMemory) => NO_MEMORY,
+    }
+}
+
+/// Judges the book that the bytes are the text of, as `selfcheck_verify` does, by a search of so many
+/// steps at the most, as `frontier_check::check_within` counts them.
+#[unsafe(no_mangle)]
+pub extern "C" fn selfcheck_verify_within(
+    alloc: Global,
+    text: &[u8],
+    steps: u64,
+    refusal: &mut Refusal,
+) -> u32
+    // With `LEGAL` the bytes are the text of a book that has a legal order.
+    ensures legal { result ≡ LEGAL → IsLegalBook text.now }
+    // With `ILLEGAL` the bytes are the text of a book that has no legal order.
+    ensures illegal { result ≡ ILLEGAL → IsIllegalBook text.now }
+    // With `UNKNOWN` the bytes are the text of a book, of which nothing else is said.
+    ensures unknown { result ≡ UNKNOWN → IsTextOfBook text.now }
+    // With `REFUSED` the bytes are no book's text, and the refusal has the line and the number of
+    // their first fault.
+    ensures refused { result ≡ REFUSED → IsBookRefusal text.now refusal.new }
+    // The status is `LEGAL`, `ILLEGAL`, `UNKNOWN`, `REFUSED` or `NO_MEMORY`.
+    ensures ends { (result ≡ LEGAL) ⊎ (result ≡ ILLEGAL) ⊎ (result ≡ UNKNOWN) ⊎ (result ≡ REFUSED)
+        ⊎ (result ≡ NO_MEMORY) }
+    // With each status but `REFUSED` the refusal is as it was.
+    ensures kept { ¬ (result ≡ REFUSED) → refusal.new ≡ refusal.old }
+    // The text of a book with a legal order has the status `LEGAL` or `UNKNOWN`, unless memory runs
+    // out.
+    ensures legal_told { IsLegalBook text.now →
+        (result ≡ LEGAL) ⊎ (result ≡ UNKNOWN) ⊎ (result ≡ NO_MEMORY) }
+    // The text of a book without a legal order has the status `ILLEGAL` or `UNKNOWN`, unless memory
+    // runs out.
+    ensures illegal_told { IsIllegalBook text.now →
+        (result ≡ ILLEGAL) ⊎ (result ≡ UNKNOWN) ⊎ (result ≡ NO_MEMORY) }
+    // Bytes that have a first fault have the status `REFUSED`, unless memory runs out.
+    ensures fault_told { (fault : TextFault) → IsFirstBookFault Second text.now fault →
+        (result ≡ REFUSED) ⊎ (result ≡ NO_MEMORY) }
+{
+    match verify_within(alloc, text, Some(steps)) {
+        Ok(Some(BookVerdict::Legal)) => LEGAL,
+        Ok(Some(BookVerdict::Illegal)) => ILLEGAL,
+        Ok(None) => UNKNOWN,
         Err(ReadFault::Text(fault)) => {
             *refusal = Refusal::from(fault);
             REFUSED

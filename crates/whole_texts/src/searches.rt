@@ -1,6 +1,7 @@
-//! Searches for a legal order that begin with a guide.
+//! Searches for a legal order that begin with a guide, or have a limit.
 use book_base::Place;
 use book_text::read_book;
+use certificate_text::{BookVerdict, verify_within};
 use frontier_check::{Guide, Verdict, check_from};
 use kind_search::SearchedKind;
 use seq_objects::{DONE, wrapping_value_reply};
@@ -59,5 +60,31 @@ fn a_guide_of_another_object_and_size_changes_no_verdict(rt: HostRuntime) -> Res
     assert!(rt; !is_legal(rt.alloc(), LOST, &mut guide)?);
     assert!(rt; is_legal(rt.alloc(), TAKEN, &mut guide)?);
     assert!(rt; is_legal(rt.alloc(), OF_A_STACK, &mut guide)?);
+    Ok(())
+}
+
+// 5 is written, and then it is read.
+const READ: &[u8] =
+    b"book 2\nobject register\ncallers 1\ncalls 2\n0 0 write 5 done view 0:1\n0 1 read =5 view 0:2\nend\n";
+
+// 5 is written, and then 6 is read.
+const UNWRITTEN: &[u8] =
+    b"book 2\nobject register\ncallers 1\ncalls 2\n0 0 write 5 done view 0:1\n0 1 read =6 view 0:2\nend\n";
+
+#[test]
+fn a_search_with_a_limit_says_what_one_without_says_or_nothing(
+    rt: HostRuntime,
+) -> Result<(), Fail> {
+    // an order of two calls takes two steps
+    for steps in 0..2 {
+        assert_eq!(rt; verify_within(rt.alloc(), READ, Some(steps))?, None);
+    }
+    assert_eq!(rt; verify_within(rt.alloc(), UNWRITTEN, Some(0))?, None);
+    for steps in [Some(100), Some(u64::MAX), None] {
+        let legal = verify_within(rt.alloc(), READ, steps)?;
+        assert_eq!(rt; legal, Some(BookVerdict::Legal));
+        let illegal = verify_within(rt.alloc(), UNWRITTEN, steps)?;
+        assert_eq!(rt; illegal, Some(BookVerdict::Illegal));
+    }
     Ok(())
 }

@@ -1,5 +1,5 @@
 use Rattle.certificate_text.proofs.BookLemmas.{only_verdict, first_of_verdict}
-use Rattle.certificate_text.proofs.book_verdict.verify.Goals as goal
+use Rattle.certificate_text.proofs.book_verdict.verify_within.Goals as goal
 
 pub returns-clause-only : goal.returns-clause-only
 returns-clause-only c =
