@@ -1,6 +1,6 @@
 -- What holds of a client in one state holds in an equal state, and with an equal sheet and an equal
 -- pass.
-use Rattle.std.proofs.Common.{◌≡◌, ◌∙◌, refl, sym, subst, ap, ℕ, List, length}
+use Rattle.std.proofs.Common.{◌≡◌, ◌∙◌, refl, sym, subst, ap, ℕ, List, length, vec_capacity, arith}
 use Rattle.std.specs.Prelude.{Option}
 use Rattle.book_base.specs.declared.call.Record.{Record}
 use Rattle.book_base.specs.SeqSpec.{SeqSpec}
@@ -23,7 +23,9 @@ use Rattle.client_calls.specs.declared.sheet.Sheet.{Sheet}
 use Rattle.client_calls.specs.Asking.{Fits, PassCount, FitsCaller}
 use Rattle.client_calls.specs.Stands.{caller_at, local_at_stand, phases_at, GoesOnFrom}
 use Rattle.client_calls.specs.Course.{HasCome, Counts}
-use Rattle.client_calls.specs.Keeping.{KeepsStanding}
+use Rattle.client_calls.specs.Clients.{HasCapacity}
+use Rattle.client_calls.specs.Keeping.{KeepsStanding, IsSameSheet}
+use Rattle.client_calls.specs.declared.client.Client.{Client}
 
 pub come_at : {P : Type 0} {meaning : P → ℕ → ℕ → Meaning} {r : Rows P} {says : ℕ → Local → Record
     → List ℕ → LineEnd → Type 0} {who : ℕ} {operations : List ℕ} {own : List Line}
@@ -113,3 +115,28 @@ pub standing_with : {E : Type 0} (h k : Sheet E) → h ≡ k → (object : E →
     → KeepsStanding (object k.ending) k → KeepsStanding (object h.ending) h
 standing_with {E} h k is object stands =
     subst (λ (x : Sheet E). KeepsStanding (object x.ending) x) (sym is) stands
+
+-- An equal sheet is the same sheet, and a sheet that equals a later one is later too.
+pub same_sheet : {E : Type 0} (object : E → SeqSpec) (h k : Sheet E) → h ≡ k
+    → IsSameSheet object k h
+same_sheet {E} object h k is = record {
+  who = ap (λ (x : Sheet E). x.who) is;
+  operations = ap (λ (x : Sheet E). x.operations.now) is;
+  lines = omega (arith, ap (λ (x : Sheet E). vec_capacity x.lines) is);
+  judges = ap (λ (x : Sheet E). object x.ending) is;
+}
+
+pub same_with : {E : Type 0} (object : E → SeqSpec) (h k first : Sheet E) → h ≡ k
+    → IsSameSheet object first k → IsSameSheet object first h
+same_with {E} object h k first is same =
+    subst (λ (x : Sheet E). IsSameSheet object first x) (sym is) same
+
+-- A client that has capacity for its calls has it at a later moment too.
+pub capacity_later : {P T E : Type 0} (object : E → SeqSpec) (r : Rows P) (c d : Client P T E)
+    → IsSameSheet object c.sheet d.sheet → HasCapacity r c → HasCapacity r d
+capacity_later object r c d same capacity =
+    let operations = ap (λ (o : List ℕ). length o) same.operations in
+    record {
+      rows = omega (arith, operations, capacity.rows);
+      lines = omega (arith, operations, same.lines, capacity.lines);
+    }

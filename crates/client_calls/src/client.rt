@@ -31,9 +31,9 @@ impl<'a, P: Program, T, E: Ending> Client<'a, P, T, E> {
     ghost use Rattle.row_table.specs.Callers.{shape_of, local_with, stance_of};
     ghost use Rattle.drv_wrapper.specs.Stands.{IsSame};
     ghost use Rattle.client_calls.specs.Stands.{caller_at, GoesOnFrom};
-    ghost use Rattle.client_calls.specs.Keeping.{KeepsStanding};
+    ghost use Rattle.client_calls.specs.Keeping.{IsSameSheet};
     ghost use Rattle.client_calls.specs.Finishing.{is_unjudged, KeepsAsked, IsLeftStanding, Leaves};
-    ghost use Rattle.client_calls.specs.Clients.{phases_by, HasSpent, IsUnderWay, HasPass, HasCapacity, IsSameClient, Releases};
+    ghost use Rattle.client_calls.specs.Clients.{phases_by, HasSpent, IsUnderWay, IsAtWork, Releases};
 
     /// Makes the next phase of the caller: it announces its next operation, asks, takes the view,
     /// publishes, or ends the call.
@@ -44,44 +44,24 @@ impl<'a, P: Program, T, E: Ending> Client<'a, P, T, E> {
         shared: &Shared<A, P>,
         steps: &mut Steps<L>,
     ) -> Client<'a, P, T, E>
-        // The client's caller belongs to the shared rows, and its lines and its local are exactly
-        // those of the phases that it has made.
-        requires course { IsUnderWay P.meaning shared.now.rows.now
-            (E.says (E.object self.sheet.ending)) self }
         // The callers of the shared rows may ask the object.
         requires serves { A.serves shared.now.asks.now shared.now.rows.now }
-        // The client's pass fits its caller. A pass that counts calls has counted the client's
-        // calls for which the object was asked, and allows one call for each operation.
-        requires pass { HasPass (A.fits shared.now.asks.now) A.count self }
-        // For each operation the caller has a row, and the list of lines has capacity for a line.
-        requires room { HasCapacity shared.now.rows.now self }
-        // The order that the client keeps stands in the book that it keeps, by the sequential
-        // object that its ending judges by.
-        requires standing { KeepsStanding (E.object self.sheet.ending) self.sheet }
+        // The client is at work on the shared rows: its lines, its local and its pass are those of
+        // the phases that it has made, and it has capacity for all its calls (`IsAtWork`).
+        requires work { IsAtWork P.meaning shared.now.rows.now E.says E.object
+            (A.fits shared.now.asks.now) A.count self }
         // The client's caller isn't halted.
         requires goes { GoesOnFrom self.stand }
         // The client has made fewer phases than five for each operation.
         requires left { phases_by self < 5 * length self.sheet.operations.now }
         // The client has made one phase more.
         ensures phase { phases_by result ≡ phases_by self.entry + 1 }
-        // The client's caller still belongs to the shared rows, and its lines and its local are
-        // exactly those of the phases that it has made.
-        ensures course { IsUnderWay P.meaning shared.now.rows.now
-            (E.says (E.object result.sheet.ending)) result }
-        // The client's pass still fits its caller. A pass that counts calls has counted the
-        // client's calls for which the object was asked, and allows one call for each operation.
-        ensures pass { HasPass (A.fits shared.now.asks.now) A.count result }
-        // For each operation the caller still has a row, and the list of lines has capacity for a
-        // line.
-        ensures room { HasCapacity shared.now.rows.now result }
-        // The order that the client keeps still stands in the book that it keeps, by the sequential
-        // object that its ending judges by.
-        ensures standing { KeepsStanding (E.object result.sheet.ending) result.sheet }
-        // The client has the same caller and operations, and at least the capacity for lines that
-        // it had.
-        ensures same { IsSameClient self.entry result }
-        // The sequential object of the client's ending stays.
-        ensures object { E.object result.sheet.ending ≡ E.object self.entry.sheet.ending }
+        // The client is still at work.
+        ensures work { IsAtWork P.meaning shared.now.rows.now E.says E.object
+            (A.fits shared.now.asks.now) A.count result }
+        // The client has the same caller, operations and sequential object, and at least the
+        // capacity for lines that it had.
+        ensures same { IsSameSheet E.object self.entry.sheet result.sheet }
     {
         let Client {
             stand,
@@ -112,44 +92,24 @@ impl<'a, P: Program, T, E: Ending> Client<'a, P, T, E> {
         count: u64,
         steps: &mut Steps<L>,
     ) -> Client<'a, P, T, E>
-        // The client's caller belongs to the shared rows, and its lines and its local are exactly
-        // those of the phases that it has made.
-        requires course { IsUnderWay P.meaning shared.now.rows.now
-            (E.says (E.object self.sheet.ending)) self }
         // The callers of the shared rows may ask the object.
         requires serves { A.serves shared.now.asks.now shared.now.rows.now }
-        // The client's pass fits its caller. A pass that counts calls has counted the client's
-        // calls for which the object was asked, and allows one call for each operation.
-        requires pass { HasPass (A.fits shared.now.asks.now) A.count self }
-        // For each operation the caller has a row, and the list of lines has capacity for a line.
-        requires room { HasCapacity shared.now.rows.now self }
-        // The order that the client keeps stands in the book that it keeps, by the sequential
-        // object that its ending judges by.
-        requires standing { KeepsStanding (E.object self.sheet.ending) self.sheet }
+        // The client is at work on the shared rows: its lines, its local and its pass are those of
+        // the phases that it has made, and it has capacity for all its calls (`IsAtWork`).
+        requires work { IsAtWork P.meaning shared.now.rows.now E.says E.object
+            (A.fits shared.now.asks.now) A.count self }
         // The client's caller isn't halted.
         requires goes { GoesOnFrom self.stand }
         // The client has at least `count` phases left, of five for each of its operations.
         requires left { phases_by self + count ≤ 5 * length self.sheet.operations.now }
         // The client has made `count` further phases, or its caller was halted within them.
         ensures spent { HasSpent (phases_by self.entry + count) result }
-        // The client's caller still belongs to the shared rows, and its lines and its local are
-        // exactly those of the phases that it has made.
-        ensures course { IsUnderWay P.meaning shared.now.rows.now
-            (E.says (E.object result.sheet.ending)) result }
-        // The client's pass still fits its caller. A pass that counts calls has counted the
-        // client's calls for which the object was asked, and allows one call for each operation.
-        ensures pass { HasPass (A.fits shared.now.asks.now) A.count result }
-        // For each operation the caller still has a row, and the list of lines has capacity for a
-        // line.
-        ensures room { HasCapacity shared.now.rows.now result }
-        // The order that the client keeps still stands in the book that it keeps, by the sequential
-        // object that its ending judges by.
-        ensures standing { KeepsStanding (E.object result.sheet.ending) result.sheet }
-        // The client has the same caller and operations, and at least the capacity for lines that
-        // it had.
-        ensures same { IsSameClient self.entry result }
-        // The sequential object of the client's ending stays.
-        ensures object { E.object result.sheet.ending ≡ E.object self.entry.sheet.ending }
+        // The client is still at work.
+        ensures work { IsAtWork P.meaning shared.now.rows.now E.says E.object
+            (A.fits shared.now.asks.now) A.count result }
+        // The client has the same caller, operations and sequential object, and at least the
+        // capacity for lines that it had.
+        ensures same { IsSameSheet E.object self.entry.sheet result.sheet }
     {
         let mut client = self;
         for _i in 0..count {
@@ -162,8 +122,8 @@ impl<'a, P: Program, T, E: Ending> Client<'a, P, T, E> {
         client
     }
 
-    /// Judges a call that was left unjudged once more, by the book at its own seen cut. Where memory
-    /// is lacking again, it stays unjudged. A client in any other state stays as it is.
+    /// Judges a call that was left unjudged once more, by the book at its own seen cut. Where
+    /// memory is lacking again, it stays unjudged. A client in any other state stays as it is.
     ///
     /// It makes no phase: all five of the call are made.
     pub fn judge_again<A: Asks<Program = P, Pass = T>, L: Ledger>(
@@ -171,41 +131,21 @@ impl<'a, P: Program, T, E: Ending> Client<'a, P, T, E> {
         shared: &Shared<A, P>,
         steps: &mut Steps<L>,
     ) -> Client<'a, P, T, E>
-        // The client's caller belongs to the shared rows, and its lines and its local are exactly
-        // those of the phases that it has made.
-        requires course { IsUnderWay P.meaning shared.now.rows.now
-            (E.says (E.object self.sheet.ending)) self }
-        // The client's pass fits its caller. A pass that counts calls has counted the client's
-        // calls for which the object was asked, and allows one call for each operation.
-        requires pass { HasPass (A.fits shared.now.asks.now) A.count self }
-        // For each operation the caller has a row, and the list of lines has capacity for a line.
-        requires room { HasCapacity shared.now.rows.now self }
-        // The order that the client keeps stands in the book that it keeps, by the sequential
-        // object that its ending judges by.
-        requires standing { KeepsStanding (E.object self.sheet.ending) self.sheet }
+        // The client is at work on the shared rows: its lines, its local and its pass are those of
+        // the phases that it has made, and it has capacity for all its calls (`IsAtWork`).
+        requires work { IsAtWork P.meaning shared.now.rows.now E.says E.object
+            (A.fits shared.now.asks.now) A.count self }
         // The client has made no more phases than five for each operation.
         requires within { phases_by self ≤ 5 * length self.sheet.operations.now }
         // The client has made as many phases as before.
         ensures phases { phases_by result ≡ phases_by self.entry }
-        // The client's caller still belongs to the shared rows, and its lines and its local are
-        // exactly those of the phases that it has made: a line for the call, where it was judged,
-        // with the verdict at its seen cut.
-        ensures course { IsUnderWay P.meaning shared.now.rows.now
-            (E.says (E.object result.sheet.ending)) result }
-        // The client's pass still fits its caller. A pass that counts calls has counted the
-        // client's calls for which the object was asked, and allows one call for each operation.
-        ensures pass { HasPass (A.fits shared.now.asks.now) A.count result }
-        // For each operation the caller still has a row, and the list of lines has capacity for a
-        // line.
-        ensures room { HasCapacity shared.now.rows.now result }
-        // The order that the client keeps still stands in the book that it keeps, by the sequential
-        // object that its ending judges by.
-        ensures standing { KeepsStanding (E.object result.sheet.ending) result.sheet }
-        // The client has the same caller and operations, and at least the capacity for lines that
-        // it had.
-        ensures same { IsSameClient self.entry result }
-        // The sequential object of the client's ending stays.
-        ensures object { E.object result.sheet.ending ≡ E.object self.entry.sheet.ending }
+        // The client is still at work. A call that was judged has its line, with the verdict at its
+        // seen cut.
+        ensures work { IsAtWork P.meaning shared.now.rows.now E.says E.object
+            (A.fits shared.now.asks.now) A.count result }
+        // The client has the same caller, operations and sequential object, and at least the
+        // capacity for lines that it had.
+        ensures same { IsSameSheet E.object self.entry.sheet result.sheet }
     {
         let Client {
             stand,

@@ -1,10 +1,8 @@
 ghost use Rattle.std.specs.Prelude.{◌≡◌, ◌<◌, ◌≤◌, length, slice_index, vec_len, vec_capacity};
 ghost use Rattle.row_table.specs.Callers.{local_with, IsCallerOf};
-ghost use Rattle.row_gather.specs.Gathered.{IsGatheredBy};
 ghost use Rattle.enforcer.specs.States.{caller_published, caller_seen};
 ghost use Rattle.client_calls.specs.Endings.{Ends, EndsSeen, IsNoted};
 ghost use Rattle.client_calls.specs.Stands.{local_at_stand};
-ghost use Rattle.enforcer.specs.Verdicts.{OrderStandsIn};
 
 use crate::ended::Ended;
 use crate::ending::Ending;
@@ -65,6 +63,8 @@ impl<'a, E> Sheet<'a, E> {
 }
 
 impl<'a, E: Ending> Sheet<'a, E> {
+    ghost use Rattle.client_calls.specs.Keeping.{KeepsFor, IsSameSheet};
+
     // Sees a cut for a call whose record is published, and ends the call.
     pub(crate) fn end_call<P: Program, L: Ledger>(
         &mut self,
@@ -74,20 +74,12 @@ impl<'a, E: Ending> Sheet<'a, E> {
         steps: &mut Steps<L>,
     ) -> CallerState<P>
         requires rows { IsCallerOf P.meaning rows.now (caller_published published) }
-        requires gathered { IsGatheredBy (local_with (caller_published published))
-            self.old.gathered }
-        requires standing { OrderStandsIn (E.object self.old.ending) self.old.gathered
-            self.old.standing }
+        requires keeps { KeepsFor E.object (local_with (caller_published published)) self.old }
         requires room { vec_len self.old.lines < vec_capacity self.old.lines }
         ensures ends { Ends P.meaning rows.now (E.says (E.object self.new.ending)) published op
             self.old.lines.items self.new.lines.items result }
-        ensures room { vec_capacity self.old.lines ≤ vec_capacity self.new.lines }
-        ensures same { (self.new.who ≡ self.old.who)
-            × (self.new.operations.now ≡ self.old.operations.now) }
-        ensures object { E.object self.new.ending ≡ E.object self.old.ending }
-        ensures kept { IsGatheredBy (local_at_stand result) self.new.gathered }
-        ensures standing { OrderStandsIn (E.object self.new.ending) self.new.gathered
-            self.new.standing }
+        ensures same { IsSameSheet E.object self.old self.new }
+        ensures keeps { KeepsFor E.object (local_at_stand result) self.new }
     {
         let seen = seen(published, rows, steps);
         self.end_seen(rows, seen, op, steps)
@@ -102,19 +94,12 @@ impl<'a, E: Ending> Sheet<'a, E> {
         steps: &mut Steps<L>,
     ) -> CallerState<P>
         requires rows { IsCallerOf P.meaning rows.now (caller_seen seen) }
-        requires gathered { IsGatheredBy (local_with (caller_seen seen)) self.old.gathered }
-        requires standing { OrderStandsIn (E.object self.old.ending) self.old.gathered
-            self.old.standing }
+        requires keeps { KeepsFor E.object (local_with (caller_seen seen)) self.old }
         requires room { vec_len self.old.lines < vec_capacity self.old.lines }
         ensures ends { EndsSeen P.meaning rows.now (E.says (E.object self.new.ending)) seen op
             self.old.lines.items self.new.lines.items result }
-        ensures room { vec_capacity self.old.lines ≤ vec_capacity self.new.lines }
-        ensures same { (self.new.who ≡ self.old.who)
-            × (self.new.operations.now ≡ self.old.operations.now) }
-        ensures object { E.object self.new.ending ≡ E.object self.old.ending }
-        ensures kept { IsGatheredBy (local_at_stand result) self.new.gathered }
-        ensures standing { OrderStandsIn (E.object self.new.ending) self.new.gathered
-            self.new.standing }
+        ensures same { IsSameSheet E.object self.old self.new }
+        ensures keeps { KeepsFor E.object (local_at_stand result) self.new }
     {
         let ended = self
             .ending

@@ -1,11 +1,10 @@
-ghost use Rattle.std.specs.Prelude.{◌≡◌, ℕ, ◌<◌, false, None, length, vec_len, IfOk};
+ghost use Rattle.std.specs.Prelude.{◌≡◌, false, None, IfOk};
 ghost use Rattle.std.specs.List.{list_any};
 ghost use Rattle.report_lines.specs.Lines.{any_error};
-ghost use Rattle.row_table.specs.Callers.{shape_of, locals_on, IsBenchOf, HoldsAll};
 ghost use Rattle.core_objects.specs.CoreObjects.{AreOpenedWith, ArePassesFor};
-ghost use Rattle.run_report.specs.Starts.{run_allotments, MayBegin};
-ghost use Rattle.run_report.specs.Returns.{IsBackOn};
-ghost use Rattle.run_report.specs.Reporting.{IsReportOf, IsFreeAgain};
+ghost use Rattle.run_report.specs.Starts.{run_allotments, MayRun};
+ghost use Rattle.run_report.specs.Returns.{HaveReturned};
+ghost use Rattle.run_report.specs.Reporting.{IsRunReport};
 ghost use Rattle.core_runs.specs.Inside.{fits_inside};
 
 use crate::inside_object::InsideObject;
@@ -47,33 +46,20 @@ where
     O::Pass: Send,
     // The rows were opened with the program of this object.
     requires program { AreOpenedWith O.P.meaning (O.program_of object.now) rows.now }
-    // The rows have just the script's callers, and capacity for their calls. The bench is a bench
-    // of the rows, and holds each of these callers, live and idle, without a call.
-    requires begins { MayBegin O.P.meaning script.now 0 rows.now bench.old }
-    // There is one pass for each caller of the rows, in order. It fits the caller before its first
-    // object step, with the number of callers and the cap of the rows.
-    requires passes { ArePassesFor (O.fits object.now) rows.now.callers rows.now.cap
+    // The rows have just the script's callers, who are on the bench, unused. For each caller of the
+    // rows, in order, there is a pass that fits it before its first object step, with the number of
+    // callers and the cap of the rows.
+    requires begins { MayRun O.P.meaning rows.now
+        (λ _. ArePassesFor (O.fits object.now) rows.now.callers rows.now.cap) script.now 0 bench.old
         passes.old.items }
-    // Whatever the answer, the bench is still a bench of `rows`, and holds each of their callers.
-    ensures bench { IsBenchOf O.P.meaning rows.now bench.new × HoldsAll bench.new }
-    // There is one pass for each caller of the script.
-    ensures all_passes { vec_len passes.new ≡ length script.now.operations }
-    // Each caller of the script is back on the bench with its pass, which fits the object steps
-    // that it has made. It has made a prefix of its phases: at most as many as the script gives it.
-    ensures back { (i : ℕ) → i < length script.now.operations → IsBackOn O.P.meaning rows.now
-        (fits_inside (O.fits object.now)) (λ pass. None) script.now.operations
-        (run_allotments script.now)
-        bench.new passes.new.items i }
-    // A report that is answered is of the script's kind and lawful. Its lines are those of the
-    // locals on the bench, which are of one reachable world, and each caller has made just the
-    // phases that its lines determine.
-    ensures report { IfOk result
-        (λ report. IsReportOf (O.S.spec (O.sequential_of object.now)) (shape_of O.P.meaning
-        rows.now) (locals_on bench.new) script.now (run_allotments script.now) report) }
-    // Where a report is answered, each caller that has no error line and by its lines stopped
-    // between two calls, or made all of them, is free for its next call.
-    ensures free { IfOk result (λ report. (i : ℕ) → i < length script.now.operations
-        → IsFreeAgain bench.new (run_allotments script.now) report i) }
+    // Whatever the answer, the bench holds all callers again, each after a prefix of its phases,
+    // and the passes are in their order and fit the object steps of their callers (`HaveReturned`).
+    ensures returns { HaveReturned O.P.meaning rows.now (fits_inside (O.fits object.now))
+        (λ pass. None) script.now (run_allotments script.now) bench.new passes.new.items }
+    // A report that is answered is lawful and tells of the callers on the bench, and each of them
+    // that may go on is free (`IsRunReport`).
+    ensures report { IfOk result (IsRunReport (O.S.spec (O.sequential_of object.now)) O.P.meaning
+        rows.now (λ pass. None) script.now (run_allotments script.now) bench.new passes.new.items) }
     // No line of a report is an error.
     ensures no_error { IfOk result (λ report. list_any any_error report.lines ≡ false) }
 {

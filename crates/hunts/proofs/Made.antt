@@ -1,6 +1,5 @@
 -- What holds of a run that was made.
-use Rattle.std.proofs.Common.{◌≡◌, ℕ, ◌+◌, ◌<◌, List, Option, Result, Ok, Err, length, inl, inr, sym, subst, arith}
-use Rattle.std.specs.Prelude.{IfOk}
+use Rattle.std.proofs.Common.{◌≡◌, ℕ, ◌+◌, ◌<◌, List, Option, length, inl, inr, sym, subst, arith}
 use Rattle.std.proofs.lemmas.Bool.{cases_eq}
 use Rattle.book_base.specs.Book.{Page}
 use Rattle.book_base.specs.Order.{HasLegalOrder}
@@ -18,12 +17,6 @@ use Rattle.run_report.specs.Starts.{run_allotments}
 use Rattle.run_report.specs.Reporting.{outside_shape, IsReportOf, IsCountedIn}
 use Rattle.run_report.proofs.Workers.{counted_told}
 use Rattle.hunts.specs.Hunting.{IsRun, IsMade}
-
--- what follows from two facts holds of an answer that has both
-pub if_ok_both : {X E : Type 0} (result : Result X E) (A B C : X → Type 0)
-    → ((x : X) → A x → B x → C x) → IfOk result A → IfOk result B → IfOk result C
-if_ok_both (Ok x) A B C both a b = both x a b
-if_ok_both (Err e) A B C both a b = tt
 
 -- a report of the locals of a bench, with passes that count, over rows of the greatest cap
 pub told_report : {T : Type 0} (made cap : T → ℕ) (told : T → Option (List (ℕ × ℕ))) (plan : Plan)

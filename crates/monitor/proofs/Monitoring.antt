@@ -25,7 +25,7 @@ use Rattle.report_lines.proofs.Stepping.{length-marks_after}
 use Rattle.row_table.specs.declared.rows.Rows.{Rows}
 use Rattle.row_table.specs.declared.bench.Bench.{Bench}
 use Rattle.row_table.specs.declared.stance.Stance.{Stance}
-use Rattle.row_table.specs.Callers.{shape_of, locals_on, on_bench, IsBenchOf, Holds, HoldsAll}
+use Rattle.row_table.specs.Callers.{shape_of, locals_on, on_bench, IsBenchOf, Holds}
 use Rattle.row_table.proofs.Parting.{whole_is_together}
 use Rattle.client_scripts.specs.Plans.{Plan, IsPlan, sizes}
 use Rattle.text_fields.specs.Counts.{AreAtMost}
@@ -34,11 +34,11 @@ use Rattle.reports.specs.declared.report.Own.{Own}
 use Rattle.reports.specs.ReportLayout.{lines_in}
 use Rattle.reports.specs.Filling.{answer_in, AreOfABook}
 use Rattle.reports.proofs.Filling.{length-book}
-use Rattle.client_calls.specs.Asking.{Fits, PassCount, own_count}
+use Rattle.client_calls.specs.Asking.{Fits, PassCount}
 use Rattle.client_calls.specs.Ends.{silent, SaysDeferred, EndsAs, AreLinesOfCalls}
 use Rattle.run_report.specs.Places.{AreInOrder}
 use Rattle.run_report.specs.Starts.{run_allotments, course_of, IsUnused, MayBegin}
-use Rattle.run_report.specs.Returns.{IsCountOf, AreBack, IsBackOn}
+use Rattle.run_report.specs.Returns.{IsCountOf, AreBack, IsBackOn, HaveReturned}
 use Rattle.std.proofs.lemmas.Slice.Zip.{AllZip-long}
 use Rattle.run_report.proofs.Workers.{the_local, lines_here}
 use Rattle.run_report.proofs.Reports.{at_most, none_after}
@@ -49,7 +49,7 @@ use Rattle.monitor.specs.Worlds.{published_of, published_book}
 use Rattle.monitor.proofs.Judged.{rounds_are_judged, short_rounds_are_rounds, own_is_a_witness}
 use Rattle.monitor.specs.Deferred.{HavePage, HasDeferred, HavePages}
 use Rattle.monitor.specs.Published.{IsJudgedAt, IsExactAnswer}
-use Rattle.monitor.specs.Monitoring.{published_for, with_monitors, most_rounds, IsMonitor, HaveMadeAll, AreFreeAgain, IsCountedAll, IsToldAll, HasMonitored, HasMadeSome, HaveMonitored, HasWatched}
+use Rattle.monitor.specs.Monitoring.{published_for, with_monitors, most_rounds, IsMonitor, HaveMadeAll, AreFreeAgain, IsCountedAll, HasMonitored, HasMadeSome, HaveMonitored, HasWatched}
 use Rattle.monitor.proofs.Deferred.{no_errors, deferring_clients_make_all, lines_are_the_book}
 use Rattle.monitor.proofs.Returning.{each_monitor, begins_unused}
 use Rattle.monitor.proofs.AllPublished.{published_records_are_in_the_book, answers_are_exact}
@@ -198,29 +198,27 @@ found_rounds : (spec : SeqSpec) (n : ℕ) (wanted : Bool) (most : ℕ) (l m : Lo
 found_rounds spec n false most l m w h = h
 found_rounds spec n true most l m w h = absurd (none-some w (sym h.1))
 
--- the bench of a run with monitors holds all callers after the run
-pub holds_beside : {P T : Type 0} (meaning : P → ℕ → ℕ → Meaning) (r : Rows P) (fit : Fits T)
+-- a run with monitors has returned once the plan's callers are back and no monitor has made a call
+pub returned_beside : {P T : Type 0} (meaning : P → ℕ → ℕ → Meaning) (r : Rows P) (fit : Fits T)
     (count : T → Option PassCount) (plan : Plan) (first b : Bench P) (passes : List T)
     → MayBegin meaning plan 2 r first → IsBenchOf meaning r b
-    → ((i : ℕ) → i < length plan.operations
+    → length passes ≡ length plan.operations → ((i : ℕ) → i < length plan.operations
     → IsBackOn meaning r fit count plan.operations (run_allotments plan) b passes i)
-    → ((i : ℕ) → IsMonitor plan i → IsUnused b i) → HoldsAll b
-holds_beside meaning r fit count plan first b passes begins bench back unused i low =
-    elim (cases_lt i (length plan.operations)) [
+    → ((i : ℕ) → IsMonitor plan i → IsUnused b i)
+    → HaveReturned meaning r fit count plan (run_allotments plan) b passes
+returned_beside meaning r fit count plan first b passes begins bench all back unused = record {
+  bench = (
+    bench,
+    λ i low. elim (cases_lt i (length plan.operations)) [
       | inl within ↦ let h = back i within in (h.local, h.here)
       | inr after ↦ let h = unused i
           (record { after = after; before = omega (arith, low, bench.callers, begins.callers) }) in
           (h.local, h.here)
-    ]
-
--- what the passes of an object outside the world count is what they tell
-pub counted_told_all : {T : Type 0} (made cap : T → ℕ) (told : T → Option (List (ℕ × ℕ)))
-    (plan : Plan) (locals : List Local) (passes : List T)
-    → AreInOrder (IsCountedAll (own_count made cap told) plan locals) passes
-    → AreInOrder (IsToldAll made told plan locals) passes
-counted_told_all made cap told plan locals passes all i pass there =
-    let h = all i pass there in
-    record { asked_for = h.asked_for; told_is = h.told_is }
+    ],
+  );
+  all_passes = all;
+  back = back;
+}
 
 module _ {P T : Type 0} (meaning : P → ℕ → ℕ → Meaning) (r : Rows P) (first b : Bench P)
     (plan : Plan) (fit : Fits T) (count : T → Option PassCount) (passes : List T) (items : List Own)

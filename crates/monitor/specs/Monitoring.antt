@@ -4,15 +4,16 @@ use Rattle.std.specs.Prelude.{◌≡◌, ℕ, ◌+◌, ◌%◌, ◌<◌, ◌≤�
 use Rattle.book_base.specs.SeqSpec.{SeqSpec}
 use Rattle.book_base.specs.Order.{HasLegalOrder}
 use Rattle.world_core.specs.Local.{Local, Given}
-use Rattle.world_core.specs.Calls.{calls_in, book_in, local_at}
+use Rattle.world_core.specs.Calls.{book_in, local_at}
 use Rattle.report_lines.specs.declared.line.Line.{Line}
-use Rattle.report_lines.specs.Phases.{HasMade, IsTold, asked, published_by, progress_of, no_progress}
+use Rattle.report_lines.specs.Phases.{HasMade, published_by, progress_of, no_progress}
 use Rattle.report_lines.specs.Allotments.{operations_at}
 use Rattle.row_table.specs.declared.bench.Bench.{Bench}
 use Rattle.row_table.specs.Benches.{fresh_stance}
-use Rattle.row_table.specs.Callers.{on_bench, stance_on}
+use Rattle.row_table.specs.Callers.{locals_on, on_bench, stance_on}
 use Rattle.client_scripts.specs.Plans.{Plan}
 use Rattle.client_calls.specs.Asking.{PassCount}
+use Rattle.run_report.specs.Places.{AreInOrder}
 use Rattle.run_report.specs.Starts.{run_allotments}
 use Rattle.run_report.specs.Returns.{IsCountOf}
 use Rattle.monitor.specs.declared.beside.Left.{Left}
@@ -51,15 +52,6 @@ pub record HaveMadeAll (plan : Plan) (locals : List Local) : Type 0 where
 abbrev pub IsCountedAll : {T : Type 0} → (T → Option PassCount) → Plan → List Local → ℕ → T → Type 0
 IsCountedAll count plan locals i pass =
     IfSome (count pass) (IsCountOf (slice_index (run_allotments plan) i) (local_at locals i))
-
--- With the pass of caller i just as many calls were made as the caller's allotment lets it ask the
--- object for. What the pass tells, where it tells anything, begins with the operations and the
--- replies of the caller's records, and is at most one pair longer.
-pub record IsToldAll {T : Type 0} (made : T → ℕ) (told : T → Option (List (ℕ × ℕ))) (plan : Plan)
-    (locals : List Local) (i : ℕ) (pass : T) : Type 0 where
-  pub asked_for : made pass ≡ asked (slice_index (run_allotments plan) i)
-  pub told_is : IfSome (told pass)
-      (IsTold (slice_index (run_allotments plan) i) (calls_in (local_at locals i)))
 
 module _ (spec : SeqSpec) where
   -- The cuts that monitor i was given, after those of its local `before`, are those of its rounds
@@ -105,3 +97,23 @@ module _ {P : Type 0} where
     pub local : Local
     pub here : on_bench b i ≡ Some local
     pub rounds : HasRounds spec n left.wants_memory most before local left.own
+
+-- What a run of a plan's callers that two monitors watch leaves on the bench `b`, which was `first`
+-- as the run began, and in these passes, where it has an answer.
+pub record HaveBeenWatched {P T : Type 0} (spec : SeqSpec) (count : T → Option PassCount)
+    (plan : Plan) (first b : Bench P) (passes : List T) : Type 0 where
+  -- Each caller of the plan has made exactly the phases that the plan gives it, and no monitor has
+  -- made a call.
+  pub made : HaveMadeAll plan (locals_on b)
+  -- Each caller of the plan whose allotment ends between two calls, or after all of them, is free
+  -- for its next call.
+  pub free : AreFreeAgain plan b
+  -- Each pass that counts calls counts exactly those that the plan's allotments let its caller ask
+  -- the object for. Where it tells calls, it tells an operation and a reply for each of them.
+  pub counted : AreInOrder (IsCountedAll count plan (locals_on b)) passes
+  -- The cuts that each monitor was given in this run are those of its rounds over the calls of all
+  -- callers: at most one more than the plan has calls. At each cut but the last the book has a
+  -- legal order. Of one monitor at least, and of both where the book of all published records has a
+  -- legal order, it also holds that where there are no more cuts than the plan has calls, the book
+  -- at the last one has no legal order.
+  pub rounds : HaveMonitored spec plan first (locals_on b)

@@ -1,18 +1,17 @@
-ghost use Rattle.std.specs.Prelude.{◌≡◌, ℕ, ◌+◌, ◌<◌, ◌≤◌, ◌⊎◌, true, false, None, Some, length, vec_len, vec_capacity, IfOk, IfSome, IfNone, OnOk, OnErr};
+ghost use Rattle.std.specs.Prelude.{◌≡◌, ℕ, ◌+◌, ◌≤◌, ◌⊎◌, true, false, None, Some, length, vec_len, vec_capacity, IfOk, IfSome, IfNone, OnOk, OnErr};
 ghost use Rattle.book_base.specs.declared.TheConstants.{MAX_CALLERS};
 ghost use Rattle.book_base.specs.Book.{answered};
 ghost use Rattle.book_base.specs.Cut.{IsWithin};
 ghost use Rattle.report_lines.specs.Lines.{book_of_lines};
-ghost use Rattle.row_table.specs.Callers.{locals_on, IsBenchOf, HoldsAll};
-ghost use Rattle.client_calls.specs.Asking.{fits_own, own_count};
+ghost use Rattle.row_table.specs.Callers.{locals_on};
+ghost use Rattle.client_calls.specs.Asking.{own_count};
 ghost use Rattle.reports.specs.Filling.{AreOfABook};
 ghost use Rattle.reports.specs.ReportLayout.{lines_in};
-ghost use Rattle.run_report.specs.Places.{AreInOrder};
-ghost use Rattle.run_report.specs.Starts.{run_allotments, IsUnused, MayBegin, AreFreshPasses};
-ghost use Rattle.run_report.specs.Returns.{IsBackOn};
-ghost use Rattle.run_report.specs.Passes.{IsOwnPass, AreUnusedPasses};
+ghost use Rattle.run_report.specs.Starts.{run_allotments, IsUnused, MayRun, AreFreshPasses};
+ghost use Rattle.run_report.specs.Returns.{HaveReturned, HaveReturnedOutside};
+ghost use Rattle.run_report.specs.Passes.{AreUnusedPasses};
 ghost use Rattle.monitor.specs.Published.{IsJudgedAt, IsExactAnswer};
-ghost use Rattle.monitor.specs.Monitoring.{published_for, with_monitors, IsMonitor, HaveMadeAll, AreFreeAgain, IsCountedAll, IsToldAll, HaveMonitored};
+ghost use Rattle.monitor.specs.Monitoring.{published_for, with_monitors, IsMonitor, HaveBeenWatched};
 
 use crate::counts::{most_rounds, published_counts};
 use crate::published::judge_at;
@@ -96,11 +95,11 @@ fn judge_lines<S: SearchHints>(
 /// two callers after the script's, make rounds over what is published. Each makes rounds until one
 /// is illegal, and at most one more than the script has calls.
 ///
-/// The answer is a witness exactly where the book of all published records has no legal order.
-/// With an answer each caller whose allotment ends between two calls, or after all of them, is free
-/// for its next call. Whatever the answer, the bench holds all callers again, and the passes are in
-/// their order. `NoMemory` is answered before the first call, or where a judgement lacked memory and
-/// no monitor has a witness.
+/// The answer is a witness exactly where the book of all published records has no legal order. With
+/// an answer each caller whose allotment ends between two calls, or after all of them, is free for
+/// its next call. Whatever the answer, the bench holds all callers again, and the passes are in
+/// their order. `NoMemory` is answered before the first call, or where a judgement lacked memory
+/// and no monitor has a witness.
 pub fn monitor_asked<
     R: Threads + Sync,
     P: Program + Send + Sync,
@@ -118,47 +117,23 @@ pub fn monitor_asked<
 ) -> Result<Option<Witness>, NoMemory>
     // The callers of the shared rows may ask the object.
     requires serves { A.serves shared.now.asks.now shared.now.rows.now }
-    // The shared rows have just the script's callers and two more, and capacity for the script's
-    // calls. The bench is a bench of these rows, and holds each of these callers, live and idle,
-    // without a call.
-    requires begins { MayBegin P.meaning script.now 2 shared.now.rows.now bench.old }
-    // There is a pass for each caller of the script, in order, which fits the caller. Where it
-    // counts calls, none was made with it, and one may be made for each operation of the caller.
-    requires passes { AreFreshPasses shared.now.rows.now (A.fits shared.now.asks.now) A.count
-        script.now.operations passes.old.items }
-    // Whatever the answer, the bench is still a bench of the shared rows, and holds each caller.
-    ensures bench { IsBenchOf P.meaning shared.now.rows.now bench.new × HoldsAll bench.new }
-    // There is one pass for each caller of the script.
-    ensures all_passes { vec_len passes.new ≡ length script.now.operations }
+    // The shared rows have just the script's callers and two more, all on the bench, unused. For
+    // each of the script's, in order, there is a pass that fits it, unused too.
+    requires begins { MayRun P.meaning shared.now.rows.now
+        (AreFreshPasses shared.now.rows.now (A.fits shared.now.asks.now) A.count) script.now 2
+        bench.old passes.old.items }
+    // Whatever the answer, the bench holds all callers again, each of the script's after a prefix
+    // of its phases, and the passes are in their order (`HaveReturned`).
+    ensures returns { HaveReturned P.meaning shared.now.rows.now (A.fits shared.now.asks.now)
+        A.count script.now (run_allotments script.now) bench.new passes.new.items }
     // The list of passes has at least the capacity that it had.
     ensures capacity { vec_capacity passes.old ≤ vec_capacity passes.new }
-    // Each caller of the script is back on the bench with its pass, which fits it, and has made a
-    // prefix of its phases: at most as many as the script gives it. A pass that counts calls counts
-    // those that the object was asked for.
-    ensures back { (i : ℕ) → i < length script.now.operations
-        → IsBackOn P.meaning shared.now.rows.now
-        (A.fits shared.now.asks.now) A.count script.now.operations (run_allotments script.now)
-        bench.new passes.new.items i }
     // Both monitors are back on the bench, live and idle, without a call.
     ensures monitors { (i : ℕ) → IsMonitor script.now i → IsUnused bench.new i }
-    // Where an answer is given, each caller of the script has made exactly the phases that the
-    // script gives it, and no monitor has made a call.
-    ensures made { IfOk result (λ _. HaveMadeAll script.now (locals_on bench.new)) }
-    // With an answer each caller of the script whose allotment ends between two calls, or after all
-    // of them, is free for its next call.
-    ensures free { IfOk result (λ _. AreFreeAgain script.now bench.new) }
-    // With an answer each pass that counts calls counts exactly those that the script's allotments
-    // let its caller ask the object for. Where it tells calls, it tells an operation and a reply
-    // for each of them.
-    ensures counted { IfOk result
-        (λ _. AreInOrder (IsCountedAll A.count script.now (locals_on bench.new)) passes.new.items) }
-    // With an answer the cuts that each monitor was given in this run are those of its rounds over
-    // the calls of all callers: at most one more than the script has calls. At each cut but the
-    // last the book has a legal order. Of one monitor at least, and of both where the book of all
-    // published records has a legal order, it also holds that where there are no more cuts than the
-    // script has calls, the book at the last one has no legal order.
-    ensures rounds { IfOk result
-        (λ _. HaveMonitored (S.spec sequential.now) script.now bench.old (locals_on bench.new)) }
+    // Where an answer is given, the callers have made all their phases, the passes count and tell
+    // just the calls of these, and the monitors have made their rounds (`HaveBeenWatched`).
+    ensures watched { IfOk result (λ _. HaveBeenWatched (S.spec sequential.now) A.count script.now
+        bench.old bench.new passes.new.items) }
     // An answer is a witness exactly where the book of all published records has no legal order. A
     // witness is the book of all callers' calls at a cut that counts published records alone, and
     // has no legal order.
@@ -197,51 +172,25 @@ pub fn monitor_over<R: Threads + Sync, S: SearchHints + Sync, B: BlackBox + Sync
 ) -> Result<Option<Witness>, NoMemory>
 where
     B::Pass: Send,
-    // The rows have just the script's callers and two more, and capacity for the script's calls.
-    // The bench is a bench of the rows, and holds each of these callers, live and idle, without a
-    // call.
-    requires begins { MayBegin ⟦<Outside as Program>⟧.meaning script.now 2 rows.now bench.old }
-    // There is a pass of the object's own for each caller of the script, in order. No call was made
-    // with it, and one may be made for each operation of its caller.
-    requires passes { AreUnusedPasses (B.is_own object.now) B.Pass.caller B.Pass.made B.Pass.cap
-        script.now.operations passes.old.items }
-    // Whatever the answer, the bench is still a bench of `rows`, and holds each of their callers.
-    ensures bench { IsBenchOf ⟦<Outside as Program>⟧.meaning rows.now bench.new
-        × HoldsAll bench.new }
-    // There is one pass for each caller of the script.
-    ensures all_passes { vec_len passes.new ≡ length script.now.operations }
+    // The rows have just the script's callers and two more, all on the bench, unused. For each of
+    // the script's, in order, there is a pass of the object's own, unused too.
+    requires begins { MayRun ⟦<Outside as Program>⟧.meaning rows.now
+        (AreUnusedPasses (B.is_own object.now) B.Pass.caller B.Pass.made B.Pass.cap) script.now 2
+        bench.old passes.old.items }
+    // Whatever the answer, the bench holds all callers again, each of the script's after a prefix
+    // of its phases, and the passes are in their order (`HaveReturnedOutside`).
+    ensures returns { HaveReturnedOutside ⟦<Outside as Program>⟧.meaning rows.now
+        (B.is_own object.now) B.Pass.caller B.Pass.made B.Pass.cap B.Pass.told script.now
+        (run_allotments script.now) bench.new passes.new.items }
     // The list of passes has at least the capacity that it had.
     ensures capacity { vec_capacity passes.old ≤ vec_capacity passes.new }
-    // Each caller of the script is back on the bench with its pass, and has made a prefix of its
-    // phases: at most as many as the script gives it. Its pass counts the calls that the object was
-    // asked for.
-    ensures back { (i : ℕ) → i < length script.now.operations → IsBackOn
-        ⟦<Outside as Program>⟧.meaning rows.now (fits_own (B.is_own object.now) B.Pass.caller)
-        (own_count B.Pass.made B.Pass.cap B.Pass.told) script.now.operations
-        (run_allotments script.now)
-        bench.new passes.new.items i }
-    // Each pass is one of the object's own, and pass i is that of caller i.
-    ensures passes { AreInOrder (IsOwnPass (B.is_own object.now) B.Pass.caller) passes.new.items }
     // Both monitors are back on the bench, live and idle, without a call.
     ensures monitors { (i : ℕ) → IsMonitor script.now i → IsUnused bench.new i }
-    // Where an answer is given, each caller of the script has made exactly the phases that the
-    // script gives it, and no monitor has made a call.
-    ensures made { IfOk result (λ _. HaveMadeAll script.now (locals_on bench.new)) }
-    // With an answer each caller of the script whose allotment ends between two calls, or after all
-    // of them, is free for its next call.
-    ensures free { IfOk result (λ _. AreFreeAgain script.now bench.new) }
-    // With an answer just as many calls were made with each pass as the script's allotments let its
-    // caller ask the object for. What the pass tells, where it tells anything, begins with the
-    // operations and the replies of the caller's records, and is at most one pair longer.
-    ensures told { IfOk result (λ _. AreInOrder
-        (IsToldAll B.Pass.made B.Pass.told script.now (locals_on bench.new)) passes.new.items) }
-    // With an answer the cuts that each monitor was given in this run are those of its rounds over
-    // the calls of all callers: at most one more than the script has calls. At each cut but the
-    // last the book has a legal order. Of one monitor at least, and of both where the book of all
-    // published records has a legal order, it also holds that where there are no more cuts than the
-    // script has calls, the book at the last one has no legal order.
-    ensures rounds { IfOk result
-        (λ _. HaveMonitored (S.spec sequential.now) script.now bench.old (locals_on bench.new)) }
+    // Where an answer is given, the callers have made all their phases, the passes count and tell
+    // just the calls of these, and the monitors have made their rounds (`HaveBeenWatched`).
+    ensures watched { IfOk result (λ _. HaveBeenWatched (S.spec sequential.now)
+        (own_count B.Pass.made B.Pass.cap B.Pass.told) script.now bench.old bench.new
+        passes.new.items) }
     // An answer is a witness exactly where the book of all published records has no legal order. A
     // witness is the book of all callers' calls at a cut that counts published records alone, and
     // has no legal order.

@@ -8,8 +8,8 @@ ghost use Rattle.client_calls.specs.Ends.{silent, SaysDeferred};
 ghost use Rattle.reports.specs.ReportLayout.{lines_in};
 ghost use Rattle.monitor.specs.Beside.{IsUnmoved, IsBackFrom};
 ghost use Rattle.run_report.specs.Work.{IsReady, HasRun};
-ghost use Rattle.run_report.specs.Starts.{run_allotments, course_of, IsUnused, MayBegin, AreFreshPasses};
-ghost use Rattle.run_report.specs.Returns.{IsBackOn, AreBack};
+ghost use Rattle.run_report.specs.Starts.{run_allotments, course_of, IsUnused, MayRun, AreFreshPasses};
+ghost use Rattle.run_report.specs.Returns.{HaveReturned, AreBack};
 ghost use Rattle.monitor.specs.Monitoring.{IsMonitor, HasWatched};
 
 use crate::{Left, watch_beside};
@@ -97,16 +97,12 @@ pub(crate) fn watch_all<
     rounds: u64,
 ) -> Result<(Vec<Own>, Left, Left), NoMemory>
     requires serves { A.serves shared.now.asks.now shared.now.rows.now }
-    requires begins { MayBegin P.meaning script.now 2 shared.now.rows.now bench.old }
-    requires passes { AreFreshPasses shared.now.rows.now (A.fits shared.now.asks.now) A.count
-        script.now.operations passes.old.items }
-    ensures bench { IsBenchOf P.meaning shared.now.rows.now bench.new }
-    ensures all_passes { vec_len passes.new ≡ length script.now.operations }
+    requires begins { MayRun P.meaning shared.now.rows.now
+        (AreFreshPasses shared.now.rows.now (A.fits shared.now.asks.now) A.count) script.now 2
+        bench.old passes.old.items }
+    ensures returns { HaveReturned P.meaning shared.now.rows.now (A.fits shared.now.asks.now)
+        A.count script.now (run_allotments script.now) bench.new passes.new.items }
     ensures capacity { vec_capacity passes.old ≤ vec_capacity passes.new }
-    ensures back { (i : ℕ) → i < length script.now.operations
-        → IsBackOn P.meaning shared.now.rows.now
-        (A.fits shared.now.asks.now) A.count script.now.operations (run_allotments script.now)
-        bench.new passes.new.items i }
     ensures monitors { (i : ℕ) → IsMonitor script.now i → IsUnused bench.new i }
     ensures all_lines { IfOk result (λ left. vec_len left.0 ≡ length script.now.operations) }
     ensures lines { IfOk result (λ left. AreBack P.meaning shared.now.rows.now SaysDeferred

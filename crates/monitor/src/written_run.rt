@@ -1,16 +1,15 @@
 //! Whole runs of a script that two monitors watch, and what is written of them.
 
-ghost use Rattle.std.specs.Prelude.{◌≡◌, ◌⊎◌, ◌≤◌, ◌<◌, ◌+◌, ℕ, Some, length, vec_len, vec_capacity};
+ghost use Rattle.std.specs.Prelude.{◌≡◌, ◌⊎◌, ◌≤◌, ℕ, vec_capacity};
 ghost use Rattle.seq_objects.specs.Objects.{kind_spec};
-ghost use Rattle.row_table.specs.Callers.{locals_on, IsBenchOf, HoldsAll};
-ghost use Rattle.client_calls.specs.Asking.{fits_own, own_count};
-ghost use Rattle.run_report.specs.Places.{AreInOrder};
-ghost use Rattle.run_report.specs.Starts.{run_allotments, IsUnused, MayBegin};
-ghost use Rattle.run_report.specs.Returns.{IsBackOn};
-ghost use Rattle.run_report.specs.Passes.{IsOwnPass, AreUnusedPasses};
+ghost use Rattle.row_table.specs.Callers.{locals_on};
+ghost use Rattle.client_calls.specs.Asking.{own_count};
+ghost use Rattle.run_report.specs.Starts.{run_allotments, IsUnused, MayRun};
+ghost use Rattle.run_report.specs.Returns.{HaveReturnedOutside};
+ghost use Rattle.run_report.specs.Passes.{AreUnusedPasses};
 ghost use Rattle.byte_streams.specs.Fault.{LeavesSink};
 ghost use Rattle.byte_streams.specs.Writing.{EndsWriting};
-ghost use Rattle.monitor.specs.Monitoring.{IsMonitor, HaveMadeAll, AreFreeAgain, IsToldAll, HaveMonitored};
+ghost use Rattle.monitor.specs.Monitoring.{IsMonitor, HaveBeenWatched};
 ghost use Rattle.monitor.specs.MonitorTexts.{HasLegalRecords, IsMonitorText};
 
 use crate::answer_output::write_answer;
@@ -45,55 +44,25 @@ pub fn monitor_and_write<R: Threads + Sync, B: BlackBox + Sync, K: Sink>(
 ) -> Status
 where
     B::Pass: Send,
-    // The rows have just the script's callers and two more, and capacity for the calls of the
-    // script; the bench is that of the rows and holds each of these callers, ready and idle,
-    // without a call.
-    requires begins { MayBegin ⟦<Outside as Program>⟧.meaning script.now 2 rows.now bench.old }
-    // For each caller of the script, in order, there is a pass of the object's own. No call was
-    // made with it, and it may make a call for each operation of its caller.
-    requires passes { AreUnusedPasses (B.is_own object.now) B.Pass.caller B.Pass.made B.Pass.cap
-        script.now.operations passes.old.items }
-
-    // Whatever the answer, the bench still belongs to these rows, and holds all their callers.
-    ensures bench { IsBenchOf ⟦<Outside as Program>⟧.meaning rows.now bench.new
-        × HoldsAll bench.new }
-    // There is one pass for each caller of the script.
-    ensures all_passes { vec_len passes.new ≡ length script.now.operations }
+    // The rows have just the script's callers and two more, all on the bench, unused. For each of
+    // the script's, in order, there is a pass of the object's own, unused too.
+    requires begins { MayRun ⟦<Outside as Program>⟧.meaning rows.now
+        (AreUnusedPasses (B.is_own object.now) B.Pass.caller B.Pass.made B.Pass.cap) script.now 2
+        bench.old passes.old.items }
+    // Whatever the answer, the bench holds all callers again, each of the script's after a prefix
+    // of its phases, and the passes are in their order (`HaveReturnedOutside`).
+    ensures returns { HaveReturnedOutside ⟦<Outside as Program>⟧.meaning rows.now
+        (B.is_own object.now) B.Pass.caller B.Pass.made B.Pass.cap B.Pass.told script.now
+        (run_allotments script.now) bench.new passes.new.items }
     // The list of passes has at least the capacity that it had.
     ensures capacity { vec_capacity passes.old ≤ vec_capacity passes.new }
-    // Each pass is the object's own, and the pass of the caller at its place.
-    ensures passes { AreInOrder (IsOwnPass (B.is_own object.now) B.Pass.caller) passes.new.items }
-    // Each caller of the script is back on the bench with its pass, and has made the first phases
-    // of its calls, at most as many as the script gives it. Its pass counts those of its calls for
-    // which the object was asked.
-    ensures back { (i : ℕ) → i < length script.now.operations → IsBackOn
-        ⟦<Outside as Program>⟧.meaning rows.now (fits_own (B.is_own object.now) B.Pass.caller)
-        (own_count B.Pass.made B.Pass.cap B.Pass.told) script.now.operations
-        (run_allotments script.now)
-        bench.new passes.new.items i }
-    // Both monitors are back on the bench, ready and idle, without a call.
+    // Both monitors are back on the bench, live and idle, without a call.
     ensures monitors { (i : ℕ) → IsMonitor script.now i → IsUnused bench.new i }
-
-    // Unless the status is `NoMemory`, each caller of the script has made exactly the phases that
-    // the script gives it, and no monitor has made a call.
-    ensures made { ¬ (result ≡ Status.NoMemory) → HaveMadeAll script.now (locals_on bench.new) }
-    // Unless the status is `NoMemory`, each caller of the script whose allotment ends between two
-    // calls, or after all of them, is free for its next call.
-    ensures free { ¬ (result ≡ Status.NoMemory) → AreFreeAgain script.now bench.new }
-    // Unless the status is `NoMemory`, the object was asked with each pass for exactly the calls
-    // that the script lets its caller ask. The told list of the pass, where it has one, begins with
-    // the operations and the replies of the caller's records, and has at most one pair more.
-    ensures told { ¬ (result ≡ Status.NoMemory)
-        → AreInOrder
-        (IsToldAll B.Pass.made B.Pass.told script.now (locals_on bench.new)) passes.new.items }
-    // Unless the status is `NoMemory`, the cuts that each monitor was given in this run are those
-    // of its rounds over the calls of all callers. Their number is at most the number of the
-    // script's calls plus 1. At each cut but the last the book has a legal order. Of one monitor at
-    // least, and of both where the book of all published records has a legal order, it also holds
-    // that where there are fewer cuts than the number of the script's calls plus 1, the book at the
-    // last cut has no legal order.
-    ensures rounds { ¬ (result ≡ Status.NoMemory) → HaveMonitored (kind_spec script.now.kind)
-        script.now bench.old (locals_on bench.new) }
+    // Unless the status is `NoMemory`, the callers have made all their phases, the passes count and
+    // tell just the calls of these, and the monitors have made their rounds (`HaveBeenWatched`).
+    ensures watched { ¬ (result ≡ Status.NoMemory) → HaveBeenWatched (kind_spec script.now.kind)
+        (own_count B.Pass.made B.Pass.cap B.Pass.told) script.now bench.old bench.new
+        passes.new.items }
 
     // The returned status and the text written are right for the records that the locals on the
     // bench have published. After a failed write only a part of the text is written, and without

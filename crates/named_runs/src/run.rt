@@ -1,15 +1,12 @@
 //! Whole runs and replays of a script, and what is written of them.
 
-ghost use Rattle.std.specs.Prelude.{◌≡◌, ◌⊎◌, ◌<◌, ℕ, None, length, vec_len};
+ghost use Rattle.std.specs.Prelude.{◌≡◌, ◌⊎◌, ◌<◌, ℕ, None, length};
 ghost use Rattle.seq_objects.specs.Objects.{kind_spec};
-ghost use Rattle.row_table.specs.Callers.{IsBenchOf, HoldsAll};
-ghost use Rattle.client_calls.specs.Asking.{fits_own, own_count};
 ghost use Rattle.core_objects.specs.CoreObjects.{AreOpenedWith, ArePassesFor};
-ghost use Rattle.run_report.specs.Places.{AreInOrder};
-ghost use Rattle.run_report.specs.Starts.{run_allotments, replay_allotments, MayBegin};
-ghost use Rattle.run_report.specs.Returns.{IsBackOn};
+ghost use Rattle.run_report.specs.Starts.{run_allotments, replay_allotments, MayRun};
+ghost use Rattle.run_report.specs.Passes.{AreUnusedPasses};
+ghost use Rattle.run_report.specs.Returns.{HaveReturned, HaveReturnedOutside};
 ghost use Rattle.core_runs.specs.Inside.{fits_inside};
-ghost use Rattle.run_report.specs.Passes.{IsOwnPass, AreUnusedPasses};
 ghost use Rattle.run_report.specs.Reporting.{IsFreeAgain};
 ghost use Rattle.reports.specs.Findings.{Findings};
 ghost use Rattle.byte_streams.specs.Fault.{LeavesSink};
@@ -54,29 +51,17 @@ pub fn run_and_write<R: Threads + Sync, B: BlackBox + Sync, K: Sink>(
 ) -> Status
 where
     B::Pass: Send,
-    // The rows have just the script's callers, and capacity for their calls. The bench is a bench
-    // of the rows, and holds each of these callers, live and idle, without a call.
-    requires begins { MayBegin ⟦<Outside as Program>⟧.meaning script.now 0 rows.now bench.old }
-    // There is a pass of the object's own for each caller of the script, in order. No call was made
-    // with it, and one may be made for each operation of its caller.
-    requires passes { AreUnusedPasses (B.is_own object.now) B.Pass.caller B.Pass.made B.Pass.cap
-        script.now.operations passes.old.items }
+    // The rows have just the script's callers, who are on the bench, unused. For each of them, in
+    // order, there is a pass of the object's own, unused too.
+    requires begins { MayRun ⟦<Outside as Program>⟧.meaning rows.now
+        (AreUnusedPasses (B.is_own object.now) B.Pass.caller B.Pass.made B.Pass.cap) script.now 0
+        bench.old passes.old.items }
 
-    // Whatever the answer, the bench is still a bench of `rows`, and holds each of their callers.
-    ensures bench { IsBenchOf ⟦<Outside as Program>⟧.meaning rows.now bench.new
-        × HoldsAll bench.new }
-    // There is one pass for each caller of the script.
-    ensures all_passes { vec_len passes.new ≡ length script.now.operations }
-    // Each pass is one of the object's own, and pass i is that of caller i.
-    ensures passes { AreInOrder (IsOwnPass (B.is_own object.now) B.Pass.caller) passes.new.items }
-    // Each caller of the script is back on the bench with its pass, and has made a prefix of its
-    // phases: at most as many as the script gives it. Its pass counts the calls that the object was
-    // asked for.
-    ensures back { (i : ℕ) → i < length script.now.operations → IsBackOn
-        ⟦<Outside as Program>⟧.meaning rows.now (fits_own (B.is_own object.now) B.Pass.caller)
-        (own_count B.Pass.made B.Pass.cap B.Pass.told) script.now.operations
-        (run_allotments script.now)
-        bench.new passes.new.items i }
+    // Whatever the answer, the bench holds all callers again, each of the script's after a prefix
+    // of its phases, and the passes are in their order (`HaveReturnedOutside`).
+    ensures returns { HaveReturnedOutside ⟦<Outside as Program>⟧.meaning rows.now
+        (B.is_own object.now) B.Pass.caller B.Pass.made B.Pass.cap B.Pass.told script.now
+        (run_allotments script.now) bench.new passes.new.items }
 
     // The headline: what the sink has taken fits the status. It is all that the form shows of a
     // lawful report of the locals on the bench; a prefix of that with `WriteFault`; and nothing
@@ -121,29 +106,17 @@ pub fn replay_and_write<B: BlackBox, K: Sink>(
     form: Form,
     sink: &mut K,
 ) -> Status
-    // The rows have just the script's callers, and capacity for their calls. The bench is a bench
-    // of the rows, and holds each of these callers, live and idle, without a call.
-    requires begins { MayBegin ⟦<Outside as Program>⟧.meaning script.now 0 rows.now bench.old }
-    // There is a pass of the object's own for each caller of the script, in order. No call was made
-    // with it, and one may be made for each operation of its caller.
-    requires passes { AreUnusedPasses (B.is_own object.now) B.Pass.caller B.Pass.made B.Pass.cap
-        script.now.operations passes.old.items }
+    // The rows have just the script's callers, who are on the bench, unused. For each of them, in
+    // order, there is a pass of the object's own, unused too.
+    requires begins { MayRun ⟦<Outside as Program>⟧.meaning rows.now
+        (AreUnusedPasses (B.is_own object.now) B.Pass.caller B.Pass.made B.Pass.cap) script.now 0
+        bench.old passes.old.items }
 
-    // Whatever the answer, the bench is still a bench of `rows`, and holds each of their callers.
-    ensures bench { IsBenchOf ⟦<Outside as Program>⟧.meaning rows.now bench.new
-        × HoldsAll bench.new }
-    // There is one pass for each caller of the script.
-    ensures all_passes { vec_len passes.new ≡ length script.now.operations }
-    // Each pass is one of the object's own, and pass i is that of caller i.
-    ensures passes { AreInOrder (IsOwnPass (B.is_own object.now) B.Pass.caller) passes.new.items }
-    // Each caller of the script is back on the bench with its pass, and has made a prefix of its
-    // phases: at most as many as the script's turns give it. Its pass counts the calls that the
-    // object was asked for.
-    ensures back { (i : ℕ) → i < length script.now.operations → IsBackOn
-        ⟦<Outside as Program>⟧.meaning rows.now (fits_own (B.is_own object.now) B.Pass.caller)
-        (own_count B.Pass.made B.Pass.cap B.Pass.told) script.now.operations
-        (replay_allotments script.now)
-        bench.new passes.new.items i }
+    // Whatever the answer, the bench holds all callers again, each of the script's after a prefix
+    // of its phases, and the passes are in their order (`HaveReturnedOutside`).
+    ensures returns { HaveReturnedOutside ⟦<Outside as Program>⟧.meaning rows.now
+        (B.is_own object.now) B.Pass.caller B.Pass.made B.Pass.cap B.Pass.told script.now
+        (replay_allotments script.now) bench.new passes.new.items }
 
     // The headline: what the sink has taken fits the status. It is all that the form shows of a
     // lawful report of the locals on the bench; a prefix of that with `WriteFault`; and nothing
@@ -199,23 +172,17 @@ where
     O::Pass: Send,
     // The rows were opened with the program of this object.
     requires program { AreOpenedWith O.P.meaning (O.program_of object.now) rows.now }
-    // The rows have just the script's callers, and capacity for their calls. The bench is a bench
-    // of the rows, and holds each of these callers, live and idle, without a call.
-    requires begins { MayBegin O.P.meaning script.now 0 rows.now bench.old }
-    // There is one pass for each caller of the rows, in order. It fits the caller before its first
-    // object step, with the number of callers and the cap of the rows.
-    requires passes { ArePassesFor (O.fits object.now) rows.now.callers rows.now.cap
+    // The rows have just the script's callers, who are on the bench, unused. For each caller of the
+    // rows, in order, there is a pass that fits it before its first object step, with the number of
+    // callers and the cap of the rows.
+    requires begins { MayRun O.P.meaning rows.now
+        (λ _. ArePassesFor (O.fits object.now) rows.now.callers rows.now.cap) script.now 0 bench.old
         passes.old.items }
 
-    // Whatever the answer, the bench is still a bench of `rows`, and holds each of their callers.
-    ensures bench { IsBenchOf O.P.meaning rows.now bench.new × HoldsAll bench.new }
-    // There is one pass for each caller of the script.
-    ensures all_passes { vec_len passes.new ≡ length script.now.operations }
-    // Each caller of the script is back on the bench with its pass, which fits the object steps
-    // that it has made. It has made a prefix of its phases: at most as many as the script gives it.
-    ensures back { (i : ℕ) → i < length script.now.operations
-        → IsBackOn O.P.meaning rows.now (fits_inside (O.fits object.now)) (λ pass. None)
-        script.now.operations (run_allotments script.now) bench.new passes.new.items i }
+    // Whatever the answer, the bench holds all callers again, each after a prefix of its phases,
+    // and the passes are in their order and fit the object steps of their callers (`HaveReturned`).
+    ensures returns { HaveReturned O.P.meaning rows.now (fits_inside (O.fits object.now))
+        (λ pass. None) script.now (run_allotments script.now) bench.new passes.new.items }
 
     // The headline: what the sink has taken fits the status. It is all that the form shows of a
     // lawful report of the locals on the bench, without an error line; a prefix of it with

@@ -1,5 +1,5 @@
 -- What the callers of a plan that are back have left is their report.
-use Rattle.std.proofs.Common.{◌≡◌, sym, subst, refl, ℕ, ◌<◌, false, List, length, arith}
+use Rattle.std.proofs.Common.{◌≡◌, sym, subst, refl, ℕ, false, List, length, arith}
 use Rattle.std.specs.Prelude.{Option}
 use Rattle.std.specs.List.{All}
 use Rattle.std.proofs.lemmas.List.{length-map}
@@ -21,14 +21,13 @@ use Rattle.row_table.proofs.Parting.{whole_is_together}
 use Rattle.client_scripts.specs.Plans.{Plan, IsPlan}
 use Rattle.client_calls.specs.Asking.{Fits, PassCount}
 use Rattle.client_calls.specs.Ends.{SaysJudged}
-use Rattle.run_report.specs.Places.{AreInOrder}
 use Rattle.run_report.specs.Starts.{course_of}
 use Rattle.run_report.specs.Returns.{AreBack}
 use Rattle.reports.specs.declared.report.Own.{Own}
 use Rattle.reports.specs.ReportLayout.{lines_in, findings_in}
 use Rattle.reports.specs.Findings.{Findings, IsReport}
 use Rattle.run_report.specs.Replies.{HasWord}
-use Rattle.run_report.specs.Reporting.{outside_shape, IsReportOf, IsFreeAgain, IsCountedIn}
+use Rattle.run_report.specs.Reporting.{outside_shape, IsRunReport}
 use Rattle.run_report.proofs.Workers.{have_worked, keeps_asked, free_again, told_in}
 use Rattle.run_report.proofs.Reports.{words_of_all, is_report}
 
@@ -67,18 +66,15 @@ module _ {P T : Type 0} (meaning : P → ℕ → ℕ → Meaning) (r : Rows P) (
   fits words = is_report object (shape_of meaning r) (locals_on b) plan allotments
       lines valid callers together of lawful (words_of_all items words)
 
-  -- what the findings that are made of these lines say
-  abbrev Say : Findings → Type 0
-  Say f = IsReportOf object (shape_of meaning r) (locals_on b) plan allotments f
-      × ((i : ℕ) → i < length plan.operations → IsFreeAgain b allotments f i)
-      × AreInOrder (IsCountedIn count allotments f) passes
-
+  -- the findings that are made of these lines are the report of the run
   pub reported : (f : Findings) → f ≡ findings_in plan.kind items
-      → length passes ≡ length plan.operations → Say f
+      → length passes ≡ length plan.operations
+      → IsRunReport object meaning r count plan allotments b passes f
   reported f same all =
       let course = course_of plan allotments object in
-      subst Say (sym same) (
-        record {
+      subst (λ (x : Findings). IsRunReport object meaning r count plan allotments b passes x)
+      (sym same) (record {
+        report = record {
           kind = refl;
           together = together;
           lines = of;
@@ -86,12 +82,12 @@ module _ {P T : Type 0} (meaning : P → ℕ → ℕ → Meaning) (r : Rows P) (
           asked = λ i low. keeps_asked meaning r fit count course b passes lines i
               (back.back i (omega (arith, low, callers)));
           lawful = lawful;
-        },
-        λ i low. free_again meaning r fit count course b passes lines plan.kind i
-            (back.back i low),
-        λ i pass there. told_in meaning r fit count course b passes lines plan.kind i pass there
-            (back.back i (omega (arith, all, slice_get_within passes i pass there))),
-      )
+        };
+        free = λ i low. free_again meaning r fit count course b passes lines plan.kind i
+            (back.back i low);
+        counted = λ i pass there. told_in meaning r fit count course b passes lines plan.kind i pass
+            there (back.back i (omega (arith, all, slice_get_within passes i pass there)));
+      })
 
 -- rows with the greatest cap are those of a world with the shape for this many callers
 pub outside_shapes : (callers cap n : ℕ) → callers ≡ n → cap ≡ 256

@@ -11,7 +11,7 @@ use Rattle.row_table.specs.declared.bench.Bench.{Bench}
 use Rattle.client_calls.specs.declared.stand.CallerState.{CallerState}
 use Rattle.client_calls.specs.declared.stand.CallerState.TheVariants.{Idle, Announced, Answered, Viewed, Published, Halted, Unjudged}
 use Rattle.client_calls.specs.Stands.{phases_at}
-use Rattle.client_calls.specs.Clients.{Spent, HasSpent, phases_by}
+use Rattle.client_calls.specs.Clients.{Spent, HasSpent, phases_by, Says}
 use Rattle.client_calls.specs.Asking.{Fits, PassCount, FitsCaller}
 use Rattle.client_calls.specs.declared.client.Client.{Client}
 use Rattle.client_calls.proofs.Told.{if_some_as}
@@ -23,7 +23,7 @@ use Rattle.row_table.specs.declared.rows.Rows.{Rows}
 use Rattle.row_table.specs.Benches.{fresh_stance}
 use Rattle.row_table.specs.declared.caller.Caller.{Caller}
 use Rattle.row_table.specs.Callers.{who_of, local_with, on_bench, stance_on, IsCallerOf}
-use Rattle.run_report.specs.Work.{Says, IsReady, HasRun}
+use Rattle.run_report.specs.Work.{IsReady, HasRun}
 use Rattle.client_scripts.specs.Plans.{Plan}
 use Rattle.run_report.specs.Starts.{RunCourse, MayStart, IsNewCount, AreFreshPasses, IsClientOf, IsStart}
 use Rattle.run_report.proofs.Places.{still_at, item_at}
@@ -150,7 +150,7 @@ module _ {P T E : Type 0} (meaning : P → ℕ → ℕ → Meaning) (r : Rows P)
           who = ran.same.who ∙ ap (λ (c : Client P T E). c.sheet.who) (sym same) ∙ start.of.who;
           operations = ran.same.operations
               ∙ ap (λ (c : Client P T E). c.sheet.operations.now) (sym same) ∙ start.of.operations;
-          judges = ran.judges ∙ ap (λ (c : Client P T E). object c.sheet.ending) (sym same)
+          judges = ran.same.judges ∙ ap (λ (c : Client P T E). object c.sheet.ending) (sym same)
               ∙ start.of.judges;
         };
         spent = subst (λ (a : ℕ). HasSpent a ran.after) all ran.spent;

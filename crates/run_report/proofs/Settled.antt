@@ -13,10 +13,9 @@ use Rattle.client_calls.specs.declared.client.Client.{Client}
 use Rattle.client_calls.specs.Asking.{Fits, PassCount, FitsCaller}
 use Rattle.client_calls.specs.Stands.{caller_at, phases_at}
 use Rattle.client_calls.specs.Course.{HasCome, Counts}
-use Rattle.client_calls.specs.Clients.{Spent, HasSpent, IsSameClient, Releases}
+use Rattle.client_calls.specs.Clients.{Spent, HasSpent, Releases, Says, IsAtWork}
 use Rattle.client_calls.specs.Finishing.{is_unjudged}
-use Rattle.client_calls.specs.Keeping.{KeepsStanding}
-use Rattle.run_report.specs.Work.{Says, IsAtWork}
+use Rattle.client_calls.specs.Keeping.{KeepsStanding, IsSameSheet}
 use Rattle.run_report.specs.Starts.{RunCourse}
 use Rattle.run_report.specs.Places.{AreInOrder}
 use Rattle.run_report.specs.Returns.{IsSpent, KeepsNothing}
@@ -121,11 +120,11 @@ module _ {P T E : Type 0} (meaning : P → ℕ → ℕ → Meaning) (r : Rows P)
   -- a worker whose client worked further has spent its allotment, where this client has spent it
   pub settled_spent : (course : RunCourse) (i : ℕ) (w v : Worker P T E) (c d : Client P T E)
       → w.client ≡ Some c → v.client ≡ Some d → IsAtWork meaning r says object fits count d
-      → IsSameClient c d → object d.sheet.ending ≡ object c.sheet.ending
+      → IsSameSheet object c.sheet d.sheet
       → HasSpent (slice_index course.allotments c.sheet.who) d
       → IsSpent meaning r says object fits count course i w
       → IsSpent meaning r says object fits count course i v
-  settled_spent course i w v c d was is work same judges spent h =
+  settled_spent course i w v c d was is work same spent h =
       let before = spent_client meaning r says object fits count course i w c h was in
       record {
         client = d;
@@ -135,7 +134,7 @@ module _ {P T E : Type 0} (meaning : P → ℕ → ℕ → Meaning) (r : Rows P)
           who = same.who ∙ before.2;
           operations = same.operations ∙ before.0.operations
               ∙ ap (λ (k : ℕ). operations_at course.operations k) before.2;
-          judges = judges ∙ before.0.judges;
+          judges = same.judges ∙ before.0.judges;
         };
         spent = subst (λ (k : ℕ). HasSpent (slice_index course.allotments k) d) before.2 spent;
       }

@@ -24,10 +24,10 @@ use Rattle.client_calls.specs.declared.stand.CallerState.TheVariants.{Idle}
 use Rattle.client_calls.specs.Asking.{Fits, PassCount, FitsCaller}
 use Rattle.client_calls.specs.Course.{HasCome, HasTold, HasAskedFor, HasCounted, Counts}
 use Rattle.client_calls.proofs.Told.{if_some_as}
+use Rattle.client_calls.specs.Clients.{Says}
 use Rattle.client_calls.specs.Keeping.{KeepsStanding}
 use Rattle.client_calls.specs.declared.sheet.Sheet.{Sheet}
 use Rattle.client_calls.specs.declared.client.Client.{Client}
-use Rattle.run_report.specs.Work.{Says}
 use Rattle.run_report.specs.Starts.{run_allotments, course_of, HaveCapacityFor, IsFresh, IsUnused, MayBegin, HoldsBelow, IsCapacityFor, IsNewCount, IsFreshPass, IsStart}
 
 -- a caller without calls has made no phase

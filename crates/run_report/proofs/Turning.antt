@@ -18,9 +18,9 @@ use Rattle.client_calls.specs.declared.stand.CallerState.TheVariants.{Idle, Anno
 use Rattle.client_calls.specs.declared.client.Client.{Client}
 use Rattle.client_calls.specs.Asking.{Fits, PassCount}
 use Rattle.client_calls.specs.Stands.{GoesOnFrom}
-use Rattle.client_calls.specs.Clients.{phases_by, HasSpent, IsSameClient}
+use Rattle.client_calls.specs.Clients.{phases_by, HasSpent, Says, IsAtWork}
+use Rattle.client_calls.specs.Keeping.{IsSameSheet}
 use Rattle.client_calls.proofs.Spending.{spent_by, spent_exact, spent_more}
-use Rattle.run_report.specs.Work.{Says, IsAtWork}
 use Rattle.run_report.specs.Starts.{run_allotments, replay_allotments, RunCourse, course_of, IsStart}
 use Rattle.run_report.specs.Returns.{IsSpent}
 use Rattle.run_report.specs.Turns.{IsTurned, IsTurning}
@@ -95,20 +95,19 @@ module _ {P T E : Type 0} (meaning : P → ℕ → ℕ → Meaning) (r : Rows P)
   -- a turn at which a phase is made is one turn more
   pub phase_turned : (i turns : ℕ) (w d : Worker P T E) (before after : Client P T E)
       → w.client ≡ Some before → d.client ≡ Some after
-      → IsAtWork meaning r says object fits count after → IsSameClient before after
-      → object after.sheet.ending ≡ object before.sheet.ending
+      → IsAtWork meaning r says object fits count after
+      → IsSameSheet object before.sheet after.sheet
       → GoesOnFrom before.stand → phases_by after ≡ phases_by before + 1
       → w.allotment ≡ d.allotment + 1 → Turned i turns w → Turned i (turns + 1) d
-  phase_turned i turns w d before after was is work same judges goes phase fewer h =
+  phase_turned i turns w d before after was is work same goes phase fewer h =
       let a = slice_index course.allotments i in
-      let f : IsSameClient h.client after
-      × (object after.sheet.ending ≡ object h.client.sheet.ending) × GoesOnFrom h.client.stand
+      let f : IsSameSheet object h.client.sheet after.sheet × GoesOnFrom h.client.stand
       × (phases_by after ≡ phases_by h.client + 1) =
-      subst (λ (c : Client P T E). IsSameClient c after × (object after.sheet.ending
-      ≡ object c.sheet.ending) × GoesOnFrom c.stand × (phases_by after ≡ phases_by c + 1))
-      (same_Some before h.client (sym was ∙ h.here)) (same, judges, goes, phase) in
+      subst (λ (c : Client P T E). IsSameSheet object c.sheet after.sheet × GoesOnFrom c.stand
+      × (phases_by after ≡ phases_by c + 1))
+      (same_Some before h.client (sym was ∙ h.here)) (same, goes, phase) in
       let made =
-      spent_exact (min a turns) (length h.client.sheet.lines.items) h.client.stand f.2 h.spent in
+      spent_exact (min a turns) (length h.client.sheet.lines.items) h.client.stand f.1 h.spent in
       record {
         client = after;
         here = is;
@@ -116,11 +115,11 @@ module _ {P T E : Type 0} (meaning : P → ℕ → ℕ → Meaning) (r : Rows P)
           work = work;
           who = f.0.who ∙ h.of.who;
           operations = f.0.operations ∙ h.of.operations;
-          judges = f.1 ∙ h.of.judges;
+          judges = f.0.judges ∙ h.of.judges;
         };
         spent = spent_by (min a (turns + 1)) (length after.sheet.lines.items) after.stand
-            (omega (arith, made, h.left f.2, f.3, fewer));
-        left = λ goes. omega (arith, h.left f.2, f.3, fewer);
+            (omega (arith, made, h.left f.1, f.2, fewer));
+        left = λ goes. omega (arith, h.left f.1, f.2, fewer);
         within = omega (arith, h.within, ap (λ (o : List ℕ). length o) f.0.operations);
       }
 

@@ -16,7 +16,7 @@ use Rattle.row_table.specs.Seats.{View, has, the}
 use Rattle.row_table.specs.declared.rows.Rows.{Rows}
 use Rattle.row_table.specs.declared.bench.Bench.{Bench}
 use Rattle.row_table.specs.declared.stance.Stance.{Stance}
-use Rattle.row_table.specs.Callers.{shape_of, locals_on, IsBenchOf, HoldsAll}
+use Rattle.row_table.specs.Callers.{shape_of, locals_on, IsBenchOf}
 use Rattle.reports.specs.Findings.{Findings}
 use Rattle.client_calls.specs.Asking.{Fits, PassCount, fits_own, own_count}
 use Rattle.client_calls.specs.Ends.{SaysJudged}
@@ -28,7 +28,7 @@ use Rattle.run_report.specs.Places.{AreInOrder}
 use Rattle.run_report.specs.Starts.{RunCourse, MayBegin, AreFreshPasses}
 use Rattle.client_scripts.specs.Plans.{Plan}
 use Rattle.run_report.specs.Passes.{IsOwnPass, IsUnusedPass, AreUnusedPasses}
-use Rattle.run_report.specs.Returns.{IsCountOf, IsBack, AreBack, IsBackOn}
+use Rattle.run_report.specs.Returns.{IsCountOf, IsBack, AreBack, IsBackOn, HaveReturned, HaveReturnedOutside}
 
 -- the local that a view has of a caller is at this caller's place among the view's locals
 pub the_local : (v : View) (i : ℕ) (l : Local) → has v i ≡ Some l
@@ -121,17 +121,22 @@ module _ {P T : Type 0} (meaning : P → ℕ → ℕ → Meaning) (r : Rows P) (
             (subst (λ (cs : List Made). IfSome c.told (IsTold h.on.phases cs)) calls k.told_is);
       }) h.on.back.counts)
 
--- a bench of rows that have just these callers holds all of them once they are back
-pub all_held : {P T : Type 0} (meaning : P → ℕ → ℕ → Meaning) (r : Rows P) (fit : Fits T)
+-- a run over rows that have just a plan's callers has come back once these are on their bench
+pub have_returned : {P T : Type 0} (meaning : P → ℕ → ℕ → Meaning) (r : Rows P) (fit : Fits T)
     (count : T → Option PassCount) (plan : Plan) (allotments : List ℕ) (first b : Bench P)
     (passes : List T)
-    → MayBegin meaning plan 0 r first → IsBenchOf meaning r b → ((i : ℕ) → i
-    < length plan.operations → IsBackOn meaning r fit count plan.operations allotments b passes i)
-    → IsBenchOf meaning r b × HoldsAll b
-all_held meaning r fit count plan allotments first b passes begins of back = (
-  of,
-  λ i low. let h = back i (omega (arith, low, of.callers, begins.callers)) in (h.local, h.here),
-)
+    → MayBegin meaning plan 0 r first → IsBenchOf meaning r b
+    → length passes ≡ length plan.operations → ((i : ℕ) → i < length plan.operations
+    → IsBackOn meaning r fit count plan.operations allotments b passes i)
+    → HaveReturned meaning r fit count plan allotments b passes
+have_returned meaning r fit count plan allotments first b passes begins of all back = record {
+  bench = (
+    of,
+    λ i low. let h = back i (omega (arith, low, of.callers, begins.callers)) in (h.local, h.here),
+  );
+  all_passes = all;
+  back = back;
+}
 
 -- where as many pairs are told as calls were made, and none was made, none are told
 none_told : (told : Option (List (ℕ × ℕ)))
@@ -171,21 +176,23 @@ unused_own is_own caller made cap operations passes unused i pass there =
     let h = unused i pass there in
     record { own = h.own; of = h.of }
 
--- each pass that is back is the object's own
-pub own_passes : {P T : Type 0} (meaning : P → ℕ → ℕ → Meaning) (r : Rows P) (is_own : T → Type 0)
-    (caller made cap : T → ℕ) (told : T → Option (List (ℕ × ℕ))) (operations : List (List ℕ))
-    (allotments : List ℕ) (b : Bench P) (n : ℕ) (passes : List T)
-    → length passes ≡ n → ((i : ℕ) → i < n → IsBackOn meaning r (fits_own is_own caller)
-    (own_count made cap told) operations allotments b passes i)
-    → AreInOrder (IsOwnPass is_own caller) passes
-own_passes meaning r is_own caller made cap told operations allotments b n passes long back i
-    pass there =
-    let h = back i (omega (arith, long, slice_get_within passes i pass there)) in
-    let mine : h.pass ≡ pass = same_Some h.pass pass (sym h.pass_here ∙ there) in
-    record {
-      own = subst is_own mine h.back.fits_caller.0;
-      of = subst (λ (p : _). caller p ≡ i) mine h.back.fits_caller.1;
-    }
+-- each pass of an object outside the world that is back is the object's own
+pub returned_outside : {P T : Type 0} (meaning : P → ℕ → ℕ → Meaning) (r : Rows P)
+    (is_own : T → Type 0) (caller made cap : T → ℕ) (told : T → Option (List (ℕ × ℕ))) (plan : Plan)
+    (allotments : List ℕ) (b : Bench P) (passes : List T)
+    → HaveReturned meaning r (fits_own is_own caller) (own_count made cap told) plan allotments b
+    passes
+    → HaveReturnedOutside meaning r is_own caller made cap told plan allotments b passes
+returned_outside meaning r is_own caller made cap told plan allotments b passes run = record {
+  run = run;
+  own = λ i pass there.
+      let h = run.back i (omega (arith, run.all_passes, slice_get_within passes i pass there)) in
+      let mine : h.pass ≡ pass = same_Some h.pass pass (sym h.pass_here ∙ there) in
+      record {
+        own = subst is_own mine h.back.fits_caller.0;
+        of = subst (λ (p : _). caller p ≡ i) mine h.back.fits_caller.1;
+      };
+}
 
 pub if_ok_as : {X E : Type 0} (result : Result X E) (A B : X → Type 0) → ((x : X) → A x → B x)
     → IfOk result A → IfOk result B

@@ -1,8 +1,8 @@
 pub mod Places
 pub mod Work
 pub mod Starts
+pub mod Passes
 pub mod Returns
 pub mod Turns
-pub mod Passes
 pub mod Reporting
 pub mod Replies

@@ -1,8 +1,8 @@
 -- The report of the callers of a plan, by the locals that they leave.
-use Rattle.std.specs.Prelude.{◌≡◌, ℕ, ◌%◌, ◌<◌, false, List, Option, Some, IfSome, map, slice_index}
+use Rattle.std.specs.Prelude.{◌≡◌, ℕ, ◌%◌, ◌<◌, false, List, Option, Some, IfSome, length, map, slice_index}
 use Rattle.book_base.specs.declared.TheConstants.{MAX_CALLS}
 use Rattle.book_base.specs.SeqSpec.{SeqSpec}
-use Rattle.world_core.specs.Shape.{Shape}
+use Rattle.world_core.specs.Shape.{Meaning, Shape}
 use Rattle.world_core.specs.Programs.{outside}
 use Rattle.world_core.specs.Local.{Local}
 use Rattle.world_core.specs.Calls.{AreTogether, local_at}
@@ -10,13 +10,15 @@ use Rattle.report_lines.specs.Lines.{made_of, lines_at, any_error, AreLinesOf}
 use Rattle.report_lines.specs.Phases.{HasMade, IsTold, asked}
 use Rattle.report_lines.specs.Allotments.{operations_at, phases_of}
 use Rattle.report_lines.specs.Lawful.{IsLawful}
+use Rattle.row_table.specs.declared.rows.Rows.{Rows}
 use Rattle.row_table.specs.declared.bench.Bench.{Bench}
 use Rattle.row_table.specs.Benches.{fresh_stance}
-use Rattle.row_table.specs.Callers.{stance_on}
+use Rattle.row_table.specs.Callers.{shape_of, locals_on, stance_on}
 use Rattle.client_scripts.specs.Plans.{Plan}
 use Rattle.client_calls.specs.Asking.{PassCount}
 use Rattle.client_calls.specs.Finishing.{KeepsAsked}
 use Rattle.reports.specs.Findings.{Findings}
+use Rattle.run_report.specs.Places.{AreInOrder}
 
 -- The shape of the world of n callers with the greatest cap, whose object is outside the world.
 abbrev pub outside_shape : ℕ → Shape
@@ -65,3 +67,17 @@ IsCountIn = IsToldIn (λ (count : PassCount). count.made) (λ (count : PassCount
 -- by the caller's lines, and tells, where it tells calls, an operation and a reply for each.
 abbrev pub IsCountedIn : {T : Type 0} → (T → Option PassCount) → List ℕ → Findings → ℕ → T → Type 0
 IsCountedIn count allotments findings i pass = IfSome (count pass) (IsCountIn allotments findings i)
+
+-- The report that a run of a plan's callers answers, with this bench and these passes.
+pub record IsRunReport {P T : Type 0} (spec : SeqSpec) (meaning : P → ℕ → ℕ → Meaning) (r : Rows P)
+    (count : T → Option PassCount) (plan : Plan) (allotments : List ℕ) (b : Bench P)
+    (passes : List T) (findings : Findings) : Type 0 where
+  -- It is of the plan's kind and lawful. Its lines are those of the locals on the bench, which are
+  -- of one reachable world, and each caller has made just the phases that its lines determine.
+  pub report : IsReportOf spec (shape_of meaning r) (locals_on b) plan allotments findings
+  -- Each caller that has no error line and by its lines stopped between two calls, or made all of
+  -- them, is free for its next call.
+  pub free : (i : ℕ) → i < length plan.operations → IsFreeAgain b allotments findings i
+  -- A pass that counts calls counts exactly those that the object was asked for by its caller's
+  -- lines. Where it tells calls, it tells an operation and a reply for each of them.
+  pub counted : AreInOrder (IsCountedIn count allotments findings) passes

@@ -1,5 +1,5 @@
 -- What callers that are back on their bench leave.
-use Rattle.std.specs.Prelude.{◌≡◌, ℕ, ◌%◌, ◌<◌, ◌≤◌, Bool, false, List, Option, Some, None, IfSome, slice_get, slice_index}
+use Rattle.std.specs.Prelude.{◌≡◌, ℕ, ◌%◌, ◌<◌, ◌≤◌, Bool, false, List, Option, Some, None, IfSome, length, slice_get, slice_index}
 use Rattle.book_base.specs.SeqSpec.{SeqSpec}
 use Rattle.world_core.specs.Shape.{Meaning, Shape}
 use Rattle.world_core.specs.Local.{Local}
@@ -13,13 +13,15 @@ use Rattle.row_table.specs.declared.rows.Rows.{Rows}
 use Rattle.row_table.specs.declared.bench.Bench.{Bench}
 use Rattle.row_table.specs.declared.stance.Stance.{Stance}
 use Rattle.row_table.specs.Benches.{fresh_stance}
-use Rattle.row_table.specs.Callers.{shape_of, on_bench, stance_on}
-use Rattle.client_calls.specs.Asking.{Fits, PassCount}
+use Rattle.row_table.specs.Callers.{shape_of, on_bench, stance_on, IsBenchOf, HoldsAll}
+use Rattle.client_scripts.specs.Plans.{Plan}
+use Rattle.client_calls.specs.Asking.{Fits, PassCount, fits_own, own_count}
 use Rattle.client_calls.specs.Ends.{HasLeftAt}
 use Rattle.client_calls.specs.Finishing.{KeepsAsked, IsLeftStanding}
-use Rattle.client_calls.specs.Clients.{HasSpent}
+use Rattle.client_calls.specs.Clients.{HasSpent, Says}
 use Rattle.client_calls.specs.declared.client.Client.{Client}
-use Rattle.run_report.specs.Work.{Says}
+use Rattle.run_report.specs.Places.{AreInOrder}
+use Rattle.run_report.specs.Passes.{IsOwnPass}
 use Rattle.run_report.specs.Starts.{RunCourse, IsClientOf}
 use Rattle.run_report.specs.declared.worker.Worker.{Worker}
 
@@ -86,6 +88,29 @@ module _ {P T : Type 0} where
     pub pass_here : slice_get passes i ≡ Some pass
     pub back : IsBackWith (shape_of meaning r) fits count operations allotments i phases local pass
     pub stands : StandsAgain b i phases local
+
+  -- A run of a plan's callers has come back, whatever its answer, with this bench and these passes.
+  pub record HaveReturned (meaning : P → ℕ → ℕ → Meaning) (r : Rows P) (fits : Fits T)
+      (count : T → Option PassCount) (plan : Plan) (allotments : List ℕ) (b : Bench P)
+      (passes : List T) : Type 0 where
+    -- The bench is a bench of these rows, and holds each of their callers.
+    pub bench : IsBenchOf meaning r b × HoldsAll b
+    -- There is one pass for each caller of the plan.
+    pub all_passes : length passes ≡ length plan.operations
+    -- Each caller of the plan is back on the bench with its pass, which fits it, and has made a
+    -- prefix of its phases: at most as many as its allotment. A pass that counts calls counts those
+    -- that the object was asked for.
+    pub back : (i : ℕ) → i < length plan.operations
+        → IsBackOn meaning r fits count plan.operations allotments b passes i
+
+  -- A run over an object outside the world has come back, with this bench and these passes.
+  pub record HaveReturnedOutside (meaning : P → ℕ → ℕ → Meaning) (r : Rows P) (is_own : T → Type 0)
+      (caller made cap : T → ℕ) (told : T → Option (List (ℕ × ℕ))) (plan : Plan)
+      (allotments : List ℕ) (b : Bench P) (passes : List T) : Type 0 where
+    pub run : HaveReturned meaning r (fits_own is_own caller) (own_count made cap told) plan
+        allotments b passes
+    -- Each pass is one of the object's own, and pass i is that of caller i.
+    pub own : AreInOrder (IsOwnPass is_own caller) passes
 
   -- Caller i is back on the bench with its pass, and item i of `lines` has its lines. Where no line
   -- is an error and it stopped between two calls, or made all of them, it is free for its next

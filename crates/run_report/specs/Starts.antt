@@ -14,10 +14,9 @@ use Rattle.client_scripts.specs.Plans.{Plan}
 use Rattle.reports.specs.declared.report.Own.{Own}
 use Rattle.client_calls.specs.Asking.{Fits, PassCount}
 use Rattle.client_calls.specs.Stands.{GoesOnFrom}
-use Rattle.client_calls.specs.Clients.{phases_by}
+use Rattle.client_calls.specs.Clients.{phases_by, Says, IsAtWork}
 use Rattle.client_calls.specs.declared.client.Client.{Client}
 use Rattle.run_report.specs.Places.{AreInOrder}
-use Rattle.run_report.specs.Work.{Says, IsAtWork}
 use Rattle.run_report.specs.declared.worker.Worker.{Worker}
 use Rattle.run_report.specs.declared.pace.Pace.{Pace}
 use Rattle.run_report.specs.declared.pace.Pace.TheVariants.{Alone, ByTurns}
@@ -83,6 +82,15 @@ module _ {P : Type 0} where
     pub starts : MayStart meaning plan r b
     pub callers : r.callers ≡ length plan.operations + beside
     pub others : (i : ℕ) → length plan.operations ≤ i → i < r.callers → IsUnused b i
+
+  -- A whole run of a plan may begin, with passes that are as `Are` says of the plan's operations.
+  pub record MayRun {T : Type 0} (meaning : P → ℕ → ℕ → Meaning) (r : Rows P)
+      (Are : List (List ℕ) → List T → Type 0) (plan : Plan) (beside : ℕ) (b : Bench P)
+      (passes : List T) : Type 0 where
+    pub begins : MayBegin meaning plan beside r b
+    -- There is a pass for each caller of the plan, in order. No call was made with it, and one may
+    -- be made for each operation of its caller.
+    pub passes_for : Are plan.operations passes
 
   -- Of each caller from caller n on, the two benches have the same local and the same stance, or
   -- neither bench has any.

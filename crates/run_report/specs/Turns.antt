@@ -5,9 +5,8 @@ use Rattle.world_core.specs.Shape.{Meaning}
 use Rattle.row_table.specs.declared.rows.Rows.{Rows}
 use Rattle.client_calls.specs.Asking.{Fits, PassCount}
 use Rattle.client_calls.specs.Stands.{GoesOnFrom}
-use Rattle.client_calls.specs.Clients.{phases_by, HasSpent}
+use Rattle.client_calls.specs.Clients.{phases_by, HasSpent, Says, IsAtWork}
 use Rattle.client_calls.specs.declared.client.Client.{Client}
-use Rattle.run_report.specs.Work.{Says, IsAtWork}
 use Rattle.run_report.specs.Starts.{RunCourse, IsClientOf}
 use Rattle.run_report.specs.declared.worker.Worker.{Worker}
 

@@ -3,7 +3,7 @@ ghost use Rattle.report_lines.specs.declared.line.Line.{Line};
 ghost use Rattle.row_table.specs.Callers.{IsBenchOf, on_bench, stance_on};
 ghost use Rattle.client_calls.specs.Clients.{HasSpent};
 ghost use Rattle.reports.specs.ReportLayout.{lines_in};
-ghost use Rattle.run_report.specs.Places.{AreDownFrom};
+ghost use Rattle.run_report.specs.Places.{AreAllDown};
 ghost use Rattle.run_report.specs.Starts.{allotments_by, course_of, IsClientOf, AreAlikeFrom};
 ghost use Rattle.run_report.specs.Returns.{IsSpent, IsBackOn, IsBack, AreBack};
 
@@ -82,12 +82,10 @@ pub fn end_all<'a, P: Program, T, E: Ending + Drop, A: Asks<Program = P, Pass = 
     bench: &mut Bench<P>,
     passes: &mut Vec<T>,
 ) -> Result<Vec<Own>, NoMemory>
-    // There is one worker for each caller of the script.
-    requires all { vec_len workers ≡ length script.now.operations }
-    // The workers are those of the script's callers, the last caller's first. Each has its client,
-    // with the operations of its caller and the allotment at this pace, and the client has made all
-    // phases of its allotment or was halted within it.
-    requires workers { AreDownFrom (length script.now.operations)
+    // There is one worker for each caller of the script, the last caller's first. Each has its
+    // client, with the operations of its caller and the allotment at this pace, and the client has
+    // made all phases of its allotment or was halted within it.
+    requires workers { AreAllDown (length script.now.operations)
         (IsSpent P.meaning shared.now.rows.now E.says E.object (A.fits shared.now.asks.now) A.count
         (course_of script.now (allotments_by pace script.now) (E.object ending.now)))
         workers.items }

@@ -1,13 +1,12 @@
-ghost use Rattle.std.specs.Prelude.{◌≡◌, ℕ, ◌<◌, ◌^◌, false, length, vec_len};
+ghost use Rattle.std.specs.Prelude.{◌≡◌, ◌<◌, ◌^◌, false, length, vec_len};
 ghost use Rattle.std.specs.List.{All};
-ghost use Rattle.row_table.specs.Callers.{shape_of, locals_on, IsBenchOf};
+ghost use Rattle.row_table.specs.Callers.{IsBenchOf};
 ghost use Rattle.client_calls.specs.Ends.{SaysJudged};
 ghost use Rattle.reports.specs.ReportLayout.{lines_in};
-ghost use Rattle.run_report.specs.Places.{AreInOrder};
 ghost use Rattle.run_report.specs.Starts.{allotments_by, course_of};
 ghost use Rattle.run_report.specs.Returns.{AreBack};
 ghost use Rattle.run_report.specs.Replies.{HasWord};
-ghost use Rattle.run_report.specs.Reporting.{IsReportOf, IsFreeAgain, IsCountedIn};
+ghost use Rattle.run_report.specs.Reporting.{IsRunReport};
 
 use crate::Pace;
 use client_calls::{Asks, Shared};
@@ -74,12 +73,8 @@ pub(crate) fn report_of<P: Program, T, S: SearchHints, A: Asks<Program = P, Pass
         A.count (length script.now.operations) (length script.now.operations)
         (course_of script.now (allotments_by _pace script.now) (S.spec _sequential.now)) _bench.now
         _passes.now.items (lines_in lines.items) false }
-    ensures report { IsReportOf (S.spec _sequential.now) (shape_of P.meaning _shared.now.rows.now)
-        (locals_on _bench.now) script.now (allotments_by _pace script.now) result }
-    ensures free { (i : ℕ) → i < length script.now.operations
-        → IsFreeAgain _bench.now (allotments_by _pace script.now) result i }
-    ensures counted { AreInOrder (IsCountedIn A.count (allotments_by _pace script.now) result)
-        _passes.now.items }
+    ensures { IsRunReport (S.spec _sequential.now) P.meaning _shared.now.rows.now A.count script.now
+        (allotments_by _pace script.now) _bench.now _passes.now.items result }
 {
     let _callers = script.callers();
     read_replies(&lines);

@@ -2,12 +2,12 @@
 
 ghost use Rattle.std.specs.Prelude.{◌≡◌, ℕ, ◌+◌, ◌*◌, ◌<◌, ◌≤◌, true, is_some, length, slice_index};
 ghost use Rattle.report_lines.specs.Allotments.{operations_at, turns_of};
-ghost use Rattle.client_calls.specs.Clients.{phases_by, HasSpent, IsSameClient};
+ghost use Rattle.client_calls.specs.Clients.{phases_by, HasSpent, IsAtWork};
+ghost use Rattle.client_calls.specs.Keeping.{IsSameSheet};
 ghost use Rattle.client_calls.specs.Finishing.{is_unjudged};
-ghost use Rattle.run_report.specs.Places.{AreDownFrom, AreInOrder};
+ghost use Rattle.run_report.specs.Places.{AreAllDown, AreInOrder};
 ghost use Rattle.run_report.specs.Starts.{RunCourse, allotments_by, course_of};
 ghost use Rattle.run_report.specs.Returns.{IsSpent, KeepsNothing};
-ghost use Rattle.run_report.specs.Work.{IsAtWork};
 
 use crate::pace::Pace;
 use crate::start::allotment_of;
@@ -100,13 +100,11 @@ fn release_all<'a, P: Program, T, E: Ending, A: Asks<Program = P, Pass = T>>(
     _pace: Pace,
     workers: &mut Vec<Worker<'a, P, T, E>>,
 )
-    requires all { length workers.old.items ≡ length _script.now.operations }
-    requires workers { AreDownFrom (length _script.now.operations)
+    requires workers { AreAllDown (length _script.now.operations)
         (IsSpent P.meaning shared.now.rows.now E.says E.object (A.fits shared.now.asks.now) A.count
         (course_of _script.now (allotments_by _pace _script.now) (E.object _ending.now)))
         workers.old.items }
-    ensures all { length workers.new.items ≡ length _script.now.operations }
-    ensures workers { AreDownFrom (length _script.now.operations)
+    ensures workers { AreAllDown (length _script.now.operations)
         (IsSpent P.meaning shared.now.rows.now E.says E.object (A.fits shared.now.asks.now) A.count
         (course_of _script.now (allotments_by _pace _script.now) (E.object _ending.now)))
         workers.new.items }
@@ -128,14 +126,12 @@ fn settle_at<'a, P: Program, T, E: Ending, A: Asks<Program = P, Pass = T>>(
 )
     requires serves { A.serves shared.now.asks.now shared.now.rows.now }
     requires place { place < length workers.old.items }
-    requires all { length workers.old.items ≡ length script.now.operations }
-    requires workers { AreDownFrom (length script.now.operations)
+    requires workers { AreAllDown (length script.now.operations)
         (IsSpent P.meaning shared.now.rows.now E.says E.object (A.fits shared.now.asks.now) A.count
         (course_of script.now (allotments_by pace script.now) (E.object ending.now)))
         workers.old.items }
     requires free { AreInOrder (λ _ w. KeepsNothing w) workers.old.items }
-    ensures all { length workers.new.items ≡ length script.now.operations }
-    ensures workers { AreDownFrom (length script.now.operations)
+    ensures workers { AreAllDown (length script.now.operations)
         (IsSpent P.meaning shared.now.rows.now E.says E.object (A.fits shared.now.asks.now) A.count
         (course_of script.now (allotments_by pace script.now) (E.object ending.now)))
         workers.new.items }
@@ -169,8 +165,7 @@ fn settle_counted<'a, P: Program, T, E: Ending, A: Asks<Program = P, Pass = T>, 
     requires within { allotment ≤ 5 * length client.sheet.operations.now }
     ensures work { IsAtWork P.meaning shared.now.rows.now E.says E.object
         (A.fits shared.now.asks.now) A.count result }
-    ensures same { IsSameClient client.entry result }
-    ensures object { E.object result.sheet.ending ≡ E.object client.entry.sheet.ending }
+    ensures same { IsSameSheet E.object client.entry.sheet result.sheet }
     ensures spent { HasSpent allotment result }
 {
     let mut steps = Steps::<L>::new(blank);
@@ -205,20 +200,16 @@ pub fn settle_all<'a, P: Program, T, E: Ending, A: Asks<Program = P, Pass = T>>(
 )
     // The callers of the shared rows may ask the object.
     requires serves { A.serves shared.now.asks.now shared.now.rows.now }
-    // There is one worker for each caller of the script.
-    requires all { length workers.old.items ≡ length script.now.operations }
-    // The workers are those of the script's callers, the last caller's first. Each has its client,
-    // with the operations of its caller and the allotment at this pace, and the client has made all
-    // phases of its allotment or was halted within it.
-    requires workers { AreDownFrom (length script.now.operations)
+    // There is one worker for each caller of the script, the last caller's first. Each has its
+    // client, with the operations of its caller and the allotment at this pace, and the client has
+    // made all phases of its allotment or was halted within it.
+    requires workers { AreAllDown (length script.now.operations)
         (IsSpent P.meaning shared.now.rows.now E.says E.object (A.fits shared.now.asks.now) A.count
         (course_of script.now (allotments_by pace script.now) (E.object ending.now)))
         workers.old.items }
-    // There is still one worker for each caller of the script.
-    ensures all { length workers.new.items ≡ length script.now.operations }
-    // The workers are still those of the script's callers, the last caller's first. Each still has
-    // its client, which has made all phases of its allotment or was halted within it.
-    ensures workers { AreDownFrom (length script.now.operations)
+    // There is still one worker for each caller of the script, the last caller's first. Each still
+    // has its client, which has made all phases of its allotment or was halted within it.
+    ensures workers { AreAllDown (length script.now.operations)
         (IsSpent P.meaning shared.now.rows.now E.says E.object (A.fits shared.now.asks.now) A.count
         (course_of script.now (allotments_by pace script.now) (E.object ending.now)))
         workers.new.items }

@@ -3,7 +3,7 @@ ghost use Rattle.row_table.specs.Callers.{IsBenchOf, IsCallerOf, who_of, on_benc
 ghost use Rattle.report_lines.specs.Allotments.{operations_at};
 ghost use Rattle.text_fields.specs.declared.version.Version.TheVariants.{Second};
 ghost use Rattle.client_scripts.specs.Plans.{IsPlan};
-ghost use Rattle.run_report.specs.Places.{AreDownFrom, AreInOrder};
+ghost use Rattle.run_report.specs.Places.{AreAllDown, AreInOrder};
 ghost use Rattle.run_report.specs.Starts.{run_allotments, course_of, HaveCapacityFor, MayStart, AreAlikeFrom, IsFresh, IsCapacityFor, IsFreshPass, AreFreshPasses, IsStart};
 
 use crate::worker::Worker;
@@ -134,12 +134,10 @@ pub fn start_all<'a, P: Program, T, E: Ending, A: Asks<Program = P, Pass = T>>(
         ((i : ℕ) → i < length script.now.operations → on_bench bench.new i ≡ None) }
     // Where workers are answered, no pass is left in the list.
     ensures no_passes { OnOk result (passes.new.items ≡ []) }
-    // There is one worker for each caller of the script.
-    ensures all { IfOk result (λ r. vec_len r.0 ≡ length script.now.operations) }
-    // The workers are those of the script's callers, the last caller's first. Each has its client,
-    // before its first phase, with the operations of its caller and an allotment of all its phases,
-    // up to its stop where it has one.
-    ensures workers { IfOk result (λ r. AreDownFrom (length script.now.operations)
+    // There is one worker for each caller of the script, the last caller's first. Each has its
+    // client, before its first phase, with the operations of its caller and an allotment of all its
+    // phases, up to its stop where it has one.
+    ensures workers { IfOk result (λ r. AreAllDown (length script.now.operations)
         (IsStart P.meaning shared.now.rows.now E.says E.object (A.fits shared.now.asks.now) A.count
         (course_of script.now (run_allotments script.now) (E.object ending.now))) r.0.items) }
     // The answered list of lines is empty.

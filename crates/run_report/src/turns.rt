@@ -1,5 +1,5 @@
 ghost use Rattle.std.specs.Prelude.{◌≡◌, ◌+◌, ℕ, ◌<◌, length};
-ghost use Rattle.run_report.specs.Places.{AreDownFrom};
+ghost use Rattle.run_report.specs.Places.{AreAllDown};
 ghost use Rattle.run_report.specs.Starts.{run_allotments, replay_allotments, RunCourse, course_of, IsStart};
 ghost use Rattle.run_report.specs.Returns.{IsSpent};
 ghost use Rattle.run_report.specs.Turns.{IsTurned, IsTurning};
@@ -59,21 +59,17 @@ pub fn take_turns<'a, P: Program, T, E: Ending, A: Asks<Program = P, Pass = T>, 
     requires blank { (blank.name ≡ L.name) × (blank.parts ≡ L.parts) × (0 < blank.parts) }
     // The callers of the shared rows may ask the object.
     requires serves { A.serves shared.now.asks.now shared.now.rows.now }
-    // There is one worker for each caller of the script.
-    requires all { length workers.old.items ≡ length script.now.operations }
-    // The workers are those of the script's callers, the last caller's first. Each has its client,
-    // before its first phase, with the operations of its caller and an allotment of all its phases,
-    // up to its stop where it has one.
-    requires workers { AreDownFrom (length script.now.operations)
+    // There is one worker for each caller of the script, the last caller's first. Each has its
+    // client, before its first phase, with the operations of its caller and an allotment of all its
+    // phases, up to its stop where it has one.
+    requires workers { AreAllDown (length script.now.operations)
         (IsStart P.meaning shared.now.rows.now E.says E.object (A.fits shared.now.asks.now) A.count
         (course_of script.now (run_allotments script.now) (E.object _ending.now)))
         workers.old.items }
-    // There is still one worker for each caller of the script.
-    ensures all { length workers.new.items ≡ length script.now.operations }
-    // The workers are still those of the script's callers, the last caller's first. The client of
-    // each has made a phase for each turn that names its caller, up to its stop or the end of its
-    // calls, or was halted before.
-    ensures workers { AreDownFrom (length script.now.operations)
+    // There is still one worker for each caller of the script, the last caller's first. The client
+    // of each has made a phase for each turn that names its caller, up to its stop or the end of
+    // its calls, or was halted before.
+    ensures workers { AreAllDown (length script.now.operations)
         (IsSpent P.meaning shared.now.rows.now E.says E.object (A.fits shared.now.asks.now) A.count
         (course_of script.now (replay_allotments script.now) (E.object _ending.now)))
         workers.new.items }

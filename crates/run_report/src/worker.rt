@@ -1,8 +1,9 @@
 ghost use Rattle.std.specs.Prelude.{◌≡◌, ◌+◌, ◌*◌, ◌<◌, ◌≤◌, length};
 ghost use Rattle.std.specs.List.{All, AllZip};
 ghost use Rattle.client_calls.specs.Stands.{GoesOnFrom};
-ghost use Rattle.client_calls.specs.Clients.{phases_by, HasSpent, IsSameClient};
-ghost use Rattle.run_report.specs.Work.{IsAtWork, IsReady, HasRun};
+ghost use Rattle.client_calls.specs.Clients.{phases_by, HasSpent, IsAtWork};
+ghost use Rattle.client_calls.specs.Keeping.{IsSameSheet};
+ghost use Rattle.run_report.specs.Work.{IsReady, HasRun};
 
 use client_calls::{Asks, Client, Ending, Shared};
 use row_table::Steps;
@@ -35,8 +36,7 @@ fn run_counted<'a, P: Program, T, E: Ending, A: Asks<Program = P, Pass = T>, L: 
     requires left { phases_by client + count ≤ 5 * length client.sheet.operations.now }
     ensures work { IsAtWork P.meaning shared.now.rows.now E.says E.object
         (A.fits shared.now.asks.now) A.count result }
-    ensures same { IsSameClient client.entry result }
-    ensures object { E.object result.sheet.ending ≡ E.object client.entry.sheet.ending }
+    ensures same { IsSameSheet E.object client.entry.sheet result.sheet }
     ensures spent { HasSpent (phases_by client.entry + count) result }
 {
     let mut steps = Steps::<L>::new(blank);

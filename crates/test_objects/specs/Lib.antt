@@ -14,5 +14,4 @@ pub mod Invent
 pub mod Changes
 pub mod Names
 pub mod FaultyForms
-pub mod FaultyPasses
 pub mod FaultyTogether

@@ -1,16 +1,12 @@
--- Which passes belong to a tally, and which to a cell.
+-- Which passes belong to an object on shared words.
+use Rattle.std.specs.Prelude.{ℕ, List}
+use Rattle.shared_words.specs.declared.shared_words.SharedWords.{SharedWords}
 use Rattle.shared_words.specs.declared.words_pass.WordsPass.{WordsPass}
-use Rattle.shared_words.specs.Passes.{IsPassOf}
-use Rattle.test_objects.specs.declared.tally.Tally.{Tally}
-use Rattle.test_objects.specs.declared.word_cell.WordCell.{WordCell}
-use Rattle.test_objects.specs.Forms.{tally_may, cell_may, IsTallied, IsCellCall}
+use Rattle.shared_words.specs.Deeds.{Deed}
+use Rattle.shared_words.specs.Passes.{callers_of, cap_of, IsPassOf}
 
--- The pass belongs to this tally, and its calls are calls of a tally, made of just the deeds of its
--- caller.
-abbrev pub IsTallyPass : Tally → WordsPass → Type 0
-IsTallyPass t p = IsPassOf tally_may (λ _. IsTallied) t.word p
-
--- The pass belongs to this cell, and its calls are calls of a cell, made of just the deeds of its
--- caller.
-abbrev pub IsCellPass : WordCell → WordsPass → Type 0
-IsCellPass c p = IsPassOf cell_may (λ _. IsCellCall) c.word p
+-- The pass belongs to these words. Its calls are as `call` says, for the callers and the cap of the
+-- words, and are made of just the deeds of its caller.
+abbrev pub IsObjectPass : {U : Type 0} → (ℕ → Deed → Type 0)
+    → (ℕ → ℕ → ℕ → ℕ → ℕ → List Deed → List Deed → Type 0) → SharedWords U → WordsPass → Type 0
+IsObjectPass may call w p = IsPassOf may (call (callers_of w) (cap_of w)) w p

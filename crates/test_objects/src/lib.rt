@@ -21,6 +21,7 @@ mod split_tally;
 mod tally;
 mod twice;
 mod word_cell;
+mod word_object;
 
 pub use behaviour::Behaviour;
 pub use invent::Invent;
@@ -34,7 +35,8 @@ pub use one_pass::{OnePass, QueueDeeds};
 pub use plain::Plain;
 pub use scratch::Scratch;
 pub use shared_words::Entry;
-pub use split_tally::SplitTally;
+pub use split_tally::{SplitTally, TornIncrements};
 pub use tally::{Increments, Tally};
 pub use twice::Twice;
 pub use word_cell::{LoadsAndStores, WordCell};
+pub use word_object::{WordCalls, WordObject};

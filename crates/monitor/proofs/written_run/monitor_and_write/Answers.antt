@@ -1,15 +1,18 @@
 use Rattle.std.proofs.Common.{subst}
 use Rattle.seq_objects.specs.declared.kind.Kind.{Kind}
 use Rattle.seq_objects.specs.Objects.{kind_spec}
-use Rattle.row_table.specs.Callers.{locals_on}
-use Rattle.monitor.specs.Monitoring.{HaveMonitored}
+use Rattle.client_calls.specs.Asking.{own_count}
+use Rattle.monitor.specs.Monitoring.{HaveBeenWatched}
 use Rattle.monitor.proofs.AnswerLemmas.{ends_of_run, found_of_run, fine_of_run}
 use Rattle.monitor.proofs.written_run.monitor_and_write.Goals as goal
 
-pub returns-in-Ok-clause-rounds : goal.returns-in-Ok-clause-rounds
-returns-in-Ok-clause-rounds g c some =
-    subst (λ (kind : Kind). HaveMonitored (kind_spec kind) c.args.script.now c.args.bench.now
-    (locals_on c.monitor_over.new.bench)) c.kind.ensures c.in-Ok.ensures.rounds
+pub returns-in-Ok-clause-watched : goal.returns-in-Ok-clause-watched
+returns-in-Ok-clause-watched g c some =
+    let done = c.monitor_over in
+    let pass = g.B.Pass.ObjectPass in
+    subst (λ (kind : Kind). HaveBeenWatched (kind_spec kind)
+    (own_count pass.made pass.cap pass.told) c.args.script.now c.args.bench.now done.new.bench
+    done.new.passes.items) c.kind.ensures c.in-Ok.ensures.watched
 
 pub returns-in-Ok-clause-ends : goal.returns-in-Ok-clause-ends
 returns-in-Ok-clause-ends g c =

@@ -12,8 +12,11 @@ pub replay_and_write-status-requires-clause-begins :
     goal.replay_and_write-status-requires-clause-begins
 replay_and_write-status-requires-clause-begins g c =
     let opened = c.in-Ok.ensures in
-    may_begin _ c.args.script.now 0 _ 256 _ _ (omega (arith, c.callers.ensures.count))
-    c.callers.ensures.plan.calls opened.rows.0 opened.rows.1 opened.bench opened.fresh
+    record {
+      begins = may_begin _ c.args.script.now 0 _ 256 _ _ (omega (arith, c.callers.ensures.count))
+          c.callers.ensures.plan.calls opened.rows.0 opened.rows.1 opened.bench opened.fresh;
+      passes_for = c.requires.passes;
+    }
 
 pub returns-clause-ends : goal.returns-clause-ends
 returns-clause-ends g c =

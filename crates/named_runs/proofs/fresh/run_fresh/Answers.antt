@@ -11,8 +11,11 @@ returns-in_default-clause-passes g c = unused_own _ _ _ _ _ _ c.requires.passes.
 pub run_and_write-status-requires-clause-begins : goal.run_and_write-status-requires-clause-begins
 run_and_write-status-requires-clause-begins g c κs within =
     let opened = c.in-Ok.ensures in
-    may_begin _ c.args.script.now 0 _ 256 _ _ (omega (arith, c.callers.ensures.count))
-    c.callers.ensures.plan.calls opened.rows.0 opened.rows.1 opened.bench opened.fresh
+    record {
+      begins = may_begin _ c.args.script.now 0 _ 256 _ _ (omega (arith, c.callers.ensures.count))
+          c.callers.ensures.plan.calls opened.rows.0 opened.rows.1 opened.bench opened.fresh;
+      passes_for = c.requires.passes;
+    }
 
 pub returns-clause-ends : goal.returns-clause-ends
 returns-clause-ends g c =

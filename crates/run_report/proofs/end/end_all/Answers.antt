@@ -45,9 +45,9 @@ loop-worker-init g c =
     let lines : length c.args.lines.items ≡ 0 =
     ap (λ (xs : List _). length xs) c.requires.no_lines in
     record {
-      workers = c.requires.workers;
+      workers = c.requires.workers.each;
       bench = c.requires.bench;
-      count = omega (arith, c.requires.all, passes);
+      count = omega (arith, c.requires.workers.all, passes);
       lines_count = omega (arith, lines, passes);
       passes_capacity = omega arith;
       lines_capacity = c.requires.lines;

@@ -19,9 +19,8 @@ of_lines-requires g c =
 
 pub returns : goal.returns
 returns g c =
-    let is = reported _ _ _ c.args.script.now (allotments_by c.args._pace c.args.script.now) _ _ _ _
-    _ c.callers-callers.ensures.plan c.requires.callers c.requires.bench c.requires.lines
+    reported _ _ _ c.args.script.now (allotments_by c.args._pace c.args.script.now) _ _ _ _ _
+    c.callers-callers.ensures.plan c.requires.callers c.requires.bench c.requires.lines
     (omega (arith, c.requires.all_lines)) c.of_lines.result
     (c.of_lines.ensures ∙ ap (λ (k : Kind). findings_in k c.args.lines.items) c.kind.ensures)
-    (omega (arith, c.requires.all_passes)) in
-    record { report = is.0; free = is.1; counted = is.2 }
+    (omega (arith, c.requires.all_passes))

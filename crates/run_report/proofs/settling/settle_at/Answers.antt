@@ -13,14 +13,10 @@ settle-requires-clause-spent g c =
     ∙ ap (λ w. Some w) (sym c.index_mut.ensures.value) in
     let n = length c.args.script.now.operations in (
       n - 1 - place,
-      omega (arith, c.requires.place, c.requires.all),
-      c.requires.workers (n - 1 - place) place c.index_mut.result.now
-          (omega (arith, c.requires.place, c.requires.all)) there,
+      omega (arith, c.requires.place, c.requires.workers.all),
+      c.requires.workers.each (n - 1 - place) place c.index_mut.result.now
+          (omega (arith, c.requires.place, c.requires.workers.all)) there,
     )
-
-pub returns-clause-all : goal.returns-clause-all
-returns-clause-all g c =
-    length-set c.args.workers.now.items c.args.place c.settle.new.self ∙ c.requires.all
 
 pub returns-clause-workers : goal.returns-clause-workers
 returns-clause-workers g c =
@@ -28,8 +24,11 @@ returns-clause-workers g c =
     let there : slice_get c.args.workers.now.items place ≡ Some c.index_mut.result.now =
     slice_get-get_or c.args.workers.now.items place _ c.requires.place
     ∙ ap (λ w. Some w) (sym c.index_mut.ensures.value) in
-    set_down _ place _ c.args.workers.now.items c.index_mut.result.now c.settle.new.self there
-    c.settle.ensures.spent c.requires.workers
+    record {
+      all = length-set c.args.workers.now.items place c.settle.new.self ∙ c.requires.workers.all;
+      each = set_down _ place _ c.args.workers.now.items c.index_mut.result.now c.settle.new.self
+          there c.settle.ensures.spent c.requires.workers.each;
+    }
 
 pub returns-clause-free : goal.returns-clause-free
 returns-clause-free g c =

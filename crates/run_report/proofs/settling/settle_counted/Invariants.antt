@@ -1,6 +1,5 @@
-use Rattle.std.proofs.Common.{◌≡◌}
-use Rattle.client_calls.specs.Clients.{HasSpent, IsSameClient}
-use Rattle.run_report.specs.Work.{IsAtWork}
+use Rattle.client_calls.specs.Clients.{HasSpent, IsAtWork}
+use Rattle.client_calls.specs.Keeping.{IsSameSheet}
 use Rattle.run_report.proofs.settling.settle_counted.Given as goal
 
 abbrev pub invariant-loop-call : goal.invariant-loop-call
@@ -8,7 +7,6 @@ invariant-loop-call g l =
     record {
       work : IsAtWork g.P.Program.meaning l.shared.rows.now g.E.Ending.says g.E.Ending.object
           (g.A.Asks.fits l.shared.asks.now) g.A.Asks.count l.client;
-      same : IsSameClient l.fn.client l.client;
-      object : g.E.Ending.object l.client.sheet.ending ≡ g.E.Ending.object l.fn.client.sheet.ending;
+      same : IsSameSheet g.E.Ending.object l.fn.client.sheet l.client.sheet;
       spent : HasSpent l.allotment l.client;
     }

@@ -19,10 +19,11 @@ index_mut-requires g c =
 pub loop-turn-init : goal.loop-turn-init
 loop-turn-init g c =
     record {
-      all = c.requires.all;
+      all = c.requires.workers.all;
       last = omega (arith, c.callers.ensures.count, c.callers.ensures.plan.some);
       turns = c.turns-turn-items.ensures;
-      workers = λ i j w at there. no_turn _ _ _ _ _ _ _ i w (c.requires.workers i j w at there);
+      workers = λ i j w at there. no_turn _ _ _ _ _ _ _ i w (c.requires.workers.each i j w at
+          there);
     }
 
 pub take_turn-requires-clause-turning : goal.take_turn-requires-clause-turning
@@ -65,16 +66,21 @@ loop-turn-preserved g c =
           (c.take_turn.ensures _) c.loop-turn.invariant.workers;
     }
 
-pub returns-clause-workers : goal.returns-clause-workers
-returns-clause-workers g c i j w at there =
-    let plan = c.args.script.now in
-    let all : take c.loop-turn.turn-index c.turns-turn-items.result.now ≡ plan.turns =
-    ap (λ (k : ℕ). take k c.turns-turn-items.result.now)
-    (omega (arith, c.loop-turn-test.false, c.loop-turn.auto.turn-index-end))
-    ∙ take-length c.turns-turn-items.result.now ∙ c.turns-turn-items.ensures in
-    turned_spent _ _ _ _ _ _ plan (g.E.Ending.object c.args._ending.now) i w (omega (arith, at))
-    (subst
-    (λ (turns : List ℕ). IsTurned g.P.Program.meaning c.args.shared.now.rows.now g.E.Ending.says
-    g.E.Ending.object (g.A.Asks.fits c.args.shared.now.asks.now) g.A.Asks.count (course_of plan
-    (run_allotments plan) (g.E.Ending.object c.args._ending.now)) i (turns_of turns i) w) all
-    (c.loop-turn.invariant.workers i j w at there))
+pub returns : goal.returns
+returns g c = record {
+  workers = record {
+    all = c.loop-turn.invariant.all;
+    each = λ i j w at there.
+        let plan = c.args.script.now in
+        let all : take c.loop-turn.turn-index c.turns-turn-items.result.now ≡ plan.turns =
+        ap (λ (k : ℕ). take k c.turns-turn-items.result.now)
+        (omega (arith, c.loop-turn-test.false, c.loop-turn.auto.turn-index-end))
+        ∙ take-length c.turns-turn-items.result.now ∙ c.turns-turn-items.ensures in
+        turned_spent _ _ _ _ _ _ plan (g.E.Ending.object c.args._ending.now) i w (omega (arith, at))
+        (subst
+        (λ (turns : List ℕ). IsTurned g.P.Program.meaning c.args.shared.now.rows.now g.E.Ending.says
+        g.E.Ending.object (g.A.Asks.fits c.args.shared.now.asks.now) g.A.Asks.count (course_of plan
+        (run_allotments plan) (g.E.Ending.object c.args._ending.now)) i (turns_of turns i) w) all
+        (c.loop-turn.invariant.workers i j w at there));
+  };
+}

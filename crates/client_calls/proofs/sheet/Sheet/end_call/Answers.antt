@@ -15,8 +15,10 @@ returns-clause-ends g c =
       noted,
     )
 
-pub end_seen-requires-clause-gathered : goal.end_seen-requires-clause-gathered
-end_seen-requires-clause-gathered g c =
-    stays_gathered (local_with (caller_published c.args.published))
-    (local_with (caller_seen c.seen-seen.result)) c.args.self.now.gathered c.seen-seen.ensures.grows
-    c.requires.gathered
+pub end_seen-requires-clause-keeps : goal.end_seen-requires-clause-keeps
+end_seen-requires-clause-keeps g c = record {
+  gathered = stays_gathered (local_with (caller_published c.args.published))
+      (local_with (caller_seen c.seen-seen.result)) c.args.self.now.gathered
+      c.seen-seen.ensures.grows c.requires.keeps.gathered;
+  stands = c.requires.keeps.stands;
+}

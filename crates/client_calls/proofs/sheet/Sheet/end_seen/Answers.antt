@@ -19,8 +19,10 @@ returns-clause-ends g c = (
   c.noted.ensures.noted,
 )
 
-pub returns-clause-kept : goal.returns-clause-kept
-returns-clause-kept g c =
-    subst (λ (d : Caller _). IsGatheredBy (local_with d) c.end-ended.new.gathered)
-    (stand_noted c.args.op c.args.self.now.lines.items c.end-ended.result c.noted.new.lines.items
-    c.noted.result c.noted.ensures.noted) c.end-ended.ensures.kept
+pub returns-clause-keeps : goal.returns-clause-keeps
+returns-clause-keeps g c = record {
+  gathered = subst (λ (d : Caller _). IsGatheredBy (local_with d) c.end-ended.new.gathered)
+      (stand_noted c.args.op c.args.self.now.lines.items c.end-ended.result c.noted.new.lines.items
+      c.noted.result c.noted.ensures.noted) c.end-ended.ensures.kept;
+  stands = c.end-ended.ensures.standing;
+}

@@ -28,7 +28,8 @@ settle_counted-settled-requires-clause-spent g c =
     subst (λ (a : ℕ). HasSpent a c.unwrap-client.result)
     (sym c.allotment_at-allotment.ensures.allotment) h.1
 
-pub settle_counted-settled-requires-clause-within : goal.settle_counted-settled-requires-clause-within
+pub settle_counted-settled-requires-clause-within :
+    goal.settle_counted-settled-requires-clause-within
 settle_counted-settled-requires-clause-within g c =
     let h = spent_client _ _ _ _ _ _ _ c.requires.spent.0 c.args.self.now c.unwrap-client.result
     c.requires.spent.2 (sym c.take.ensures.value ∙ c.unwrap-client.ensures) in
@@ -46,7 +47,7 @@ returns-clause-spent g c i spent =
     released_spent _ _ _ _ _ _ _ i between _ settled c.release.result refl c.replace.ensures.after
     c.release.ensures
     (settled_spent _ _ _ _ _ _ _ i c.args.self.now between c.unwrap-client.result settled
-    (sym c.take.ensures.value ∙ c.unwrap-client.ensures) refl done.work done.same done.object
+    (sym c.take.ensures.value ∙ c.unwrap-client.ensures) refl done.work done.same
     (subst (λ (a : ℕ). HasSpent a settled) c.allotment_at-allotment.ensures.allotment done.spent)
     spent)
 

@@ -22,8 +22,7 @@ returns g c =
           let d = w.advance-client.ensures in
           phase_turned _ _ _ _ _ _ course i turns c.args.self.now _ c.unwrap-client.result
           w.advance-client.result was (c.replace.ensures.after ∙ ap (λ k. Some k) w.client-is)
-          (record { course = d.course; pass = d.pass; has_capacity = d.room; stands = d.standing })
-          d.same d.object (c.goes_on.ensures.0 w.if-goes_on.true) d.phase
+          d.work d.same (c.goes_on.ensures.0 w.if-goes_on.true) d.phase
           (omega (arith, ap (λ (v : Worker _ _ _). v.allotment) w.self-is, c.if-self-eq0.false)) h
       | else-goes_on w ↦ λ course i turns h.
           still_turned _ _ _ _ _ _ course i turns c.args.self.now _

@@ -9,6 +9,5 @@ returns g c = record {
   is = c.replace.ensures.after;
   work = c.run_counted-client.ensures.work;
   same = c.run_counted-client.ensures.same;
-  judges = c.run_counted-client.ensures.object;
   spent = c.run_counted-client.ensures.spent;
 }
