@@ -3,7 +3,8 @@ use Rattle.std.proofs.Common.{◌≡◌, ℕ, ◌+◌, ◌<◌, List, [], ◌∷
 use Rattle.world_core.specs.Local.{Local, fresh}
 use Rattle.row_table.specs.declared.notes.Notes.{Notes}
 use Rattle.row_table.specs.declared.bench.Kept.{Kept}
-use Rattle.row_table.specs.Seats.{View, has}
+use Rattle.row_table.specs.Holders.{has}
+use Rattle.row_table.specs.Seats.{View}
 use Rattle.row_table.specs.Notes.{notes_of, notes_from}
 use Rattle.row_table.specs.Benches.{kept_notes, fresh_kept}
 

@@ -9,20 +9,16 @@ use Rattle.world_core.specs.Calls.{IsLocalOf}
 use Rattle.row_table.specs.declared.plays.Key.{Key}
 use Rattle.row_table.specs.declared.rows.Rows.{Rows}
 use Rattle.row_table.specs.Shapes.{shape_for}
-use Rattle.row_table.specs.Seats.{View, has, the, only, Ruled, Together, Tells, TellsOfSome, Shows, Makes}
+use Rattle.row_table.specs.Holders.{has, only}
+use Rattle.row_table.specs.Seats.{View, the, Ruled, Together, Tells, TellsOfSome, Shows, Makes}
 use Rattle.row_table.specs.Callers.{key_of}
-use Rattle.row_table.proofs.Keeping.{does, stores, learns, moved_here, only_here}
+use Rattle.row_table.proofs.Holders.{alone_here}
+use Rattle.row_table.proofs.Keeping.{does, stores, learns, moved_here}
 
 -- The key that a table has is the key of its rows.
 pub key_told : {P : Type 0} (r : Rows P) → r.table.shared.key ≡ key_of r
 key_told r = λ i.
     record { program = r.told i; callers = r.sized.2 i; cap = r.sized.3 i; objects = r.sized.4 i }
-
--- A view that has one caller's local alone has a local of this caller.
-pub alone_here : (me : Me (Unit {0}) View) (who : ℕ) → me ≡ (only who (the (has me.0 who)), [])
-    → has me.0 who ≡ Some (the (has me.0 who))
-alone_here me who alone =
-    ap (λ (m : Me (Unit {0}) View). has m.0 who) alone ∙ only_here who (the (has me.0 who))
 
 module _ {P : Type 0} (meaning : P → ℕ → ℕ → Meaning) (k told : Key P) (z : Shape) (same : told ≡ k)
     (shape : z ≡ shape_for meaning k) (slots id : ℕ) (me : Me (Unit {0}) View) where
@@ -84,7 +80,7 @@ told_as s z who w event e me after x shape mine deed alone low h =
     let l : Local = the (has me.0 who) in
     let here : has after.0 who ≡ Some (local_after s.callers l (event x)) =
     ap (λ (m : Me (Unit {0}) View). has m.0 who) t.done
-    ∙ moved_here s.callers me.0 who l (event x) (alone_here me who alone) in
+    ∙ moved_here s.callers me.0 who l (event x) (alone_here me who l alone) in
     let is : the (has after.0 who) ≡ local_after s.callers l (event x) = ap the here in
     record {
       local = is;

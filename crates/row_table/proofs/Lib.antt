@@ -1,3 +1,4 @@
+pub mod Holders
 pub mod Noting
 pub mod Keeping
 pub mod Parting

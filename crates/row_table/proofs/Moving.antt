@@ -9,12 +9,12 @@ use Rattle.world_core.specs.Calls.{IsLocalOf}
 use Rattle.row_table.specs.declared.notes.Notes.{Notes}
 use Rattle.row_table.specs.declared.stance.Stance.{Stance}
 use Rattle.row_table.specs.declared.bench.Kept.{Kept}
-use Rattle.row_table.specs.Seats.{View, has, the, only, union_of, Together}
+use Rattle.row_table.specs.Holders.{has, only}
+use Rattle.row_table.specs.Seats.{View, the, Together}
 use Rattle.row_table.specs.Notes.{notes_of, notes_from}
 use Rattle.row_table.specs.Benches.{kept_notes, fresh_kept, fresh_stance}
 use Rattle.row_table.specs.Callers.{kept_stance}
-use Rattle.row_table.proofs.Keeping.{inside, only_here}
-use Rattle.row_table.proofs.Parting.{joined_set, set_here_view, set_else_view}
+use Rattle.row_table.proofs.Holders.{inside, only_here, with_here, with_else}
 use Rattle.row_table.proofs.Benching.{replicate_push, is_kept, IsKept, is_gone, places_wide, tied_without, tied_with}
 use Rattle.row_table.proofs.Deeds.{local_together}
 
@@ -65,12 +65,6 @@ pub left_reached : (s : Shape) (v : View) (who i : ℕ) (l r : Local) → Togeth
 left_reached s v who i l r t low here same local = subst (λ (x : ℕ × Local). IsLocalOf s x.0 x.1)
     (λ j. (sym same j, sym local j)) (local_together s v who l t low here)
 
--- The view of a bench to which a caller comes back is the one before, with the local of this caller
--- set.
-pub joined_with : (v w u : View) (who : ℕ) (l : Local) → u ≡ union_of v w → w ≡ only who l
-    → has v who ≡ None → who < length v → u ≡ slice_set v who (Some l)
-joined_with v w u who l is alone gone low = is ∙ ap (union_of v) alone ∙ joined_set v who l gone low
-
 -- Once a caller is put back, the notes that the bench keeps are still those of the locals in its
 -- view.
 pub back_tied : (n m : ℕ) (items new : List (Option Kept)) (v u : View) (who : ℕ) (kept : Kept)
@@ -98,7 +92,7 @@ pub back_here : (items new : List (Option Kept)) (v u : View) (who : ℕ) (kept 
     → u ≡ slice_set v who (Some l) → new ≡ slice_set items who (Some kept) → (has u who ≡ Some l)
     × (kept_stance (slice_index_or new who None) ≡ Some kept.stance)
 back_here items new v u who kept l low inside view place = (
-  ap (λ (w : View). has w who) view ∙ set_here_view v who l low,
+  ap (λ (w : View). has w who) view ∙ with_here v who l low,
   ap (λ (xs : List (Option Kept)). kept_stance (slice_index_or xs who None)) place
       ∙ ap kept_stance (get_or-set_same items who (Some kept) None inside),
 )
@@ -109,7 +103,7 @@ pub back_else : (items new : List (Option Kept)) (v u : View) (who i : ℕ) (kep
     → u ≡ slice_set v who (Some l) → new ≡ slice_set items who (Some kept) → (has u i ≡ has v i)
     × (kept_stance (slice_index_or new i None) ≡ kept_stance (slice_index_or items i None))
 back_else items new v u who i kept l ne view place = (
-  ap (λ (w : View). has w i) view ∙ set_else_view v who i l ne,
+  ap (λ (w : View). has w i) view ∙ with_else v who i l ne,
   ap (λ (xs : List (Option Kept)). kept_stance (slice_index_or xs i None)) place
       ∙ ap kept_stance (get_or-set_other items who i (Some kept) None ne),
 )

@@ -4,7 +4,8 @@ use Rattle.world_core.specs.declared.region.Region.{Region}
 use Rattle.world_core.specs.Shape.{Meaning, Shape}
 use Rattle.world_core.specs.Local.{Local, IsIdle}
 use Rattle.world_core.specs.Calls.{IsLocalOf}
-use Rattle.row_table.specs.Seats.{has, the, Together}
+use Rattle.row_table.specs.Holders.{has}
+use Rattle.row_table.specs.Seats.{the, Together}
 use Rattle.row_table.specs.Shapes.{shape_for}
 use Rattle.row_table.specs.Stances.{opening_by}
 use Rattle.row_table.specs.Actions.{opening_in}

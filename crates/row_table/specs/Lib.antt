@@ -1,3 +1,4 @@
+pub mod Holders
 pub mod Seats
 pub mod Shapes
 pub mod Stances

@@ -1,50 +1,32 @@
 -- The rule of the table: its words and the locals of its callers are a reachable world, and each
--- caller's local is with exactly one seat; and how a step changes the locals of the seat that makes
+-- caller's local is with at most one seat; and how a step changes the locals of the seat that makes
 -- it.
-use Rattle.std.specs.Prelude.{◌≡◌, ℕ, ◌<◌, ◌^◌, IsTrue, List, [], ◌∷◌, ◌++◌, Option, Some, None, replicate, length, slice_index, slice_index_or, slice_set}
-use mathlib.Core.Option.{some}
-use lib.ListN.{get_elem?}
+use Rattle.std.specs.Prelude.{◌≡◌, ℕ, ◌<◌, ◌^◌, IsTrue, List, Option, Some, length, slice_index, slice_set}
 use Rattle.atomic_table.specs.Table.{State, Me}
 use Rattle.world_core.specs.Shape.{Shape}
 use Rattle.world_core.specs.Local.{Local, fresh}
 use Rattle.world_core.specs.Event.{Event, is_allowed, is_loaded, words_after, local_after}
 use Rattle.world_core.specs.World.{World, local_of, IsReachable}
+use Rattle.row_table.specs.Holders.{has, held_or, AreHeld}
 
 -- The view of a seat: for each caller, the local that the seat has, where it has one.
 abbrev pub View : Type 0
 View = List (Option Local)
 
--- The local of caller `i` that a seat's view has, where it has one.
-abbrev pub has : View → ℕ → Option Local
-has v i = slice_index_or v i None
-
 -- A local, or the local at the start where none is given.
 abbrev pub the : Option Local → Local
-the None = fresh
-the (Some l) = l
-
--- The view of a seat that has the locals of all `n` callers, as they are at the start.
-abbrev pub whole : ℕ → View
-whole n = replicate n (Some fresh)
-
--- The view of a seat that has one caller's local alone.
-abbrev pub only : ℕ → Local → View
-only i l = replicate i None ++ Some l ∷ []
+the = held_or fresh
 
 -- The rule of a table with this shape: its number of object words is the one that its program has;
--- its words and the locals of its callers are a reachable world; and the local of each caller is in
--- the view of exactly one seat.
+-- its words and the locals of its callers are a reachable world; and the local that a seat's view
+-- has of a caller is this caller's in that world, and in no other seat's view.
 pub record Ruled (s : Shape) (objects : ℕ) (t : State (Unit {0}) View) : Type 0 where
   pub counted : objects ≡ s.program.objects
   pub world : World
   pub reach : IsReachable s world
   pub words : t.words ≡ world.words
   pub wide : length world.locals ≡ s.callers
-  pub owner : ℕ → ℕ
-  pub held : (i seat : ℕ) (v : View) (l : Local) → get_elem? t.views seat ≡ some v
-      → has v i ≡ Some l → (owner i ≡ seat) × (local_of world i ≡ l)
-  pub kept : (i : ℕ) → i < s.callers → (v : View) × (get_elem? t.views (owner i) ≡ some v)
-      × (has v i ≡ Some (local_of world i))
+  pub locals : AreHeld (λ i l. local_of world i ≡ l) t.views
 
 -- The locals of a seat's view are those of one reachable world, which has one local for each
 -- caller.
@@ -90,14 +72,6 @@ pub record Makes (s : Shape) (objects : ℕ) (who : ℕ) (local : Local) (word :
   pub loads : (words : List ℕ) → IsTrue (is_loaded s words (event (slice_index words word)))
   pub writes : (words : List ℕ) → words_after s who local words (event (slice_index words word))
       ≡ slice_set words word (f (slice_index words word))
-
--- The view of a seat that takes over the locals of another seat's view `w`: a caller's local is the
--- one in the first view, or, where the first view has none, the one in `w`.
-abbrev pub union_of : View → View → View
-union_of [] w = []
-union_of (x ∷ v) [] = x ∷ v
-union_of (None ∷ v) (y ∷ w) = y ∷ union_of v w
-union_of (Some l ∷ v) (y ∷ w) = Some l ∷ union_of v w
 
 -- Some reachable world has just these words and these locals.
 pub record IsWorldOf (s : Shape) (words : List ℕ) (locals : List Local) : Type 0 where

@@ -2,12 +2,12 @@ ghost use Rattle.std.specs.Prelude.{◌≡◌, ℕ, ◌<◌, ◌↔◌, [], IsTr
 ghost use Rattle.row_table.specs.Benches.{kept_notes};
 ghost use Rattle.row_table.specs.Notes.{notes_from};
 
+use crate::held::Held;
 use crate::notes::Notes;
-use crate::plays::Holding;
 use crate::stance::Stance;
 use atomic_table::Seat;
 use std::marker::PhantomData;
-use world_core::Outside;
+use world_core::{Local, Outside};
 
 /// What a bench keeps of a caller that is on it: its notes and its stance.
 #[derive(Debug, Drop)]
@@ -23,7 +23,7 @@ pub struct Bench<P = Outside> {
     pub(crate) callers: u32,
     pub(crate) cap: u64,
     pub(crate) places: Vec<Option<Kept>>,
-    pub(crate) seat: Seat<(), Holding>,
+    pub(crate) seat: Seat<(), Held<Local>>,
     pub(crate) of: PhantomData<P>,
     ghost quiet: { seat.me.1 ≡ [] },
     ghost tied: { map kept_notes places.items ≡ notes_from callers 0 seat.me.0 },

@@ -2,22 +2,23 @@ ghost use Rattle.std.specs.Prelude.{◌≡◌, ◌≢◌, ℕ, ◌+◌, ◌-◌,
 ghost use Rattle.world_core.specs.Local as local;
 ghost use Rattle.world_core.specs.Event as event;
 ghost use Rattle.world_core.specs.declared.region.Region.{Region};
-ghost use Rattle.row_table.specs.Seats.{has, the, only};
+ghost use Rattle.row_table.specs.Holders.{has, only};
+ghost use Rattle.row_table.specs.Seats.{the};
 ghost use Rattle.row_table.specs.Notes.{notes_of};
 
+use crate::held::Held;
 use crate::notes::Notes;
 use crate::phase::Phase;
-use crate::plays::Holding;
 use crate::stance::Stance;
 use atomic_table::Seat;
 use book_base::Cut;
-use world_core::{Outside, Program, Region, Want};
+use world_core::{Local, Outside, Program, Region, Want};
 
 /// The seat of one caller, which has the local of this caller and no other.
 #[derive(Drop)]
 pub struct CallerSeat {
     pub who: u32,
-    pub seat: Seat<(), Holding>,
+    pub seat: Seat<(), Held<Local>>,
     ghost alone: { seat.me ≡ (only who (the (has seat.me.0 who)), []) },
 }
 

@@ -1,26 +1,20 @@
 //! The rule of the table, and what a seat knows after its steps. These types are for the proofs
 //! alone.
-ghost use Rattle.std.specs.Prelude.{ℕ, [], None, slice_set};
+ghost use Rattle.std.specs.Prelude.{ℕ};
 ghost use Rattle.world_core.specs.Shape.{Shape};
 ghost use Rattle.world_core.specs.Event.{Event, Announce};
 ghost use Rattle.world_core.specs.Programs.{outside};
-ghost use Rattle.row_table.specs.Seats.{Ruled, Tells, TellsOfSome, Shows, whole, has, the, only, union_of};
+ghost use Rattle.world_core.specs.Local.{fresh};
+ghost use Rattle.row_table.specs.Holders.{whole};
+ghost use Rattle.row_table.specs.Seats.{Ruled, Tells, TellsOfSome, Shows};
 
-use atomic_table::{Join, Play, Split, TableRule};
-use std::marker::{Brand, Model, PhantomData};
-use world_core::Program;
+use crate::held::{Held, Holding};
+use atomic_table::{Play, TableRule};
+use std::marker::{Brand, PhantomData};
+use world_core::{Local, Program};
 
-/// The kind of what a seat knows: a view, with the locals that the seat has. No value of this type
-/// is made.
-pub struct Holding;
-
-impl Model for Holding {
-    ghost use Rattle.std.specs.Prelude.{[]};
-    ghost use Rattle.row_table.specs.Seats.{View};
-
-    ghost Value = { View };
-
-    ghost view = { λ _. [] };
+impl Holding for Local {
+    ghost start = { fresh };
 }
 
 /// What a table of rows is made with: its program, its number of callers, its cap and its number of
@@ -38,10 +32,10 @@ pub struct Worlds<P> {
     program: PhantomData<P>,
 }
 
-impl<P: Program> TableRule<(), Holding, Key<P>> for Worlds<P> {
+impl<P: Program> TableRule<(), Held<Local>, Key<P>> for Worlds<P> {
     ghost holds = { λ key. Ruled (record { callers = key.callers; cap = key.cap; program = P.meaning key.program key.callers key.cap }) key.objects };
 
-    ghost first = { λ key. whole key.callers };
+    ghost first = { λ key. whole key.callers fresh };
 }
 
 /// A step as an event: the shape of the world that it is made in, the caller that makes it, and its
@@ -67,7 +61,7 @@ pub struct Does<J> {
     deed: PhantomData<J>,
 }
 
-impl<J: StepEvent> Play<(), Holding> for Does<J> {
+impl<J: StepEvent> Play<(), Held<Local>> for Does<J> {
     ghost then = { λ st me found after. Tells J.shape J.who J.event me found after };
 }
 
@@ -76,7 +70,7 @@ pub struct Writes<J> {
     deed: PhantomData<J>,
 }
 
-impl<J: StepEvent> Play<(), Holding> for Writes<J> {
+impl<J: StepEvent> Play<(), Held<Local>> for Writes<J> {
     ghost then = { λ st me _ after. TellsOfSome J.shape J.who J.event me after };
 }
 
@@ -86,26 +80,6 @@ pub struct Learns<J> {
     deed: PhantomData<J>,
 }
 
-impl<J: StepEvent> Play<(), Holding> for Learns<J> {
+impl<J: StepEvent> Play<(), Held<Local>> for Learns<J> {
     ghost then = { λ st me _ after. Shows J.shape me after };
-}
-
-/// The local of one caller goes from a seat to a new one, which has no other local.
-pub struct Leaves<J> {
-    deed: PhantomData<J>,
-}
-
-impl<J: StepEvent> Split<Holding> for Leaves<J> {
-    ghost left = { λ v. slice_set v J.who None };
-
-    ghost right = { λ v. only J.who (the (has v J.who)) };
-}
-
-/// The locals of another seat go back to a seat; then the view of the other one is empty.
-pub struct Returns;
-
-impl Join<Holding> for Returns {
-    ghost both = { union_of };
-
-    ghost spent = { [] };
 }

@@ -11,16 +11,17 @@ ghost use Rattle.world_core.specs.Event as event;
 use crate::action::Action;
 use crate::bench::{Bench, Kept};
 use crate::caller::{Caller, CallerSeat};
+use crate::held::{Held, Leaves, Part, Returns};
 use crate::layout::{embedded_place, row_words};
 use crate::notes::Notes;
-use crate::plays::{Does, Holding, Key, Learns, Leaves, Returns, StepEvent, Worlds, Writes};
+use crate::plays::{Does, Key, Learns, StepEvent, Worlds, Writes};
 use crate::stance::Stance;
 use crate::world::World;
 use atomic_table::{Closed, Seat, Table};
 use book_base::{MAX_CALLERS, MAX_CALLS, NoMemory};
 use std::alloc::{AllocError, Global};
 use std::marker::{Brand, PhantomData};
-use world_core::{Outside, Program, Region};
+use world_core::{Local, Outside, Program, Region};
 
 /// The table of a world: the counts and the rows of its callers, and the object words of its
 /// program.
@@ -30,7 +31,7 @@ use world_core::{Outside, Program, Region};
 /// memory; only the calls that open and close the table take memory.
 #[derive(Drop)]
 pub struct Rows<P: Program = Outside> {
-    pub(crate) table: Table<(), Holding, Key<P>, Worlds<P>, Global>,
+    pub(crate) table: Table<(), Held<Local>, Key<P>, Worlds<P>, Global>,
     pub(crate) program: P,
     pub(crate) callers: u32,
     pub(crate) cap: u64,
@@ -70,7 +71,8 @@ fn all_kept(alloc: Global, n: u32) -> Result<Vec<Option<Kept>>, AllocError>
 }
 
 impl<P: Program> Rows<P> {
-    ghost use Rattle.row_table.specs.Seats.{has, the, only, Makes, Together, IsWorldOf};
+    ghost use Rattle.row_table.specs.Holders.{has, only};
+    ghost use Rattle.row_table.specs.Seats.{the, Makes, Together, IsWorldOf};
     ghost use Rattle.row_table.specs.Actions.{event_of};
     ghost use Rattle.row_table.specs.Callers.{key_of, shape_of, seated, who_of, local_with, stance_of, on_bench, stance_on, locals_on, IsSeatOf, IsCallerOf, IsBenchOf, Holds, HoldsAll, IsFree, HoldsFree};
     ghost use Rattle.row_table.specs.Worlds.{words_in};
@@ -185,7 +187,7 @@ impl<P: Program> Rows<P> {
     }
 
     // Takes the local of a caller from a bench's seat to a seat of its own, which is the answer.
-    fn leave_as<J: StepEvent>(&self, seat: &mut Seat<(), Holding>, who: u32) -> CallerSeat
+    fn leave_as<J: Part>(&self, seat: &mut Seat<(), Held<Local>>, who: u32) -> CallerSeat
         requires who { J.who ≡ who }
         requires seat { seat.old.table_id ≡ self.now.table.shared.table_id }
         requires here { has seat.old.me.0 who ≡ Some (the (has seat.old.me.0 who)) }

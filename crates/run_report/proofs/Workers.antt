@@ -12,7 +12,8 @@ use Rattle.report_lines.specs.Phases.{IsTold, asked}
 use Rattle.report_lines.specs.Allotments.{operations_at, phases_of}
 use Rattle.report_lines.specs.Workers.{HasWorked}
 use Rattle.report_lines.specs.Working.{HaveWorked}
-use Rattle.row_table.specs.Seats.{View, has, the}
+use Rattle.row_table.specs.Holders.{has}
+use Rattle.row_table.specs.Seats.{View, the}
 use Rattle.row_table.specs.declared.rows.Rows.{Rows}
 use Rattle.row_table.specs.declared.bench.Bench.{Bench}
 use Rattle.row_table.specs.declared.stance.Stance.{Stance}

@@ -5,16 +5,11 @@ use Rattle.atomic_table.specs.Table.{Me, Allows}
 use Rattle.book_base.specs.OperationWord.{low_of, high_of}
 use Rattle.shared_words.specs.Entries.{calls_by}
 use Rattle.shared_words.specs.Words.{operation_index, ticket_index}
-use Rattle.shared_words.specs.Holders.{has, only}
-use Rattle.shared_words.specs.Hands.{Hand, View, the, next_number}
+use Rattle.row_table.specs.Holders.{has, only}
+use Rattle.shared_words.specs.Hands.{Hand, View, the, empty, next_number}
 use Rattle.shared_words.specs.LogRule.{Ruled, Turns, Stages, Looks, Places, Reads}
-use Rattle.shared_words.proofs.Holding.{only_here, only_set}
+use Rattle.row_table.proofs.Holders.{alone_here, changed_alone}
 use Rattle.shared_words.proofs.LogStepping as steps
-
--- the seat of one caller has it
-pub alone_here : (me : Me (Unit {0}) View) (who : ℕ) (h : Hand) → me ≡ (only who h, [])
-    → has me.0 who ≡ Some h
-alone_here me who h alone = ap (λ (m : Me (Unit {0}) View). has m.0 who) alone ∙ only_here who h
 
 -- after a step the seat has that caller alone, whose hand is as the kind of step says
 pub record HasTurned (who : ℕ) (after : Me (Unit {0}) View) (tells : Hand → Type 0) : Type 0 where
@@ -24,16 +19,13 @@ pub record HasTurned (who : ℕ) (after : Me (Unit {0}) View) (tells : Hand → 
 pub turned : (who jw : ℕ) (me after : Me (Unit {0}) View) (h : Hand) (tells : Hand → Hand → Type 0)
     → jw ≡ who → me ≡ (only who h, []) → Turns jw me after tells → HasTurned who after (tells h)
 turned who jw me after h tells is alone t =
-    let moved : after ≡ (only who t.next, []) =
-    t.moved ∙ (λ i. (slice_set (alone i).0 (is i) (Some t.next), (alone i).1))
-    ∙ (λ i. (only_set who h t.next i, [])) in
-    let here : the (has after.0 who) ≡ t.next =
-    ap (λ (m : Me (Unit {0}) View). the (has m.0 who)) moved ∙ ap the (only_here who t.next) in
+    let one = changed_alone empty who me after h t.next alone
+    (t.moved ∙ (λ i. (slice_set me.0 (is i) (Some t.next), me.1))) in
     let before : the (has me.0 jw) ≡ h =
     (λ i. the (has me.0 (is i))) ∙ ap the (alone_here me who h alone) in
     record {
-      alone = moved ∙ (λ i. (only who (sym here i), []));
-      told = subst (λ (y : Hand × Hand). tells y.0 y.1) (λ i. (before i, sym here i)) t.told;
+      alone = one.alone;
+      told = subst (λ (y : Hand × Hand). tells y.0 y.1) (λ i. (before i, sym one.here i)) t.told;
     }
 
 module _ (n cap who key_callers key_cap callers jc jw : ℕ) (key_n : key_callers ≡ n)

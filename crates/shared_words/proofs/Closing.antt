@@ -1,71 +1,22 @@
 -- All passes come back to one seat: they know prefixes of one history.
-use Rattle.std.proofs.Common.{◌≡◌, ℕ, ◌<◌, List, [], ◌∷◌, ◌++◌, length, map, get_or, slice_set, Some, None, refl, sym, ap, ◌∙◌, subst}
+use Rattle.std.proofs.Common.{◌≡◌, ℕ, ◌<◌, List, [], ◌∷◌, length, map, get_or, Some, refl, sym, ap, ◌∙◌, subst}
 use Rattle.std.specs.List.{All, range_with_len}
 use Rattle.std.proofs.lemmas.List.{nil_from_length}
-use Rattle.std.proofs.lemmas.List.Elements.{All-nil, All-head, All-map, All-weaker}
+use Rattle.std.proofs.lemmas.List.Elements.{All-nil, All-map, All-weaker}
 use mathlib.Core.Option.{some}
 use mathlib.Core.List.{IsPrefix}
 use lib.ListN.{get_elem?}
-use Rattle.atomic_table.specs.Table.{Me, Final, Seen}
-use Rattle.shared_words.specs.Holders.{has, only}
-use Rattle.shared_words.proofs.Logs.{All-suffix}
-use Rattle.shared_words.proofs.Coming.{IsComing, starts_coming, split_next, next_gone, next_inside, more_coming, all_came}
+use Rattle.atomic_table.specs.Table.{Final, Seen}
+use Rattle.row_table.specs.Holders.{has}
+use Rattle.shared_words.proofs.Coming.{IsComing, all_hands}
 use Rattle.shared_words.specs.declared.shared_words.SharedWords.{SharedWords}
 use Rattle.shared_words.specs.declared.words_pass.WordsPass.{WordsPass}
 use Rattle.shared_words.specs.Deeds.{Deed, AreCalls}
-use Rattle.shared_words.specs.Histories.{Access, View, deeds_by, IsLawfulHistory}
+use Rattle.shared_words.specs.Histories.{Access, View, deeds_by}
 use Rattle.shared_words.specs.Passes.{seat_in, deeds_of, caller_of_pass, history_in, pairs_in, transcript_of, IsSeatOf, IsPassOf, IsOneHistory}
 use Rattle.shared_words.specs.Transcripts.{Transcript, AreOfOneHistory}
 use Rattle.shared_words.specs.Rule.{HaveOneHistory, Ruled}
 use Rattle.shared_words.proofs.Histories.{lawful_none}
-
--- A suffix of the passes of n callers came back.
-pub record IsClosing (n : ℕ) (all rest : List WordsPass) (v : View) : Type 0 where
-  pub gathered : List WordsPass
-  pub coming : IsComing caller_of_pass history_in n all rest gathered v
-
--- closing begins with the last caller's seat, to which the others come back
-pub starts_closing : (n : ℕ) (all rest : List WordsPass) (last : WordsPass) → all ≡ rest ++ last
-    ∷ [] → map caller_of_pass all ≡ range_with_len 0 n → IsClosing n all rest last.seat.seat.me.0
-starts_closing n all rest last is callers =
-    record {
-      gathered = last ∷ [];
-      coming = starts_coming caller_of_pass history_in n all rest last last.seat.seat.me.0 is
-          callers (ap (λ (m : Me (Unit {0}) View). m.0) last.seat.alone);
-    }
-
-module _ {U : Type 0} (may : ℕ → Deed → Type 0) (w : SharedWords U)
-    (all rest rest' : List WordsPass) (p : WordsPass)
-    (seats : All (λ q. IsSeatOf may w (seat_in q)) all) where
-  -- a pass among those that come back is one of these words
-  pub seat_among : (back : List WordsPass) → all ≡ rest' ++ p ∷ back → IsSeatOf may w (seat_in p)
-  seat_among back is =
-      All-head (λ q. IsSeatOf may w (seat_in q)) p back
-      (All-suffix (λ q. IsSeatOf may w (seat_in q)) rest' (p ∷ back)
-      (subst (λ (ps : List WordsPass). All (λ q. IsSeatOf may w (seat_in q)) ps) is seats))
-
-  module _ (v : View) (callers : map caller_of_pass all ≡ range_with_len 0 w.callers)
-      (h : IsClosing w.callers all rest v) (popped : rest ≡ rest' ++ p ∷ []) where
-    pub next_seat : IsSeatOf may w (seat_in p)
-    next_seat = seat_among h.gathered (split_next caller_of_pass history_in w.callers all rest rest'
-        h.gathered p v callers h.coming popped)
-
-    pub is_gone : has v (caller_of_pass p) ≡ None
-    is_gone = next_gone caller_of_pass history_in w.callers all rest rest' h.gathered p v callers
-        h.coming popped
-
-    pub is_inside : caller_of_pass p < length v
-    is_inside = next_inside caller_of_pass history_in w.callers all rest rest' h.gathered p v
-        callers h.coming popped
-
-    pub more_closing : (u : View) → u ≡ slice_set v (caller_of_pass p) (Some (history_in p))
-        → IsClosing w.callers all rest' u
-    more_closing u after =
-        record {
-          gathered = p ∷ h.gathered;
-          coming = more_coming caller_of_pass history_in w.callers all rest rest' h.gathered p v
-              callers h.coming popped u after;
-        }
 
 -- what the rule says of passes whose callers are with one seat
 knows : (may : ℕ → Deed → Type 0) (n count id : ℕ) (v : View) (passes : List WordsPass)
@@ -90,20 +41,16 @@ knows may n count id v passes words views r at hands =
 -- where all passes came back, the closed table determines their one history
 pub closed : {U : Type 0} (may : ℕ → Deed → Type 0) (w : SharedWords U) (id : ℕ) (v : View)
     (all rest : List WordsPass) (ws : List ℕ) (homes : List (Unit {0}))
-    → IsClosing w.callers all rest v → length rest ≡ 0
+    → IsComing caller_of_pass history_in w.callers all rest v → length rest ≡ 0
     → Final (Seen (Ruled may w.table.shared.key.callers w.table.shared.key.count) id v) ws homes
     → (history : List Access) × IsOneHistory may w.callers history all
 closed may w id v all rest ws homes h none final =
-    let came : h.gathered ≡ all =
-    all_came caller_of_pass history_in w.callers all rest h.gathered v h.coming none in
-    let hands =
-    subst (λ (ps : List WordsPass). All (λ p. has v (caller_of_pass p) ≡ Some (history_in p)) ps)
-    came h.coming.hands in
     let seen = final.1 in (
       seen.0.history,
       subst (λ (n : ℕ). IsOneHistory may n seen.0.history all) w.sized.2
           (knows may w.table.shared.key.callers w.table.shared.key.count id v all final.0.words
-          final.0.views seen.0 seen.1 hands),
+          final.0.views seen.0 seen.1
+          (all_hands caller_of_pass history_in w.callers all rest v h none)),
     )
 
 -- without callers there is no access

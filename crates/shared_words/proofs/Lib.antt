@@ -1,14 +1,11 @@
 pub mod Logs
 pub mod Room
-pub mod Holding
 pub mod Numbers
 pub mod Keeping
 pub mod LogStepping
 pub mod Asking
 pub mod Trying
 pub mod Learning
-pub mod LogParting
-pub mod LogDealing
 pub mod Coming
 pub mod LogClosing
 pub mod Words

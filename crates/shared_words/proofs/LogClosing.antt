@@ -1,5 +1,5 @@
 -- All seats come back to one seat, and the longest of their logs is the one log.
-use Rattle.std.proofs.Common.{◌≡◌, ℕ, zero, suc, ◌+◌, ◌<◌, ◌≤◌, List, [], ◌∷◌, ◌++◌, length, map, slice_set, Some, None, refl, sym, ap, ◌∙◌, subst, inl, inr, arith, length-append}
+use Rattle.std.proofs.Common.{◌≡◌, ℕ, zero, suc, ◌+◌, ◌<◌, ◌≤◌, List, [], ◌∷◌, ◌++◌, length, map, slice_set, Some, refl, sym, ap, ◌∙◌, subst, inl, inr, arith, length-append}
 use Rattle.std.specs.List.{All, Contains, range_with_len}
 use Rattle.std.proofs.lemmas.List.{append-nil, map-append, nil_from_length}
 use Rattle.std.proofs.lemmas.List.Elements.{All-cons, All-nil, All-head, All-tail, All-weaker, All-contains, Contains-append_right}
@@ -10,12 +10,12 @@ use Rattle.shared_words.specs.declared.entry.Entry.{Entry}
 use Rattle.shared_words.specs.declared.seat.LogSeat.{LogSeat}
 use Rattle.shared_words.specs.declared.shared_log.SharedLog.{SharedLog}
 use Rattle.shared_words.specs.Entries.{calls_by, BeginsWith, IsWithinCap, IsLonger}
-use Rattle.shared_words.specs.Holders.{has, only}
-use Rattle.shared_words.specs.Hands.{Hand, View}
+use Rattle.row_table.specs.Holders.{has, only}
+use Rattle.shared_words.specs.Hands.{View}
 use Rattle.shared_words.specs.LogRule.{HaveOneLog, Ruled}
-use Rattle.shared_words.specs.Seats.{caller_of, log_of, hand_of, IsSeatOf, AreSeatsOf, IsOneLog}
+use Rattle.shared_words.specs.Seats.{caller_of, log_of, hand_of, AreSeatsOf, IsOneLog}
 use Rattle.shared_words.proofs.Logs.{ends, All-suffix, whole_prefix}
-use Rattle.shared_words.proofs.Coming.{IsComing, starts_coming, split_next, next_gone, next_inside, more_coming, all_came}
+use Rattle.shared_words.proofs.Coming.{split_back, split_all, IsComing, starts_coming, more_coming, all_hands}
 
 -- The longest of the logs of some seats.
 pub record IsLongestOf (seats : List LogSeat) (longest : List Entry) : Type 0 where
@@ -28,8 +28,9 @@ pub record IsLongestOf (seats : List LogSeat) (longest : List Entry) : Type 0 wh
 -- longest of their logs.
 pub record IsClosing (n : ℕ) (all rest : List LogSeat) (v : View)
     (longest : List Entry) : Type 0 where
+  pub coming : IsComing caller_of hand_of n all rest v
   pub gathered : List LogSeat
-  pub coming : IsComing caller_of hand_of n all rest gathered v
+  pub split : all ≡ rest ++ gathered
   pub got : IsLongestOf gathered longest
 
 -- closing begins with the last caller's seat, to which the others come back
@@ -40,8 +41,9 @@ starts_closing n all rest last me is callers kept =
     let alone : me.0 ≡ only (caller_of last) (hand_of last) =
     ap (λ (m : Me (Unit {0}) View). m.0) (kept ∙ last.seat.alone) in
     record {
-      gathered = last ∷ [];
       coming = starts_coming caller_of hand_of n all rest last me.0 is callers alone;
+      gathered = last ∷ [];
+      split = is;
       got =
           record {
             most = All-cons (λ s. length (log_of s) ≤ length (log_of last)) last [] (omega arith)
@@ -52,62 +54,41 @@ starts_closing n all rest last me is callers kept =
           };
     }
 
--- The next seat to come back is one of this log, and the view lacks its caller.
-pub record IsNext (l : SharedLog) (v : View) (s : LogSeat) : Type 0 where
-  pub seat : IsSeatOf l s
-  pub gone : has v (caller_of s) ≡ None
-  pub inside : caller_of s < length v
-
 module _ (l : SharedLog) (all rest rest' : List LogSeat) (s : LogSeat) (v : View)
     (longest : List Entry)
     (seats : AreSeatsOf l all) (h : IsClosing l.callers all rest v longest)
-    (popped : rest ≡ rest' ++ s ∷ []) where
-  split_at : all ≡ rest' ++ s ∷ h.gathered
-  split_at = split_next caller_of hand_of l.callers all rest rest' h.gathered s v seats.callers
-      h.coming popped
+    (popped : rest ≡ rest' ++ s ∷ []) (u : View) (longest' : List Entry)
+    (after : u ≡ slice_set v (caller_of s) (Some (hand_of s)))
+    (longer : IsLonger longest (log_of s) longest') where
+  longest_from : (t : LogSeat) × Contains (s ∷ h.gathered) t × (log_of t ≡ longest')
+  longest_from = elim longer.same [
+    | inl first ↦ (
+      h.got.from,
+      Contains-append_right (s ∷ []) h.gathered h.got.from h.got.stands,
+      h.got.is ∙ sym first,
+    )
+    | inr second ↦ (s, (0, omega arith, refl), sym second)
+  ]
 
-  pub comes_next : IsNext l v s
-  comes_next =
+  pub more_closing : IsClosing l.callers all rest' u longest'
+  more_closing =
       record {
-        seat = All-head (IsSeatOf l) s h.gathered (All-suffix (IsSeatOf l) rest' (s ∷ h.gathered)
-            (subst (λ (ss : List LogSeat). All (IsSeatOf l) ss) split_at seats.each));
-        gone = next_gone caller_of hand_of l.callers all rest rest' h.gathered s v seats.callers
-            h.coming popped;
-        inside = next_inside caller_of hand_of l.callers all rest rest' h.gathered s v seats.callers
-            h.coming popped;
+        coming = more_coming caller_of hand_of l.callers all rest rest' s v seats.callers
+            h.coming popped u after;
+        gathered = s ∷ h.gathered;
+        split = split_back all rest rest' h.gathered s h.split popped;
+        got =
+            record {
+              most =
+                  All-cons (λ t. length (log_of t) ≤ length longest') s h.gathered longer.second
+                  (All-weaker (λ t. length (log_of t) ≤ length longest)
+                  (λ t. length (log_of t) ≤ length longest')
+                  (λ t most. let up = longer.first in omega arith) h.gathered h.got.most);
+              from = longest_from.0;
+              stands = longest_from.1;
+              is = longest_from.2;
+            };
       }
-
-  module _ (u : View) (longest' : List Entry)
-      (after : u ≡ slice_set v (caller_of s) (Some (hand_of s)))
-      (longer : IsLonger longest (log_of s) longest') where
-    longest_from : (t : LogSeat) × Contains (s ∷ h.gathered) t × (log_of t ≡ longest')
-    longest_from = elim longer.same [
-      | inl first ↦ (
-        h.got.from,
-        Contains-append_right (s ∷ []) h.gathered h.got.from h.got.stands,
-        h.got.is ∙ sym first,
-      )
-      | inr second ↦ (s, (0, omega arith, refl), sym second)
-    ]
-
-    pub more_closing : IsClosing l.callers all rest' u longest'
-    more_closing =
-        record {
-          gathered = s ∷ h.gathered;
-          coming = more_coming caller_of hand_of l.callers all rest rest' h.gathered s v
-              seats.callers h.coming popped u after;
-          got =
-              record {
-                most =
-                    All-cons (λ t. length (log_of t) ≤ length longest') s h.gathered longer.second
-                    (All-weaker (λ t. length (log_of t) ≤ length longest)
-                    (λ t. length (log_of t) ≤ length longest')
-                    (λ t most. let up = longer.first in omega arith) h.gathered h.got.most);
-                from = longest_from.0;
-                stands = longest_from.1;
-                is = longest_from.2;
-              };
-        }
 
 -- a list that passes on each of its elements has what passes at each place below its length
 at_place : (n : ℕ) (P : LogSeat → Type 0) (a : ℕ) (seats : List LogSeat) (i : ℕ) → All P seats
@@ -198,24 +179,15 @@ pub closes : (n cap id : ℕ) (v : View) (all rest : List LogSeat) (longest : Li
     → length rest ≡ 0 → Final (Seen (Ruled n cap) id v) ws homes → IsWithinCap n cap longest
     × IsOneLog longest all
 closes n cap id v all rest longest ws homes callers h none final =
-    let came : h.gathered ≡ all =
-    all_came caller_of hand_of n all rest h.gathered v h.coming none in
-    let hands : All (λ s. has v (caller_of s) ≡ Some (hand_of s)) all =
-    subst (λ (ss : List LogSeat). All (λ s. has v (caller_of s) ≡ Some (hand_of s)) ss) came
-    h.coming.hands in
+    let hands = all_hands caller_of hand_of n all rest v h.coming none in
     let got : IsLongestOf all longest =
-    subst (λ (ss : List LogSeat). IsLongestOf ss longest) came h.got in
+    subst (λ (ss : List LogSeat). IsLongestOf ss longest)
+    (split_all all rest h.gathered h.split none) h.got in
     let seen = final.1 in (
       within_closed n cap final.0.words final.0.views id v all longest seen.0 seen.1
           callers hands got,
       one_log n cap final.0.words final.0.views id v all longest seen.0 seen.1 callers hands got,
     )
-
--- the last seat is one of the log's
-pub last_seat : (l : SharedLog) (all rest : List LogSeat) (last : LogSeat) → AreSeatsOf l all
-    → all ≡ rest ++ last ∷ [] → IsSeatOf l last
-last_seat l all rest last seats is = All-head (IsSeatOf l) last [] (All-suffix (IsSeatOf l) rest
-    (last ∷ []) (subst (λ (ss : List LogSeat). All (IsSeatOf l) ss) is seats.each))
 
 -- where all seats came back, the closed table determines their one log, under the numbers that the
 -- table was given

@@ -7,16 +7,15 @@ use mathlib.Core.Option.{some}
 use lib.ListN.{get_elem?}
 use prog.Atomic.{either}
 use Rattle.atomic_table.specs.Table.{State, Me, keeps, Allows, Splits, Joins, opening}
-use Rattle.atomic_table.proofs.Lists.{set_else}
 use Rattle.book_base.specs.OperationWord.{low_of, high_of}
 use Rattle.shared_words.specs.declared.entry.Entry.{Entry}
 use Rattle.shared_words.specs.Entries.{calls_by, IsWithinCap, entry}
 use Rattle.shared_words.specs.Words.{operation_index, ticket_index, word_count}
-use Rattle.shared_words.specs.Holders as holders
-use Rattle.shared_words.specs.Holders.{has, only, AreHeld}
+use Rattle.row_table.specs.Holders.{has, only, whole, union_of}
 use Rattle.shared_words.specs.Hands.{Hand, View, hand, the, empty, next_number, HandFits}
 use Rattle.shared_words.specs.LogRule.{HaveOneLog, Ruled, Turns, Stages, Learns, Looks, Places, Reads}
-use Rattle.shared_words.proofs.Holding.{held_changed, held_parted, held_returned, held_at_start, joined_only}
+use Rattle.row_table.proofs.Holders.{held_changed, held_left, held_joined, held_at_start}
+use Rattle.shared_words.proofs.Logs.{within_none}
 use Rattle.shared_words.proofs.Keeping.{stage_stands, stage_fits, stage_others, next_entry, learnt, learn_fits, learn_tells, placed_log, place_within, place_stands, placed_is, place_fits, place_others}
 
 -- the words after a step that reads one
@@ -248,48 +247,39 @@ module _ (n cap slots id who : ℕ) (me : Me (Unit {0}) View) (h : Hand)
         },
       )
 
-  -- a caller gets a seat of its own
-  pub leaves : Splits (Ruled n cap) id me.0 (slice_set me.0 who None)
-      (only who (the (has me.0 who)))
-  leaves t r at =
-      record {
-        log = r.log;
-        stand = r.stand;
-        hands =
-            subst (λ (g : Hand). AreHeld (HandFits n cap t.words r.log)
-            (slice_set t.views id (slice_set me.0 who None) ++ only who g ∷ [])) (sym same_hand)
-            (held_parted (HandFits n cap t.words r.log) t.views id me.0 who h r.hands at here);
-      }
-
--- a caller comes to a seat that lacks it
-pub returns : (n cap id other : ℕ) (v w : View) (who : ℕ) (h : Hand) → w ≡ only who h
-    → holders.has v who ≡ None → who < length v
-    → Joins (Ruled n cap) id v other w (holders.union_of v w) []
-returns n cap id other v w who h is gone low t r at apart there' =
-    let both : holders.union_of v w ≡ slice_set v who (Some h) =
-    ap (holders.union_of v) is ∙ joined_only v who h gone low in
-    let there : get_elem? t.views other ≡ some (only who h) =
-    sym (set_else t.views id other (holders.union_of v w) apart) ∙ there' ∙ ap some is in
+-- a caller gets a seat of its own
+pub leaves : (n cap id : ℕ) (v : View) (who jw : ℕ) (h : Hand) → jw ≡ who → has v who ≡ Some h
+    → Splits (Ruled n cap) id v (slice_set v jw None) (only jw (the (has v jw)))
+leaves n cap id v who jw h is here t r at =
     record {
       log = r.log;
       stand = r.stand;
-      hands =
-          subst (λ (u : View). AreHeld (HandFits n cap t.words r.log)
-          (slice_set (slice_set t.views id u) other [])) (sym both)
-          (held_returned (HandFits n cap t.words r.log) t.views id other v who h r.hands at
-          apart there low);
+      hands = held_left (HandFits n cap t.words r.log) empty t.views id v who jw h r.hands at is
+          here;
+    }
+
+-- a caller comes to a seat that lacks it
+pub returns : (n cap id other : ℕ) (v w : View) (who : ℕ) (h : Hand) → w ≡ only who h
+    → has v who ≡ None → who < length v
+    → Joins (Ruled n cap) id v other w (union_of v w) []
+returns n cap id other v w who h is gone low t r at apart there =
+    record {
+      log = r.log;
+      stand = r.stand;
+      hands = held_joined (HandFits n cap t.words r.log) t.views id other v w who h r.hands at
+          apart there is gone low;
     }
 
 -- at the start no ticket is placed
 pub ruled_at_opening : (n cap : ℕ) (words : List ℕ) → words ≡ replicate (word_count n cap) 0
-    → Ruled n cap (opening words [] (holders.whole n empty))
+    → Ruled n cap (opening words [] (whole n empty))
 ruled_at_opening n cap words is =
     record {
       log = [];
       stand =
           record {
             count = ap length is ∙ length-replicate (word_count n cap) 0;
-            within = record { callers = λ k d low. absurd (omega arith); calls = λ i. omega arith };
+            within = within_none n cap;
             stored = λ before rest e none. absurd (let long = ap length none in
                 omega (arith, length-append before (e ∷ rest)));
             free = λ place suffix low.

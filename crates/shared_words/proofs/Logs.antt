@@ -115,6 +115,10 @@ pub All-suffix : {A : Type 0} (P : A → Type 0) (xs ys : List A) → All P (xs 
 All-suffix P [] ys h = h
 All-suffix P (x ∷ xs) ys h = All-suffix P xs ys (All-tail P x (xs ++ ys) h)
 
+-- a log with no entry is within any bounds
+pub within_none : (n cap : ℕ) → IsWithinCap n cap []
+within_none n cap = record { callers = λ k d low. absurd (omega arith); calls = λ i. omega arith }
+
 -- a prefix of a log within bounds is within them
 pub within_prefix : (n cap : ℕ) (xs ys : List Entry) → IsWithinCap n cap (xs ++ ys)
     → IsWithinCap n cap xs

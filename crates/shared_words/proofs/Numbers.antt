@@ -1,11 +1,15 @@
 -- Words of different calls and tickets lie at different places, and all lie in the table.
-use Rattle.std.proofs.Common.{◌≡◌, ◌≢◌, ℕ, ◌+◌, ◌*◌, ◌<◌, List, ◌∷◌, ◌++◌, length, ap, subst, arith}
-use Rattle.std.proofs.lemmas.Nat.{mul-add-lt, same_from_place}
+use Rattle.std.proofs.Common.{◌≡◌, ◌≢◌, ℕ, ◌+◌, ◌*◌, ◌<◌, ◌≤◌, List, ◌∷◌, ◌++◌, length, ap, subst, arith}
+use Rattle.std.proofs.lemmas.Nat.{mul-le, mul-add-lt, same_from_place}
 use Rattle.shared_words.specs.declared.entry.Entry.{Entry}
 use Rattle.shared_words.specs.Entries.{calls_by, IsWithinCap}
-use Rattle.shared_words.specs.Words.{number_of, number_after, operation_index, ticket_index}
+use Rattle.shared_words.specs.Words.{number_of, number_after, operation_index, ticket_index, word_count}
 use Rattle.shared_words.specs.Hands.{Hand, next_number}
 use Rattle.shared_words.proofs.Logs.{calls_by-at, within_at}
+
+-- a table of a log has words
+pub some_words : (n cap : ℕ) → 1 ≤ n → 1 ≤ cap → 0 < word_count n cap
+some_words n cap some few = let most = mul-le 1 1 n cap some few in omega arith
 
 pub number_low : (n cap i k : ℕ) → i < n → k < cap → number_of cap i k < n * cap
 number_low n cap i k low few = omega (arith, mul-add-lt i cap k n low few)

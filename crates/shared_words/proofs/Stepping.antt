@@ -5,18 +5,13 @@ use Rattle.std.proofs.lemmas.Option.{same_Some}
 use Rattle.std.proofs.lemmas.List.{append-nil, get_or-set_other, get_or-set_same, get_or-replicate, length-replicate}
 use Rattle.std.proofs.lemmas.List.Elements.{All-nil, All-push}
 use Rattle.atomic_table.specs.Table.{Me, keeps, Allows, opening}
-use Rattle.shared_words.specs.Holders.{has, only, whole}
-use Rattle.shared_words.proofs.Holding.{held_changed, held_at_start, only_here, only_else, only_set}
+use Rattle.row_table.specs.Holders.{has, only, whole}
+use Rattle.row_table.proofs.Holders.{held_changed, held_at_start, only_here, only_else, alone_here, changed_alone}
 use Rattle.shared_words.specs.Deeds.{Deed, place_of, leaves, HasFound}
 use Rattle.shared_words.specs.Histories.{Access, View, access, known, word_at, IsLawfulHistory, IsAfterAccess}
 use Rattle.shared_words.specs.Rule.{Knows, Ruled, Accesses}
 use Rattle.shared_words.proofs.Words.{word_at-here, accesses_leave_others}
 use Rattle.shared_words.proofs.Histories.{deeds_by-own, deeds_by-other, lawful_none, lawful_push, prefix_more}
-
--- the seat of one caller has it
-pub alone_here : (me : Me (Unit {0}) View) (who : ℕ) (h : List Access) → me ≡ (only who h, [])
-    → has me.0 who ≡ Some h
-alone_here me who h alone = ap (λ (m : Me (Unit {0}) View). has m.0 who) alone ∙ only_here who h
 
 -- A deed at a place, by the one caller that a seat has, which makes f x of the word x that it
 -- finds.
@@ -108,16 +103,13 @@ turned may who me after h deed alone t =
     let own : t.who ≡ who = only_else who t.who h t.before held in
     let before : t.before ≡ h =
     same_Some t.before h (sym held ∙ ap (has (only who h)) own ∙ only_here who h) in
-    let moved : after ≡ (only who t.next, []) =
-    t.moved ∙ (λ i. (slice_set (alone i).0 (own i) (Some t.next), (alone i).1))
-    ∙ (λ i. (only_set who h t.next i, [])) in
-    let here : known (has after.0 who) ≡ t.next =
-    ap (λ (m : Me (Unit {0}) View). known (has m.0 who)) moved ∙ ap known (only_here who t.next) in
+    let one = changed_alone [] who me after h t.next alone
+    (t.moved ∙ (λ i. (slice_set me.0 (own i) (Some t.next), me.1))) in
     record {
-      alone = moved ∙ (λ i. (only who (sym here i), []));
+      alone = one.alone;
       made = subst (λ (y : ℕ × List Access × List Access). IsAfterAccess y.0 deed y.1 y.2)
-          (λ i. (own i, before i, sym here i)) t.made;
-      lawful = subst (λ (l : List Access). IsLawfulHistory may l) (sym here) t.lawful;
+          (λ i. (own i, before i, sym one.here i)) t.made;
+      lawful = subst (λ (l : List Access). IsLawfulHistory may l) (sym one.here) t.lawful;
     }
 
 -- at the start there is no access

@@ -1,5 +1,6 @@
 -- Hands: what a caller knows of the log, and what it has stored of its next call.
-use Rattle.std.specs.Prelude.{◌≡◌, ℕ, ◌+◌, ◌<◌, ◌≤◌, List, [], length, slice_index, Option, Some, None}
+use Rattle.std.specs.Prelude.{◌≡◌, ℕ, ◌+◌, ◌<◌, ◌≤◌, List, [], length, slice_index, Option}
+use Rattle.row_table.specs.Holders.{held_or}
 use Rattle.shared_words.specs.declared.entry.Entry.{Entry}
 use Rattle.shared_words.specs.Entries.{calls_by, BeginsWith}
 use Rattle.shared_words.specs.Words.{number_of, operation_index}
@@ -26,8 +27,7 @@ empty = hand [] [] []
 
 -- The hand that is given, or the empty hand where none is.
 abbrev pub the : Option Hand → Hand
-the None = empty
-the (Some h) = h
+the = held_or empty
 
 -- The number, among the calls of all callers, of the next call of caller `i` with the hand `h`.
 abbrev pub next_number : ℕ → ℕ → Hand → ℕ

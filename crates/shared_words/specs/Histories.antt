@@ -1,6 +1,7 @@
 -- The history of all accesses to shared words: what it leaves in the words, and whose deeds it has.
-use Rattle.std.specs.Prelude.{◌≡◌, ◌≢◌, ℕ, ◌+◌, ◌%◌, ◌^◌, ◌==◌, if◌then◌else◌, List, [], ◌∷◌, ◌++◌, map, Option, Some, None}
+use Rattle.std.specs.Prelude.{◌≡◌, ◌≢◌, ℕ, ◌+◌, ◌%◌, ◌^◌, ◌==◌, if◌then◌else◌, List, [], ◌∷◌, ◌++◌, map, Option}
 use Rattle.std.specs.List.{filter}
+use Rattle.row_table.specs.Holders.{held_or}
 use Rattle.shared_words.specs.Deeds.{Deed, Added, Stored, Loaded, Swapped, place_of, leaves, HasFound}
 
 -- A deed, and the caller that made it.
@@ -55,8 +56,7 @@ View = List (Option (List Access))
 
 -- The history that a seat has of a caller, and the empty history where it has none.
 abbrev pub known : Option (List Access) → List Access
-known None = []
-known (Some history) = history
+known = held_or []
 
 -- After an addition a word is the sum modulo 2^64, after a store or a swap it is the word that was
 -- put in, and a load doesn't change it.

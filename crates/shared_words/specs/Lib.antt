@@ -1,6 +1,5 @@
 pub mod Entries
 pub mod Words
-pub mod Holders
 pub mod Hands
 pub mod LogRule
 pub mod Seats

@@ -5,7 +5,7 @@ use Rattle.book_base.specs.OperationWord.{low_of, high_of}
 use Rattle.shared_words.specs.declared.entry.Entry.{Entry}
 use Rattle.shared_words.specs.Entries.{calls_by, entry, IsWithinCap}
 use Rattle.shared_words.specs.Words.{number_after, operation_index, AreWordsOf, MayHaveTried}
-use Rattle.shared_words.specs.Holders.{has, AreHeld}
+use Rattle.row_table.specs.Holders.{has, AreHeld}
 use Rattle.shared_words.specs.Hands.{Hand, View, hand, the, HandFits}
 
 -- There is one log, and the words of the table are its words. At most one seat has the hand of a

@@ -1,7 +1,7 @@
 -- Seats and passes of shared words: their callers, and what they know.
 use Rattle.std.specs.Prelude.{◌≡◌, ℕ, ◌<◌, ◌≤◌, List, [], length, All, vec_capacity}
 use mathlib.Core.List.{IsPrefix}
-use Rattle.shared_words.specs.Holders.{has}
+use Rattle.row_table.specs.Holders.{has}
 use Rattle.shared_words.specs.declared.shared_words.SharedWords.{SharedWords}
 use Rattle.shared_words.specs.declared.word_seat.WordSeat.{WordSeat}
 use Rattle.shared_words.specs.declared.words_pass.WordsPass.{WordsPass}

@@ -2,7 +2,7 @@
 use Rattle.std.specs.Prelude.{◌≡◌, ℕ, ◌<◌, List, length, slice_index, slice_set, All, Some}
 use mathlib.Core.List.{IsPrefix}
 use Rattle.atomic_table.specs.Table.{State, Me}
-use Rattle.shared_words.specs.Holders.{has, AreHeld}
+use Rattle.row_table.specs.Holders.{has, AreHeld}
 use Rattle.shared_words.specs.Deeds.{Deed}
 use Rattle.shared_words.specs.Histories.{Access, View, deeds_by, word_at, IsLawfulHistory, IsAfterAccess}
 

@@ -7,7 +7,7 @@ use Rattle.shared_words.specs.declared.seat.LogSeat.{LogSeat}
 use Rattle.shared_words.specs.declared.shared_log.SharedLog.{SharedLog}
 use Rattle.shared_words.specs.Entries.{calls_by, BeginsWith, IsWithinCap, IsAfterCall}
 use Rattle.shared_words.specs.Words.{HasTried}
-use Rattle.shared_words.specs.Holders.{has}
+use Rattle.row_table.specs.Holders.{has}
 use Rattle.shared_words.specs.Hands.{Hand, the}
 
 -- The hand that the seat of one caller has of this caller.

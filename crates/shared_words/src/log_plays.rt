@@ -1,23 +1,27 @@
 //! The rule of a log's table, and how each kind of step changes the hand of its caller. These types
 //! are for the proofs alone.
-ghost use Rattle.std.specs.Prelude.{ℕ, [], None, slice_set};
-ghost use Rattle.shared_words.specs.Holders.{has, only, whole, union_of};
-ghost use Rattle.shared_words.specs.Hands.{the, empty};
+ghost use Rattle.std.specs.Prelude.{ℕ};
+ghost use Rattle.row_table.specs.Holders.{whole};
+ghost use Rattle.shared_words.specs.Hands.{empty};
 ghost use Rattle.shared_words.specs.LogRule.{Ruled, Turns, Stages, Looks, Places, Reads};
 
-use atomic_table::{Join, Play, Split, TableRule};
+use atomic_table::{Play, TableRule};
+use row_table::{Held, Holding};
 use std::marker::{Brand, Model, PhantomData};
 
-/// What a seat knows: the hands of the callers that are with it. No value of this type is made.
-pub struct Holding;
+/// What a seat holds of a caller: its hand. No value of this type is made.
+pub struct Hands;
 
-impl Model for Holding {
-    ghost use Rattle.std.specs.Prelude.{[]};
-    ghost use Rattle.shared_words.specs.Hands.{View};
+impl Model for Hands {
+    ghost use Rattle.shared_words.specs.Hands.{Hand, empty};
 
-    ghost Value = { View };
+    ghost Value = { Hand };
 
-    ghost view = { λ _. [] };
+    ghost view = { λ _. empty };
+}
+
+impl Holding for Hands {
+    ghost start = { empty };
 }
 
 /// What the table is told once: how many callers it has, and how many calls each of them may make.
@@ -30,7 +34,7 @@ pub struct Key {
 /// The rule of the table: its words and the hands of its callers have one log.
 pub struct OneLog;
 
-impl TableRule<(), Holding, Key> for OneLog {
+impl TableRule<(), Held<Hands>, Key> for OneLog {
     ghost holds = { λ key. Ruled key.callers key.cap };
 
     ghost first = { λ key. whole key.callers empty };
@@ -38,7 +42,7 @@ impl TableRule<(), Holding, Key> for OneLog {
 
 /// The number of callers of a log, the cap on the calls of each, and which caller makes a step. A
 /// function that passes `Brand` for this type chooses these numbers in its proof.
-pub trait Part {
+pub trait LogStep {
     ghost callers: { ℕ };
 
     ghost cap: { ℕ };
@@ -46,7 +50,7 @@ pub trait Part {
     ghost who: { ℕ };
 }
 
-impl Part for Brand {
+impl LogStep for Brand {
     ghost callers = { 0 };
 
     ghost cap = { 0 };
@@ -59,7 +63,7 @@ pub struct Stage<J> {
     part: PhantomData<J>,
 }
 
-impl<J: Part> Play<(), Holding> for Stage<J> {
+impl<J: LogStep> Play<(), Held<Hands>> for Stage<J> {
     ghost then = { λ st me _ after. Turns J.who me after (Stages st.first) };
 }
 
@@ -68,7 +72,7 @@ pub struct Look<J> {
     part: PhantomData<J>,
 }
 
-impl<J: Part> Play<(), Holding> for Look<J> {
+impl<J: LogStep> Play<(), Held<Hands>> for Look<J> {
     ghost then = { λ st me found after. Turns J.who me after (Looks J.callers J.cap J.who found) };
 }
 
@@ -78,7 +82,7 @@ pub struct Place<J> {
     part: PhantomData<J>,
 }
 
-impl<J: Part> Play<(), Holding> for Place<J> {
+impl<J: LogStep> Play<(), Held<Hands>> for Place<J> {
     ghost then = { λ st me found after. Turns J.who me after (Places J.callers J.cap J.who st.word found) };
 }
 
@@ -87,26 +91,6 @@ pub struct Read<J> {
     part: PhantomData<J>,
 }
 
-impl<J: Part> Play<(), Holding> for Read<J> {
+impl<J: LogStep> Play<(), Held<Hands>> for Read<J> {
     ghost then = { λ st me found after. Turns J.who me after (Reads J.cap st.word found) };
-}
-
-/// The step by which one caller gets a seat of its own.
-pub struct Leaves<J> {
-    part: PhantomData<J>,
-}
-
-impl<J: Part> Split<Holding> for Leaves<J> {
-    ghost left = { λ v. slice_set v J.who None };
-
-    ghost right = { λ v. only J.who (the (has v J.who)) };
-}
-
-/// The step by which a seat takes over the callers of another seat, whose view is empty afterwards.
-pub struct Returns;
-
-impl Join<Holding> for Returns {
-    ghost both = { union_of };
-
-    ghost spent = { [] };
 }

@@ -1,26 +1,30 @@
 //! The rule of the table of shared words, and what a seat learns by its steps. These types are for
 //! the proofs alone.
-ghost use Rattle.std.specs.Prelude.{ℕ, [], None, slice_set};
-ghost use Rattle.shared_words.specs.Holders.{has, only, whole, union_of};
+ghost use Rattle.std.specs.Prelude.{[]};
+ghost use Rattle.row_table.specs.Holders.{whole};
 ghost use Rattle.shared_words.specs.Deeds as deeds;
-ghost use Rattle.shared_words.specs.Histories.{known};
 ghost use Rattle.shared_words.specs.Rule.{Ruled, Accesses};
 
 use crate::usage::Usage;
-use atomic_table::{Join, Play, Split, TableRule};
-use std::marker::{Brand, Model, PhantomData};
+use atomic_table::{Play, TableRule};
+use row_table::{Held, Holding};
+use std::marker::{Model, PhantomData};
 
-/// What a seat knows: the history up to the last access of each caller that is with it. No value of
-/// this type is made.
-pub struct Knowing;
+/// What a seat holds of a caller: the history up to the caller's last access. No value of this type
+/// is made.
+pub struct Histories;
 
-impl Model for Knowing {
-    ghost use Rattle.std.specs.Prelude.{[]};
-    ghost use Rattle.shared_words.specs.Histories.{View};
+impl Model for Histories {
+    ghost use Rattle.std.specs.Prelude.{List, []};
+    ghost use Rattle.shared_words.specs.Histories.{Access};
 
-    ghost Value = { View };
+    ghost Value = { List Access };
 
     ghost view = { λ _. [] };
+}
+
+impl Holding for Histories {
+    ghost start = { [] };
 }
 
 /// What the table is told once: how many callers and how many words it has.
@@ -35,7 +39,7 @@ pub struct OneHistory<U> {
     usage: PhantomData<U>,
 }
 
-impl<U: Usage> TableRule<(), Knowing, Key> for OneHistory<U> {
+impl<U: Usage> TableRule<(), Held<Histories>, Key> for OneHistory<U> {
     ghost holds = { λ key. Ruled U.may key.callers key.count };
 
     ghost first = { λ key. whole key.callers [] };
@@ -46,7 +50,7 @@ pub struct Adds<U> {
     usage: PhantomData<U>,
 }
 
-impl<U: Usage> Play<(), Knowing> for Adds<U> {
+impl<U: Usage> Play<(), Held<Histories>> for Adds<U> {
     ghost then = { λ st me found after.
         Accesses U.may me after (deeds.Added st.word st.first found) };
 }
@@ -56,7 +60,7 @@ pub struct Stores<U> {
     usage: PhantomData<U>,
 }
 
-impl<U: Usage> Play<(), Knowing> for Stores<U> {
+impl<U: Usage> Play<(), Held<Histories>> for Stores<U> {
     ghost then = { λ st me _ after. Accesses U.may me after (deeds.Stored st.word st.first) };
 }
 
@@ -65,7 +69,7 @@ pub struct Loads<U> {
     usage: PhantomData<U>,
 }
 
-impl<U: Usage> Play<(), Knowing> for Loads<U> {
+impl<U: Usage> Play<(), Held<Histories>> for Loads<U> {
     ghost then = { λ st me found after. Accesses U.may me after (deeds.Loaded st.word found) };
 }
 
@@ -74,37 +78,7 @@ pub struct Swaps<U> {
     usage: PhantomData<U>,
 }
 
-impl<U: Usage> Play<(), Knowing> for Swaps<U> {
+impl<U: Usage> Play<(), Held<Histories>> for Swaps<U> {
     ghost then = { λ st me found after.
         Accesses U.may me after (deeds.Swapped st.word st.first found) };
-}
-
-/// Which caller gets a seat of its own. A function that passes `Brand` for this type chooses the
-/// caller in its proof.
-pub trait Part {
-    ghost who: { ℕ };
-}
-
-impl Part for Brand {
-    ghost who = { 0 };
-}
-
-/// The step by which one caller gets a seat of its own.
-pub struct Leaves<J> {
-    part: PhantomData<J>,
-}
-
-impl<J: Part> Split<Knowing> for Leaves<J> {
-    ghost left = { λ v. slice_set v J.who None };
-
-    ghost right = { λ v. only J.who (known (has v J.who)) };
-}
-
-/// The step by which a seat takes over the callers of another seat, whose view is empty afterwards.
-pub struct Returns;
-
-impl Join<Knowing> for Returns {
-    ghost both = { union_of };
-
-    ghost spent = { [] };
 }

@@ -1,16 +1,17 @@
 ghost use Rattle.std.specs.Prelude.{◌≡◌, ℕ, ◌<◌, [], length};
 ghost use Rattle.shared_words.specs.Entries.{calls_by};
-ghost use Rattle.shared_words.specs.Holders.{has, only};
+ghost use Rattle.row_table.specs.Holders.{has, only};
 ghost use Rattle.shared_words.specs.Hands.{the};
 
 use crate::entry::Entry;
-use crate::log_plays::Holding;
+use crate::log_plays::Hands;
 use atomic_table::Seat;
+use row_table::Held;
 
 /// The seat of one caller, with the hand of this caller alone.
 pub struct OneSeat {
     pub who: u32,
-    pub seat: Seat<(), Holding>,
+    pub seat: Seat<(), Held<Hands>>,
     ghost alone: { seat.me ≡ (only who (the (has seat.me.0 who)), []) },
 }
 

@@ -3,16 +3,17 @@ ghost use Rattle.book_base.specs.declared.TheConstants.{MAX_CALLERS, MAX_CALLS};
 ghost use Rattle.book_base.specs.OperationWord.{low_of, high_of};
 ghost use Rattle.shared_words.specs.Entries.{calls_by, IsWithinCap, IsAfterCall, IsLonger};
 ghost use Rattle.shared_words.specs.Words as words;
-ghost use Rattle.shared_words.specs.Holders.{has, whole};
+ghost use Rattle.row_table.specs.Holders.{has, whole};
 ghost use Rattle.shared_words.specs.Hands as hands;
 
 use crate::entry::Entry;
 use crate::layout::{number, place_count};
-use crate::log_plays::{Holding, Key, Leaves, OneLog, Part, Returns};
+use crate::log_plays::{Hands, Key, OneLog};
 use crate::seat::{LogSeat, OneSeat};
 use crate::seated::Seated;
 use atomic_table::{Seat, Table};
 use book_base::{MAX_CALLERS, MAX_CALLS, NoMemory, OpWord};
+use row_table::{Held, Leaves, Part, Returns};
 use std::alloc::{AllocError, Global};
 use std::marker::Brand;
 
@@ -22,7 +23,7 @@ use std::marker::Brand;
 /// log. So the log is one order of all calls, whatever the threads do. No call locks or waits, and
 /// only `open` takes memory.
 pub struct SharedLog {
-    pub(crate) table: Table<(), Holding, Key, OneLog, Global>,
+    pub(crate) table: Table<(), Held<Hands>, Key, OneLog, Global>,
     pub(crate) callers: u32,
     pub(crate) cap: u64,
     ghost sized: { (table.shared.table_id.words ≡ words.word_count callers cap)
@@ -128,7 +129,7 @@ impl SharedLog {
     }
 
     // Gives a caller a seat of its own.
-    fn leave_as<J: Part>(&self, seat: &mut Seat<(), Holding>, who: u32) -> OneSeat
+    fn leave_as<J: Part>(&self, seat: &mut Seat<(), Held<Hands>>, who: u32) -> OneSeat
         requires who { J.who ≡ who }
         requires seat { seat.old.table_id ≡ self.now.table.shared.table_id }
         requires here { has seat.old.me.0 who ≡ Some hands.empty }
@@ -144,7 +145,7 @@ impl SharedLog {
     // Gives each caller a seat of its own, with an empty log.
     fn deal(
         &self,
-        mut seat: Seat<(), Holding>,
+        mut seat: Seat<(), Held<Hands>>,
         mut logs: Vec<Vec<Entry>>,
         mut seats: Vec<LogSeat>,
     ) -> Vec<LogSeat>
@@ -210,7 +211,7 @@ impl SharedLog {
     // seat's log and `longest`.
     fn take_in(
         &self,
-        keeper: &mut Seat<(), Holding>,
+        keeper: &mut Seat<(), Held<Hands>>,
         longest: Vec<Entry>,
         seat: LogSeat,
     ) -> Vec<Entry>

@@ -3,16 +3,17 @@
 ghost use Rattle.std.specs.Prelude.{◌≡◌, ℕ, ◌<◌, ◌≤◌, [], ◌∷◌, ◌++◌, List, None, Some, IfOk, All, map, length, vec_len, vec_capacity, slice_set};
 ghost use Rattle.std.specs.List.{range_with_len};
 ghost use Rattle.book_base.specs.declared.TheConstants.{MAX_CALLERS, MAX_CALLS};
-ghost use Rattle.shared_words.specs.Holders.{has, whole};
+ghost use Rattle.row_table.specs.Holders.{has, whole};
 ghost use Rattle.shared_words.specs.Deeds as deeds;
 ghost use Rattle.shared_words.specs.Histories.{Access, IsAfterAccess};
 
-use crate::plays::{Adds, Key, Knowing, Leaves, Loads, OneHistory, Part, Returns, Stores, Swaps};
+use crate::plays::{Adds, Histories, Key, Loads, OneHistory, Stores, Swaps};
 use crate::usage::Usage;
 use crate::word_seat::WordSeat;
 use crate::words_pass::WordsPass;
 use atomic_table::{Seat, Table};
 use book_base::{MAX_CALLERS, MAX_CALLS, NoMemory, OpWord};
+use row_table::{Held, Leaves, Part, Returns};
 use std::alloc::{AllocError, Global};
 use std::marker::Brand;
 
@@ -22,7 +23,7 @@ use std::marker::Brand;
 /// do: each access found the word that those before it leave.
 #[derive(Drop)]
 pub struct SharedWords<U: Usage> {
-    pub(crate) table: Table<(), Knowing, Key, OneHistory<U>, Global>,
+    pub(crate) table: Table<(), Held<Histories>, Key, OneHistory<U>, Global>,
     pub(crate) callers: u32,
     pub(crate) cap: u64,
     ghost sized: { (0 < table.shared.table_id.words) × (table.shared.table_id.slots ≡ 0)
@@ -170,7 +171,7 @@ impl<U: Usage> SharedWords<U> {
     }
 
     // Gives a caller a seat of its own.
-    fn leave_as<J: Part>(&self, seat: &mut Seat<(), Knowing>, who: u32) -> WordSeat
+    fn leave_as<J: Part>(&self, seat: &mut Seat<(), Held<Histories>>, who: u32) -> WordSeat
         requires who { J.who ≡ who }
         requires seat { seat.old.table_id ≡ self.now.table.shared.table_id }
         requires here { has seat.old.me.0 who ≡ Some [] }
@@ -186,7 +187,7 @@ impl<U: Usage> SharedWords<U> {
     // Makes a pass for each caller, with a seat of its own.
     fn deal(
         &self,
-        mut seat: Seat<(), Knowing>,
+        mut seat: Seat<(), Held<Histories>>,
         mut rooms: Vec<Vec<(OpWord, u64)>>,
         mut passes: Vec<WordsPass>,
     ) -> Vec<WordsPass>
@@ -251,7 +252,7 @@ impl<U: Usage> SharedWords<U> {
     }
 
     // Takes back the seat of a pass: what it knew goes to the seat `keeper`.
-    fn take_in(&self, keeper: &mut Seat<(), Knowing>, pass: WordsPass)
+    fn take_in(&self, keeper: &mut Seat<(), Held<Histories>>, pass: WordsPass)
         requires keeper { keeper.old.table_id ≡ self.now.table.shared.table_id }
         requires seat { IsSeatOf U.may self.now (seat_in pass) }
         requires gone { has keeper.old.me.0 (caller_of_pass pass) ≡ None }

@@ -9,7 +9,7 @@ ghost use Rattle.shared_words.specs.LogRule.{Stages, Looks, Places, Tries, Reads
 
 use crate::entry::Entry;
 use crate::layout::place_count;
-use crate::log_plays::{Look, Part, Place, Read, Stage};
+use crate::log_plays::{LogStep, Look, Place, Read, Stage};
 use crate::seat::OneSeat;
 use crate::shared_log::SharedLog;
 use book_base::{OpWord, high, join, low};
@@ -19,7 +19,7 @@ impl SharedLog {
     ghost use Rattle.shared_words.specs.Seats.{hand_with, IsPlaced};
 
     // Stores one more word of the caller's next operation.
-    fn stage_as<J: Part>(&self, seat: &mut OneSeat, index: usize, word: u64)
+    fn stage_as<J: LogStep>(&self, seat: &mut OneSeat, index: usize, word: u64)
         requires seat { IsPlaced self.now seat.old }
         requires part { (J.callers ≡ self.now.callers) × (J.cap ≡ self.now.cap)
             × (J.who ≡ seat.old.who) }
@@ -37,7 +37,7 @@ impl SharedLog {
     }
 
     // Loads the ticket at the first place of the log that the caller doesn't know.
-    fn look_as<J: Part>(&self, seat: &mut OneSeat, index: usize) -> u64
+    fn look_as<J: LogStep>(&self, seat: &mut OneSeat, index: usize) -> u64
         requires seat { IsPlaced self.now seat.old }
         requires part { (J.callers ≡ self.now.callers) × (J.cap ≡ self.now.cap)
             × (J.who ≡ seat.old.who) }
@@ -54,7 +54,7 @@ impl SharedLog {
     // Puts the ticket of the caller's next call at the first place of the log that the caller
     // doesn't know, where this place is free. Returns the ticket that was found there: 0 for a free
     // place.
-    fn place_as<J: Part>(&self, seat: &mut OneSeat, index: usize, ticket: u64, op: OpWord) -> u64
+    fn place_as<J: LogStep>(&self, seat: &mut OneSeat, index: usize, ticket: u64, op: OpWord) -> u64
         requires seat { IsPlaced self.now seat.old }
         requires part { (J.callers ≡ self.now.callers) × (J.cap ≡ self.now.cap)
             × (J.who ≡ seat.old.who) }
@@ -75,7 +75,7 @@ impl SharedLog {
     }
 
     // Loads a word of the operation of a call.
-    fn read_as<J: Part>(&self, seat: &mut OneSeat, index: usize) -> u64
+    fn read_as<J: LogStep>(&self, seat: &mut OneSeat, index: usize) -> u64
         requires seat { IsPlaced self.now seat.old }
         requires part { (J.callers ≡ self.now.callers) × (J.cap ≡ self.now.cap)
             × (J.who ≡ seat.old.who) }

@@ -2,9 +2,10 @@ use Rattle.std.proofs.Common.{rules, refl, sym, ap, ◌∙◌, arith, length, le
 use Rattle.row_table.specs.declared.bench.Kept.{Kept}
 use Rattle.row_table.specs.Seats.{View}
 use Rattle.row_table.specs.Callers.{local_with}
+use Rattle.row_table.proofs.Holders.{joined_with}
 use Rattle.row_table.proofs.Parting.{comes_back}
 use Rattle.row_table.proofs.Benching.{places_wide}
-use Rattle.row_table.proofs.Moving.{joined_with, back_tied, back_here, back_else}
+use Rattle.row_table.proofs.Moving.{back_tied, back_here, back_else}
 use Rattle.row_table.proofs.rows.Rows.back.Goals as goal
 
 pub index_mut-requires : goal.index_mut-requires

@@ -1,5 +1,6 @@
 use Rattle.std.proofs.Common.{rules, refl}
-use Rattle.row_table.proofs.Deeds.{key_told, alone_here, does_as, told_as}
+use Rattle.row_table.proofs.Holders.{alone_here}
+use Rattle.row_table.proofs.Deeds.{key_told, does_as, told_as}
 use Rattle.row_table.proofs.rows.Rows.load_as.Goals as goal
 
 pub load-requires : goal.load-requires
@@ -8,7 +9,7 @@ load-requires g c =
       search rules,
       search rules,
       does_as g.P.Program.meaning _ _ _ (key_told c.args.self.now) d.0 _ _ _ _ _ _ _ d.1 d.2 _ _
-          (alone_here _ _ c.args.seat.now.alone) _ c.requires.makes,
+          (alone_here _ _ _ c.args.seat.now.alone) _ c.requires.makes,
     )
 
 pub returns-clause-seat : goal.returns-clause-seat

@@ -2,7 +2,8 @@ use Rattle.std.proofs.Common.{◌≡◌, ◌+◌, List, Option, rules, refl, sym
 use Rattle.std.proofs.lemmas.List.{length-replicate}
 use Rattle.world_core.specs.Local.{fresh}
 use Rattle.row_table.specs.declared.bench.Kept.{Kept}
-use Rattle.row_table.specs.Seats.{View, Together, whole}
+use Rattle.row_table.specs.Holders.{whole}
+use Rattle.row_table.specs.Seats.{View, Together}
 use Rattle.row_table.specs.Notes.{notes_from}
 use Rattle.row_table.specs.Benches.{kept_notes}
 use Rattle.row_table.proofs.Parting.{ruled_at_opening, together_at_start}
@@ -19,7 +20,7 @@ of_words-requires g c =
 
 pub invariant_of-bench : goal.invariant_of-bench
 invariant_of-bench g c =
-    let view : c.in_ok-table.seat.me.0 ≡ whole c.args.n = ap (λ m. m.0) c.in_ok-table.ensures.4 in
+    let view : c.in_ok-table.seat.me.0 ≡ whole c.args.n fresh = ap (λ m. m.0) c.in_ok-table.ensures.4 in
     record {
       quiet = search rules;
       tied =
@@ -30,7 +31,7 @@ invariant_of-bench g c =
 
 pub returns-clause-bench : goal.returns-clause-bench
 returns-clause-bench g c =
-    let view : c.in_ok-table.seat.me.0 ≡ whole c.args.n = ap (λ m. m.0) c.in_ok-table.ensures.4 in
+    let view : c.in_ok-table.seat.me.0 ≡ whole c.args.n fresh = ap (λ m. m.0) c.in_ok-table.ensures.4 in
     record {
       table = search rules;
       callers = refl;

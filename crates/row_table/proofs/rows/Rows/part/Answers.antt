@@ -4,7 +4,7 @@ use Rattle.std.proofs.lemmas.Option.{same_Some}
 use Rattle.world_core.specs.Local.{Local, IsIdle}
 use Rattle.row_table.specs.Benches.{fresh_stance}
 use Rattle.row_table.specs.Callers.{seated, kept_stance, shape_of}
-use Rattle.row_table.proofs.Keeping.{inside}
+use Rattle.row_table.proofs.Holders.{inside}
 use Rattle.row_table.proofs.Parting.{together_but}
 use Rattle.row_table.proofs.Moving.{place_low, place_found, place_kept, kept_local, left_local, left_notes, left_reached, left_tied}
 use Rattle.row_table.proofs.rows.Rows.part.Goals as goal

@@ -1,12 +1,12 @@
 use Rattle.std.proofs.Common.{◌≡◌, ℕ, ◌+◌, ◌*◌, ◌<◌, ◌≤◌, [], Some, map, vec_len, vec_capacity}
 use Rattle.std.specs.List.{All, range_with_len}
-use Rattle.shared_words.specs.Holders.{has}
+use Rattle.row_table.specs.Holders.{has}
 use Rattle.shared_words.specs.Hands.{empty}
 use Rattle.shared_words.specs.Seats.{caller_of, log_of, IsSeatOf}
 use Rattle.shared_words.proofs.shared_log.SharedLog.deal.Given as goal
 
 abbrev pub ghosts-leave_as : goal.ghosts-leave_as
-ghosts-leave_as a = record { callers = a.self.now.callers; cap = a.self.now.cap; who = a.who }
+ghosts-leave_as a = record { who = a.who }
 
 abbrev pub invariant-loop-who : goal.invariant-loop-who
 invariant-loop-who l =

@@ -1,5 +1,6 @@
 use Rattle.std.proofs.Common.{sym, subst, ◌<◌}
-use Rattle.shared_words.proofs.LogParting.{some_words, leave_asks}
+use Rattle.shared_words.proofs.Numbers.{some_words}
+use Rattle.shared_words.proofs.LogStepping.{leaves}
 use Rattle.shared_words.proofs.shared_log.SharedLog.leave_as.Goals as goal
 
 pub split_seat-seat-requires : goal.split_seat-seat-requires
@@ -7,5 +8,5 @@ split_seat-seat-requires g c =
     let l = c.args.self.now in (
       c.requires.seat,
       subst (λ n. 0 < n) (sym l.sized.0) (some_words l.callers l.cap l.few.0 l.few.2),
-      leave_asks _ _ _ _ _ c.args.seat.now.me _ c.requires.who c.requires.here,
+      leaves _ _ _ _ _ _ _ c.requires.who c.requires.here,
     )

@@ -1,5 +1,8 @@
-use Rattle.std.proofs.Common.{◌<◌, refl, ap, sym, subst, rules}
-use Rattle.shared_words.proofs.LogParting.{some_words, return_asks, returned}
+use Rattle.std.proofs.Common.{◌<◌, ap, sym, subst, rules}
+use Rattle.row_table.proofs.Holders.{joined_with}
+use Rattle.shared_words.specs.Seats.{hand_with}
+use Rattle.shared_words.proofs.Numbers.{some_words}
+use Rattle.shared_words.proofs.LogStepping.{returns}
 use Rattle.shared_words.proofs.shared_log.SharedLog.take_in.Goals as goal
 
 pub join_seat-requires : goal.join_seat-requires
@@ -10,13 +13,14 @@ join_seat-requires c =
       c.requires.seat.placed.table,
       search rules,
       subst (λ n. 0 < n) (sym l.sized.0) (some_words l.callers l.cap l.few.0 l.few.2),
-      return_asks _ _ _ _ s.who _ s.seat.me _ s.alone refl c.requires.gone c.requires.wide,
+      returns _ _ _ _ _ _ s.who (hand_with s) (ap (λ m. m.0) s.alone) c.requires.gone
+          c.requires.wide,
     )
 
 pub returns-clause-keeper : goal.returns-clause-keeper
 returns-clause-keeper c =
     let s = c.args.seat.seat in (
       c.join_seat.ensures.0,
-      returned s.who _ s.seat.me c.join_seat.new.seat.me _ s.alone refl c.requires.gone
-          c.requires.wide (ap (λ m. m.0) c.join_seat.ensures.2),
+      joined_with _ s.seat.me.0 _ s.who (hand_with s) (ap (λ m. m.0) c.join_seat.ensures.2)
+          (ap (λ m. m.0) s.alone) c.requires.gone c.requires.wide,
     )

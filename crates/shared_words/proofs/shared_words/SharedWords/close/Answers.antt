@@ -1,5 +1,8 @@
-use Rattle.std.proofs.Common.{◌≡◌, length, [], arith, ◌∙◌}
-use Rattle.shared_words.proofs.Closing.{starts_closing, seat_among, next_seat, is_gone, is_inside, more_closing, closed, closed_without}
+use Rattle.std.proofs.Common.{◌≡◌, length, Some, arith, ap, ◌∙◌}
+use Rattle.std.proofs.lemmas.List.Elements.{All-pop}
+use Rattle.shared_words.specs.Passes.{seat_in, caller_of_pass, history_in, IsSeatOf}
+use Rattle.shared_words.proofs.Coming.{starts_coming, comes_next, more_coming}
+use Rattle.shared_words.proofs.Closing.{closed, closed_without}
 use Rattle.shared_words.proofs.shared_words.SharedWords.close.Goals as goal
 
 pub returns-in_default : goal.returns-in_default
@@ -9,35 +12,28 @@ returns-in_default g c =
 
 pub loop-pass-init : goal.loop-pass-init
 loop-pass-init g c =
+    let is = c.in-Some.ensures.items in
     record {
-      table = (seat_among g.U.Usage.may c.args.self _ [] c.pop.new.self.items c.in-Some.last
-          c.requires.seats [] c.in-Some.ensures.items).table;
-      closing = starts_closing _ _ _ c.in-Some.last c.in-Some.ensures.items c.requires.callers;
+      table = (All-pop (λ p. IsSeatOf g.U.Usage.may c.args.self (seat_in p)) _ _
+          (Some c.in-Some.last) is c.requires.seats).1.table;
+      coming = starts_coming caller_of_pass history_in _ _ _ c.in-Some.last _ is c.requires.callers
+          (ap (λ m. m.0) c.in-Some.last.seat.alone);
     }
 
-pub take_in-requires-clause-seat : goal.take_in-requires-clause-seat
-take_in-requires-clause-seat g c =
-    next_seat g.U.Usage.may c.args.self _ _ _ c.in-Some-pop.pass c.requires.seats _
-    c.requires.callers c.loop-pass.invariant.closing c.in-Some-pop.ensures.items
-
-pub take_in-requires-clause-gone : goal.take_in-requires-clause-gone
-take_in-requires-clause-gone g c =
-    is_gone g.U.Usage.may c.args.self _ _ _ c.in-Some-pop.pass c.requires.seats _ c.requires.callers
-    c.loop-pass.invariant.closing c.in-Some-pop.ensures.items
-
-pub take_in-requires-clause-wide : goal.take_in-requires-clause-wide
-take_in-requires-clause-wide g c =
-    is_inside g.U.Usage.may c.args.self _ _ _ c.in-Some-pop.pass c.requires.seats _
-    c.requires.callers c.loop-pass.invariant.closing c.in-Some-pop.ensures.items
+pub take_in-requires : goal.take_in-requires
+take_in-requires g c =
+    let k = c.loop-pass.invariant in
+    let next = comes_next caller_of_pass history_in _ _ _ _ c.in-Some-pop.pass _ c.requires.callers
+    k.coming c.in-Some-pop.ensures.items (λ p. IsSeatOf g.U.Usage.may c.args.self (seat_in p))
+    c.requires.seats in
+    record { keeper = k.table; seat = next.seat; gone = next.gone; wide = next.inside }
 
 pub loop-pass-preserved : goal.loop-pass-preserved
 loop-pass-preserved g c =
     record {
       table = c.take_in.ensures.table ∙ c.loop-pass.invariant.table;
-      closing =
-          more_closing g.U.Usage.may c.args.self _ _ _ c.in-Some-pop.pass c.requires.seats _
-          c.requires.callers c.loop-pass.invariant.closing c.in-Some-pop.ensures.items _
-          c.take_in.ensures.keeper;
+      coming = more_coming caller_of_pass history_in _ _ _ _ c.in-Some-pop.pass _ c.requires.callers
+          c.loop-pass.invariant.coming c.in-Some-pop.ensures.items _ c.take_in.ensures.keeper;
     }
 
 pub returns : goal.returns
@@ -45,6 +41,6 @@ returns g c =
     let none = c.in_default-pop.ensures.cases.0 in
     let gone : length c.loop-pass.passes.items ≡ 0 = omega arith in
     record {
-      history = closed g.U.Usage.may c.args.self _ _ _ _ _ _ c.loop-pass.invariant.closing gone
+      history = closed g.U.Usage.may c.args.self _ _ _ _ _ _ c.loop-pass.invariant.coming gone
           c.close_with.ensures.values.2;
     }

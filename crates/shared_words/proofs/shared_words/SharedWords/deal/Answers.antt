@@ -1,7 +1,8 @@
 use Rattle.std.proofs.Common.{◌≡◌, ◌+◌, ◌<◌, ◌≤◌, [], arith, ◌∙◌, refl, sym, subst, Some, vec_len, vec_capacity}
 use Rattle.std.proofs.lemmas.Bool.{cond-true}
 use Rattle.std.proofs.lemmas.List.Elements.{All-pop}
-use Rattle.shared_words.proofs.Parting.{left_others}
+use Rattle.row_table.proofs.Holders.{left_others}
+use Rattle.shared_words.specs.Passes.{caller_of_pass, IsNewPass}
 use Rattle.shared_words.proofs.Dealing.{one_dealt}
 use Rattle.shared_words.proofs.shared_words.SharedWords.deal.Goals as goal
 
@@ -28,12 +29,12 @@ loop-caller-preserved g c =
     let own = c.leave_as-own.ensures.caller in
     record {
       table = c.leave_as-own.ensures.seat.0 ∙ k.table;
-      left = left_others w.callers c.loop-caller.caller _ _ k.left c.leave_as-own.ensures.seat.1;
+      left = left_others w.callers c.loop-caller.caller _ _ _ k.left c.leave_as-own.ensures.seat.1;
       rooms = left;
       clear = rooms.0;
       count = count';
       dealt =
-          one_dealt w c.loop-caller.caller c.loop-caller.passes.items c.push.new.self.items _ _
+          one_dealt caller_of_pass (IsNewPass w) c.loop-caller.caller c.loop-caller.passes.items c.push.new.self.items _ _
           k.dealt c.push.ensures.items ok own.0
           (record {
             table = own.1 ∙ k.table;

@@ -1,6 +1,7 @@
 use Rattle.std.proofs.Common.{◌≡◌, ℕ, ◌+◌, ◌<◌, ◌≤◌, [], Some, vec_len, vec_capacity}
 use Rattle.std.specs.List.{All}
-use Rattle.shared_words.specs.Holders.{has}
+use Rattle.row_table.specs.Holders.{has}
+use Rattle.shared_words.specs.Passes.{caller_of_pass, IsNewPass}
 use Rattle.shared_words.proofs.Dealing.{AreDealt}
 use Rattle.shared_words.proofs.shared_words.SharedWords.deal.Given as goal
 
@@ -15,6 +16,6 @@ invariant-loop-caller g l =
       rooms : vec_len l.rooms + l.caller ≡ l.self.callers;
       clear : All (λ pairs. (pairs.items ≡ []) × (l.self.cap ≤ vec_capacity pairs)) l.rooms.items;
       count : vec_len l.passes ≡ l.caller;
-      dealt : AreDealt l.self l.caller l.passes.items;
+      dealt : AreDealt caller_of_pass (IsNewPass l.self) l.caller l.passes.items;
       room : l.self.callers ≤ vec_capacity l.passes;
     }

@@ -22,24 +22,19 @@ invariant_of-seat g c =
           (Swapped c.args.place c.args.word c.swap.result) s.alone c.swap.ensures.2).alone;
     }
 
-pub returns-clause-seat : goal.returns-clause-seat
-returns-clause-seat g c =
+pub returns : goal.returns
+returns g c =
     let s = c.args.seat.now in
+    let made = turned g.U.Usage.may s.who s.seat.me c.swap.new.seat.me (history_of s)
+    (Swapped c.args.place c.args.word c.swap.result) s.alone c.swap.ensures.2 in
     record {
-      table = c.swap.ensures.0 ∙ c.requires.seat.table;
-      caller = c.requires.seat.caller;
-      lawful = (turned g.U.Usage.may s.who s.seat.me c.swap.new.seat.me (history_of s)
-          (Swapped c.args.place c.args.word c.swap.result) s.alone c.swap.ensures.2).lawful;
+      seat =
+          record {
+            table = c.swap.ensures.0 ∙ c.requires.seat.table;
+            caller = c.requires.seat.caller;
+            lawful = made.lawful;
+          };
+      caller = refl;
+      step = made.made.own;
+      history = made.made;
     }
-
-pub returns-clause-step : goal.returns-clause-step
-returns-clause-step g c =
-    let s = c.args.seat.now in
-    (turned g.U.Usage.may s.who s.seat.me c.swap.new.seat.me (history_of s)
-    (Swapped c.args.place c.args.word c.swap.result) s.alone c.swap.ensures.2).made.own
-
-pub returns-clause-history : goal.returns-clause-history
-returns-clause-history g c =
-    let s = c.args.seat.now in
-    (turned g.U.Usage.may s.who s.seat.me c.swap.new.seat.me (history_of s)
-    (Swapped c.args.place c.args.word c.swap.result) s.alone c.swap.ensures.2).made

@@ -1,8 +1,9 @@
 use Rattle.std.proofs.Common.{ap}
 use Rattle.atomic_table.specs.Table.{Me}
+use Rattle.row_table.proofs.Holders.{joined_with}
 use Rattle.shared_words.specs.Histories.{View}
 use Rattle.shared_words.specs.Passes.{history_in}
-use Rattle.shared_words.proofs.Parting.{return_asks, returned}
+use Rattle.shared_words.proofs.Parting.{returns}
 use Rattle.shared_words.proofs.shared_words.SharedWords.take_in.Goals as goal
 
 pub join_seat-requires : goal.join_seat-requires
@@ -12,12 +13,12 @@ join_seat-requires g c =
       c.requires.seat.table,
       ap (λ (m : Me (Unit {0}) View). m.1) s.alone,
       c.args.self.now.sized.0,
-      return_asks g.U.Usage.may _ _ _ _ s.who _ s.seat.me
-          (history_in c.args.pass) s.alone c.requires.gone c.requires.wide,
+      returns g.U.Usage.may _ _ _ _ _ _ s.who (history_in c.args.pass) (ap (λ (m : Me (Unit {0}) View). m.0) s.alone)
+          c.requires.gone c.requires.wide,
     )
 
 pub returns-clause-keeper : goal.returns-clause-keeper
 returns-clause-keeper g c =
     let s = c.args.pass.seat in
-    returned s.who _ s.seat.me c.join_seat.new.seat.me (history_in c.args.pass) s.alone
-    c.requires.gone c.requires.wide (ap (λ (m : Me (Unit {0}) View). m.0) c.join_seat.ensures.2)
+    joined_with _ s.seat.me.0 _ s.who (history_in c.args.pass)
+    (ap (λ (m : Me (Unit {0}) View). m.0) c.join_seat.ensures.2) (ap (λ (m : Me (Unit {0}) View). m.0) s.alone) c.requires.gone c.requires.wide

@@ -1,13 +1,14 @@
 -- What is held of the callers still fits where one seat changes, gives a caller away or gets one
 -- back.
-use Rattle.std.proofs.Common.{◌≡◌, ◌≢◌, ◌⊎◌, ℕ, ◌<◌, ◌==◌, if◌then◌else◌, List, [], ◌∷◌, ◌++◌, length, slice_set, Option, Some, None, zero, suc, refl, sym, ap, ◌∙◌, subst, arith, inl, inr, length-set, eq-eqb, ne_eqb}
+use Rattle.std.proofs.Common.{◌≡◌, ◌≢◌, ◌⊎◌, ℕ, ◌+◌, ◌<◌, ◌≤◌, ◌==◌, if◌then◌else◌, List, [], ◌∷◌, ◌++◌, length, slice_set, Option, Some, None, zero, suc, refl, sym, ap, ◌∙◌, subst, arith, inl, inr, length-set, eq-eqb, ne_eqb}
 use Rattle.std.proofs.lemmas.List.{get_or-set_other, get_or-set_same}
 use Rattle.std.proofs.lemmas.Bool.{cases_eq}
 use Rattle.std.proofs.lemmas.Option.{none-some, same_Some}
 use mathlib.Core.Option.{some, some-injective, some-ne-none}
 use lib.ListN.{get_elem?}
-use Rattle.atomic_table.proofs.Lists.{at_set}
-use Rattle.shared_words.specs.Holders.{has, only, whole, union_of, AreHeld}
+use Rattle.atomic_table.proofs.Lists.{at_set, set_else}
+use Rattle.atomic_table.specs.Table.{Me}
+use Rattle.row_table.specs.Holders.{has, held_or, only, whole, union_of, AreHeld}
 
 at_end : {B : Type 0} (xs : List B) (x y : B) (j : ℕ) → get_elem? (xs ++ x ∷ []) j ≡ some y
     → (get_elem? xs j ≡ some y) ⊎ ((j ≡ length xs) × (x ≡ y))
@@ -49,9 +50,32 @@ module _ {A : Type 0} where
   only_else (suc who) zero x y e = absurd (none-some y e)
   only_else (suc who) (suc i) x y e = ap suc (only_else who i x y e)
 
-  pub only_set : (who : ℕ) (x y : A) → slice_set (only who x) who (Some y) ≡ only who y
+  -- a seat of one caller alone has this caller's value
+  pub alone_here : (me : Me (Unit {0}) (List (Option A))) (who : ℕ) (x : A) → me ≡ (only who x, [])
+      → has me.0 who ≡ Some x
+  alone_here me who x is = ap (λ (m : Me (Unit {0}) (List (Option A))). has m.0 who) is
+      ∙ only_here who x
+
+  only_set : (who : ℕ) (x y : A) → slice_set (only who x) who (Some y) ≡ only who y
   only_set zero x y = refl
   only_set (suc who) x y = ap (λ (v : List (Option A)). None ∷ v) (only_set who x y)
+
+  -- A seat has one caller alone, with the value `x`; `start` stands for a value where there is none.
+  pub record HasOne (start : A) (who : ℕ) (after : Me (Unit {0}) (List (Option A)))
+      (x : A) : Type 0 where
+    pub alone : after ≡ (only who (held_or start (has after.0 who)), [])
+    pub here : held_or start (has after.0 who) ≡ x
+
+  -- a seat of one caller alone still is one after a change of this caller's value
+  pub changed_alone : (start : A) (who : ℕ) (me after : Me (Unit {0}) (List (Option A))) (x y : A)
+      → me ≡ (only who x, []) → after ≡ (slice_set me.0 who (Some y), me.1)
+      → HasOne start who after y
+  changed_alone start who me after x y is moved =
+      let one : after ≡ (only who y, []) =
+      moved ∙ (λ i. (slice_set (is i).0 who (Some y), (is i).1))
+      ∙ (λ i. (only_set who x y i, [])) in
+      let here = ap (held_or start) (alone_here after who y one) in
+      record { alone = one ∙ (λ i. (only who (sym here i), [])); here = here }
 
   pub length-only : (who : ℕ) (x : A) → length (only who x) ≡ suc who
   length-only zero x = refl
@@ -75,13 +99,22 @@ module _ {A : Type 0} where
       → has (slice_set v who (Some x)) i ≡ has v i
   with_else v who i x ne = get_or-set_other v who i (Some x) None ne
 
+  -- a caller that leaves a view leaves those after it as they were
+  pub left_others : (n who : ℕ) (x : A) (v u : List (Option A))
+      → ((i : ℕ) → who ≤ i → i < n → has v i ≡ Some x) → u ≡ slice_set v who None
+      → (i : ℕ) → who + 1 ≤ i → i < n → has u i ≡ Some x
+  left_others n who x v u all is i above low =
+      ap (λ (w : List (Option A)). has w i) is
+      ∙ without_else v who i (λ e. absurd (omega arith))
+      ∙ all i (omega arith) low
+
   joined_none : (v : List (Option A)) → union_of v [] ≡ v
   joined_none [] = refl
   joined_none (x ∷ v) = refl
 
   -- joining a view with what one caller has sets this caller's place, where the view lacked the
   -- caller
-  pub joined_only : (v : List (Option A)) (who : ℕ) (x : A) → has v who ≡ None → who < length v
+  joined_only : (v : List (Option A)) (who : ℕ) (x : A) → has v who ≡ None → who < length v
       → union_of v (only who x) ≡ slice_set v who (Some x)
   joined_only [] who x gone low = absurd (omega arith)
   joined_only (None ∷ v) zero x gone low = ap (λ (u : List (Option A)). Some x ∷ u) (joined_none v)
@@ -90,6 +123,11 @@ module _ {A : Type 0} where
       ap (λ (u : List (Option A)). None ∷ u) (joined_only v who x gone (omega arith))
   joined_only (Some y ∷ v) (suc who) x gone low =
       ap (λ (u : List (Option A)). Some y ∷ u) (joined_only v who x gone (omega arith))
+
+  pub joined_with : (v w u : List (Option A)) (who : ℕ) (x : A) → u ≡ union_of v w → w ≡ only who x
+      → has v who ≡ None → who < length v → u ≡ slice_set v who (Some x)
+  joined_with v w u who x both is gone low =
+      both ∙ ap (union_of v) is ∙ joined_only v who x gone low
 
   -- where a seat changes what it has of one caller, what the other seats have still fits
   pub held_changed : (fits fits' : ℕ → A → Type 0) (views : List (List (Option A))) (id : ℕ)
@@ -124,7 +162,7 @@ module _ {A : Type 0} where
       }
 
   -- what the seats have still fits where a new seat gets one caller of a seat
-  pub held_parted : (fits : ℕ → A → Type 0) (views : List (List (Option A))) (id : ℕ)
+  held_parted : (fits : ℕ → A → Type 0) (views : List (List (Option A))) (id : ℕ)
       (v : List (Option A)) (who : ℕ) (x : A)
       → AreHeld fits views → get_elem? views id ≡ some v → has v who ≡ Some x
       → AreHeld fits (slice_set views id (slice_set v who None) ++ only who x ∷ [])
@@ -165,9 +203,21 @@ module _ {A : Type 0} where
             ];
       }
 
+  -- the same, where the new seat gets what the seat has of the caller, or `start` where it has
+  -- nothing
+  pub held_left : (fits : ℕ → A → Type 0) (start : A) (views : List (List (Option A))) (id : ℕ)
+      (v : List (Option A)) (who jw : ℕ) (x : A)
+      → AreHeld fits views → get_elem? views id ≡ some v → jw ≡ who → has v who ≡ Some x
+      → AreHeld fits
+      (slice_set views id (slice_set v jw None) ++ only jw (held_or start (has v jw)) ∷ [])
+  held_left fits start views id v who jw x h at is here' =
+      let here : has v jw ≡ Some x = ap (has v) is ∙ here' in
+      subst (λ (y : A). AreHeld fits (slice_set views id (slice_set v jw None) ++ only jw y ∷ []))
+      (sym (ap (held_or start) here)) (held_parted fits views id v jw x h at here)
+
   -- what the seats have still fits where a seat gets the one caller of another seat back, and that
   -- other seat is spent
-  pub held_returned : (fits : ℕ → A → Type 0) (views : List (List (Option A))) (id other : ℕ)
+  held_returned : (fits : ℕ → A → Type 0) (views : List (List (Option A))) (id other : ℕ)
       (v : List (Option A)) (who : ℕ) (x : A)
       → AreHeld fits views → get_elem? views id ≡ some v → other ≢ id
       → get_elem? views other ≡ some (only who x) → who < length v
@@ -201,13 +251,27 @@ module _ {A : Type 0} where
         ];
       }
 
+  -- what the seats have still fits where a seat takes over the view of another seat, which has one
+  -- caller alone
+  pub held_joined : (fits : ℕ → A → Type 0) (views : List (List (Option A))) (id other : ℕ)
+      (v w : List (Option A)) (who : ℕ) (x : A)
+      → AreHeld fits views → get_elem? views id ≡ some v → other ≢ id
+      → get_elem? (slice_set views id (union_of v w)) other ≡ some w → w ≡ only who x
+      → has v who ≡ None → who < length v
+      → AreHeld fits (slice_set (slice_set views id (union_of v w)) other [])
+  held_joined fits views id other v w who x h at apart there is gone low =
+      subst (λ (u : List (Option A)). AreHeld fits (slice_set (slice_set views id u) other []))
+      (sym (joined_with v w (union_of v w) who x refl is gone low))
+      (held_returned fits views id other v who x h at apart
+      (sym (set_else views id other (union_of v w) apart) ∙ there ∙ ap some is) low)
+
   -- at the start one seat has all callers
   pub whole_at : (n i : ℕ) (x : A) → i < n → has (whole n x) i ≡ Some x
   whole_at zero i x low = absurd (omega arith)
   whole_at (suc n) zero x low = refl
   whole_at (suc n) (suc i) x low = whole_at n i x (omega arith)
 
-  whole_is : (n i : ℕ) (x y : A) → has (whole n x) i ≡ Some y → (i < n) × (x ≡ y)
+  pub whole_is : (n i : ℕ) (x y : A) → has (whole n x) i ≡ Some y → (i < n) × (x ≡ y)
   whole_is zero i x y e = absurd (none-some y e)
   whole_is (suc n) zero x y e = (omega arith, same_Some x y e)
   whole_is (suc n) (suc i) x y e = let deeper = whole_is n i x y e in

@@ -9,6 +9,11 @@ module _ {A : Type 0} where
   abbrev pub has : List (Option A) → ℕ → Option A
   has v i = slice_index_or v i None
 
+  -- What is held, or `x` where nothing is.
+  abbrev pub held_or : A → Option A → A
+  held_or x None = x
+  held_or x (Some y) = y
+
   -- The view that has `x` of caller `i`, and nothing of any other caller.
   abbrev pub only : ℕ → A → List (Option A)
   only i x = replicate i None ++ Some x ∷ []
