@@ -16,7 +16,7 @@ use Rattle.drv_wrapper.specs.declared.answered.Answered.{Answered}
 use Rattle.drv_wrapper.specs.declared.viewed.Viewed.{Viewed}
 use Rattle.drv_wrapper.specs.Growth.{Grows}
 use Rattle.drv_wrapper.specs.Stands.{IsSame}
-use Rattle.drv_wrapper.specs.States.{caller_announced, announced_local, caller_answered, answered_local, reply_answered, caller_viewed, viewed_local, reply_viewed, view_viewed, record_viewed}
+use Rattle.drv_wrapper.specs.States.{caller_announced, announced_local, caller_answered, answered_local, reply_answered, caller_viewed, viewed_local, record_viewed}
 use Rattle.drv_wrapper.proofs.Growing.{grows_on}
 use Rattle.frontier_check.specs.declared.kept_order.KeptOrder.{KeptOrder}
 use Rattle.enforcer.specs.declared.call_verdict.CallVerdict.{CallVerdict}
@@ -28,7 +28,7 @@ use Rattle.enforcer.specs.declared.seen_call.Seen.{Seen}
 use Rattle.enforcer.specs.Judged.{is_illegal, IsRightByPeeks, IsRightOf}
 use Rattle.enforcer.specs.Recorded.{HoldsOwn}
 use Rattle.enforcer.specs.Verdicts.{stance_judged, IsOutcome}
-use Rattle.enforcer.specs.States.{caller_published, reply_published, view_published, caller_seen, reply_seen, view_seen, cut_seen, record_seen}
+use Rattle.enforcer.specs.States.{caller_published, record_published, caller_seen, cut_seen, record_seen}
 use Rattle.enforcer.proofs.WholeCalls.{peeks_grow}
 use Rattle.announced_calls.specs.Ends.{IsPublishedBy, IsJudgedAs}
 
@@ -39,18 +39,18 @@ module _ {P : Type 0} (meaning : P → ℕ → ℕ → Meaning) (r : Rows P) (ca
     pub same : IsSame (caller_announced call) (caller_answered a)
     pub handed : reply_answered a ≡ reply
     pub viewed : IsStill meaning r (caller_answered a) (caller_viewed v)
-    pub view_reply : reply_viewed v ≡ reply_answered a
-    pub view_wide : length (view_viewed v) ≡ r.callers
+    pub view_reply : (record_viewed v).reply ≡ reply_answered a
+    pub view_wide : length (record_viewed v).view ≡ r.callers
     pub view_progress : progress_of (viewed_local v)
         ≡ after_viewing (record_viewed v) (progress_of (answered_local a))
     pub view_grows : Grows (answered_local a) (viewed_local v)
     pub published : IsStill meaning r (caller_viewed v) (caller_published p)
-    pub publish_record : (reply_published p ≡ reply_viewed v) × (view_published p ≡ view_viewed v)
+    pub publish_record : record_published p ≡ record_viewed v
     pub publish_progress : progress_of (local_with (caller_published p))
         ≡ after_publishing (progress_of (viewed_local v))
     pub publish_grows : Grows (viewed_local v) (local_with (caller_published p))
     pub seen : IsStill meaning r (caller_published p) (caller_seen s)
-    pub seen_record : (reply_seen s ≡ reply_published p) × (view_seen s ≡ view_published p)
+    pub seen_record : record_seen s ≡ record_published p
     pub seen_wide : length (cut_seen s) ≡ r.callers
     pub seen_own : HoldsOwn (cut_seen s) (caller_seen s)
     pub seen_progress : progress_of (local_with (caller_seen s))
@@ -59,11 +59,8 @@ module _ {P : Type 0} (meaning : P → ℕ → ℕ → Meaning) (r : Rows P) (ca
 
   module _ (h : Course) where
     -- the record that was viewed is the one that was seen to be published
-    same_record : record_viewed v ≡ record_seen s
-    same_record =
-        let replies = sym (h.seen_record.0 ∙ h.publish_record.0) in
-        let views = sym (h.seen_record.1 ∙ h.publish_record.1) in
-        λ i. record { reply = replies i; view = views i }
+    same_record : record_seen s ≡ record_viewed v
+    same_record = h.seen_record ∙ h.publish_record
 
     all_grows : Grows (announced_local call) (local_with (caller_seen s))
     all_grows =
@@ -77,12 +74,8 @@ module _ {P : Type 0} (meaning : P → ℕ → ℕ → Meaning) (r : Rows P) (ca
     is_published =
         record {
           still = (h.seen.0, h.seen.1 ∙ h.published.1 ∙ h.viewed.1 ∙ h.same.who);
-          replied = h.seen_record.0 ∙ h.publish_record.0 ∙ h.view_reply ∙ h.handed;
-          wide = (
-            ap (λ (view : List ℕ). length view) (h.seen_record.1 ∙ h.publish_record.1)
-                ∙ h.view_wide,
-            h.seen_wide,
-          );
+          replied = ap (λ (x : Record). x.reply) same_record ∙ h.view_reply ∙ h.handed;
+          wide = (ap (λ (x : Record). length x.view) same_record ∙ h.view_wide, h.seen_wide);
           own = h.seen_own;
           progress =
               h.seen_progress
@@ -90,7 +83,8 @@ module _ {P : Type 0} (meaning : P → ℕ → ℕ → Meaning) (r : Rows P) (ca
               (h.publish_progress ∙ ap after_publishing (h.view_progress
               ∙ ap (λ (l : Local). after_viewing (record_viewed v) (progress_of l)) h.same.local
               ∙ ap
-              (λ (x : Record). after_viewing x (progress_of (announced_local call))) same_record));
+              (λ (x : Record). after_viewing x (progress_of (announced_local call)))
+              (sym same_record)));
           grows = all_grows;
         }
 

@@ -19,9 +19,9 @@ use Rattle.drv_wrapper.specs.Growth.{Grows}
 use Rattle.drv_wrapper.specs.declared.announced.Announced.{Announced}
 use Rattle.drv_wrapper.specs.declared.answered.Answered.{Answered}
 use Rattle.drv_wrapper.specs.declared.viewed.Viewed.{Viewed}
-use Rattle.drv_wrapper.specs.States.{caller_announced, op_announced, announced_local, caller_answered, op_answered, reply_answered, answered_local, caller_viewed, reply_viewed, view_viewed, viewed_local}
+use Rattle.drv_wrapper.specs.States.{caller_announced, op_announced, announced_local, caller_answered, op_answered, reply_answered, answered_local, caller_viewed, viewed_local, record_viewed}
 use Rattle.enforcer.specs.declared.published_call.Published.{Published}
-use Rattle.enforcer.specs.States.{caller_published, reply_published, view_published}
+use Rattle.enforcer.specs.States.{caller_published, record_published}
 use Rattle.client_calls.specs.declared.stand.CallerState.{CallerState}
 use Rattle.client_calls.specs.declared.stand.CallerState.TheVariants as at
 use Rattle.client_calls.specs.Asking.{ComesNoFurther}
@@ -130,12 +130,12 @@ module _ {P : Type 0} (meaning : P → ℕ → ℕ → Meaning) (r : Rows P)
       }
 
   pub viewed_come : (a : Answered P) (v : Viewed P) → Come (at.Answered a)
-      → IsStill meaning r (caller_answered a) (caller_viewed v) → length (view_viewed v) ≡ r.callers
-      → progress_of (viewed_local v) ≡ after_viewing
-      (record { reply = reply_viewed v; view = view_viewed v }) (progress_of (answered_local a))
+      → IsStill meaning r (caller_answered a) (caller_viewed v) → length (record_viewed v).view ≡ r.callers
+      → progress_of (viewed_local v)
+      ≡ after_viewing (record_viewed v) (progress_of (answered_local a))
       → Grows (answered_local a) (viewed_local v) → Come (at.Viewed v)
   viewed_come a v h still wide progress grows =
-      let rec : Record = record { reply = reply_viewed v; view = view_viewed v } in
+      let rec : Record = record_viewed v in
       record {
         caller = still.0;
         number = still.1 ∙ h.number;
@@ -155,17 +155,12 @@ module _ {P : Type 0} (meaning : P → ℕ → ℕ → Meaning) (r : Rows P)
 
   pub published_come : (v : Viewed P) (p : Published P) → Come (at.Viewed v)
       → IsStill meaning r (caller_viewed v) (caller_published p)
-      → (reply_published p ≡ reply_viewed v) × (view_published p ≡ view_viewed v)
+      → record_published p ≡ record_viewed v
       → progress_of (local_with (caller_published p))
       ≡ after_publishing (progress_of (viewed_local v))
       → Grows (viewed_local v) (local_with (caller_published p)) → Come (at.Published p)
   published_come v p h still same progress grows =
       let l : Local = local_with (caller_published p) in
-      let with : ℕ → List ℕ → List Made = λ x y.
-      record { operation = op; reached = Has_record (record { reply = x; view = y }) } ∷ [] in
-      let is : with (reply_viewed v) (view_viewed v) ≡ with (reply_published p) (view_published p) =
-      ap (λ (x : ℕ). with x (view_viewed v)) (sym same.0)
-      ∙ ap (with (reply_published p)) (sym same.1) in
       record {
         caller = still.0;
         number = still.1 ∙ h.number;
@@ -174,7 +169,8 @@ module _ {P : Type 0} (meaning : P → ℕ → ℕ → Meaning) (r : Rows P)
             (publishing_is_a_phase operations (length own) (progress_of (viewed_local v)) h.made);
         ended = h.ended;
         calls = ap (λ (x : Progress). x.calls) progress ∙ h.calls
-            ∙ ap (λ (rest : List Made). h.ended ++ rest) is;
+            ∙ ap (λ (x : Record). h.ended ++ record { operation = op; reached = Has_record x } ∷ [])
+            (sym same);
         lines = lines_stay _ _
             (λ r' cut end. stays r.callers (viewed_local v) l r' cut end grows) h.ended own h.lines;
         errors = h.errors;

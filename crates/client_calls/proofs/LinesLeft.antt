@@ -16,7 +16,7 @@ use Rattle.report_lines.specs.Phases.{Progress, IsProgressAfter, HasMade, begun,
 use Rattle.report_lines.specs.Allotments.{phases_of, KeepsTo}
 use Rattle.report_lines.proofs.Telling.{as_many_calls}
 use Rattle.row_table.specs.declared.rows.Rows.{Rows}
-use Rattle.drv_wrapper.specs.States.{reply_viewed, view_viewed}
+use Rattle.drv_wrapper.specs.States.{record_viewed}
 use Rattle.enforcer.specs.States.{record_published}
 use Rattle.client_calls.specs.declared.stand.CallerState.{CallerState}
 use Rattle.client_calls.specs.declared.stand.CallerState.TheVariants.{Idle, Announced, Answered, Viewed, Published, Halted, Unjudged}
@@ -173,7 +173,7 @@ module _ {P : Type 0} (meaning : P → ℕ → ℕ → Meaning) (r : Rows P)
       (phases_at (length own) (Answered a)) h.ended _ Pending h.calls h.lines
       (record { operation = refl; end = refl }) h.errors refl spent h.made)
   noted_left (Viewed v) end allotment h is spent =
-      let mine : LineEnd = Unchecked (record { reply = reply_viewed v; view = view_viewed v }) in
+      let mine : LineEnd = Unchecked (record_viewed v) in
       subst (λ (e : LineEnd). HasLeftAt says r.callers operations allotment (phases_at (length own)
       (Viewed v)) (local_at_stand (Viewed v)) (own ++ record { op = op; end = e } ∷ []))
       (same_Some mine end is)

@@ -17,7 +17,7 @@ use Rattle.row_table.specs.Callers.{local_with}
 use Rattle.drv_wrapper.specs.declared.announced.Announced.{Announced}
 use Rattle.drv_wrapper.specs.declared.answered.Answered.{Answered}
 use Rattle.drv_wrapper.specs.declared.viewed.Viewed.{Viewed}
-use Rattle.drv_wrapper.specs.States.{op_announced, announced_local, op_answered, reply_answered, answered_local, reply_viewed, view_viewed, viewed_local}
+use Rattle.drv_wrapper.specs.States.{op_announced, announced_local, op_answered, reply_answered, answered_local, viewed_local, record_viewed}
 use Rattle.drv_wrapper.specs.Telling.{told_after}
 use Rattle.enforcer.specs.declared.published_call.Published.{Published}
 use Rattle.enforcer.specs.declared.seen_call.Seen.{Seen}
@@ -109,17 +109,17 @@ module _ {P : Type 0} (meaning : P → ℕ → ℕ → Meaning) (r : Rows P)
       }
 
   pub viewed_asked : (a : Answered P) (v : Viewed P) → Come (at.Answered a)
-      → reply_viewed v ≡ reply_answered a
-      → progress_of (viewed_local v) ≡ after_viewing
-      (record { reply = reply_viewed v; view = view_viewed v }) (progress_of (answered_local a))
+      → (record_viewed v).reply ≡ reply_answered a
+      → progress_of (viewed_local v)
+      ≡ after_viewing (record_viewed v) (progress_of (answered_local a))
       → Asked (at.Answered a) → Asked (at.Viewed v)
   viewed_asked a v h same progress asked =
-      let rec : Record = record { reply = reply_viewed v; view = view_viewed v } in
+      let rec : Record = record_viewed v in
       record {
         made_is = omega (arith, asked.made_is);
         told_is = if_some_as told _ _
             (λ (pairs : List (ℕ × ℕ)) (t : HasTold (at.Answered a) own pairs).
-            let is : pairs ≡ t.last.0 ++ (op_answered a, reply_viewed v) ∷ [] =
+            let is : pairs ≡ t.last.0 ++ (op_answered a, rec.reply) ∷ [] =
             t.last.1 ∙ ap (λ (x : ℕ). t.last.0 ++ (op_answered a, x) ∷ []) (sym same) in
             record {
               told = told_along (5 * length own + 3) (5 * length own + 3)

@@ -10,7 +10,7 @@ use Rattle.report_lines.specs.declared.line.Line.{Line}
 use Rattle.row_table.specs.declared.stance.Stance.{Stance}
 use Rattle.row_table.specs.Benches.{fresh_stance}
 use Rattle.row_table.specs.Callers.{stance_of}
-use Rattle.drv_wrapper.specs.States.{reply_viewed, view_viewed}
+use Rattle.drv_wrapper.specs.States.{record_viewed}
 use Rattle.enforcer.specs.States.{record_published}
 use Rattle.client_calls.specs.Ends.{HasLeftAt}
 use Rattle.client_calls.specs.Stands.{caller_at, phases_at}
@@ -45,7 +45,7 @@ module _ {P : Type 0} where
   end_at (Idle c) = None
   end_at (Announced a) = Some Pending
   end_at (Answered a) = Some Pending
-  end_at (Viewed v) = Some (Unchecked (record { reply = reply_viewed v; view = view_viewed v }))
+  end_at (Viewed v) = Some (Unchecked (record_viewed v))
   end_at (Published p) = Some (Unchecked (record_published p))
   end_at (Halted c) = None
   end_at (Unjudged u) = None

@@ -7,8 +7,8 @@ use Rattle.world_core.specs.Calls.{Is_announced, Has_record, Has_seen, Made}
 use Rattle.row_table.specs.declared.caller.Caller.{Caller}
 use Rattle.row_table.specs.declared.rows.Rows.{Rows}
 use Rattle.row_table.specs.Callers.{local_with, stance_of, IsFree, MayGet}
-use Rattle.drv_wrapper.specs.States.{caller_announced, op_announced, announced_local, caller_answered, op_answered, reply_answered, caller_viewed, reply_viewed, view_viewed}
-use Rattle.enforcer.specs.States.{caller_published, reply_published, view_published, caller_seen, cut_seen, record_seen}
+use Rattle.drv_wrapper.specs.States.{caller_announced, op_announced, announced_local, caller_answered, op_answered, reply_answered, caller_viewed, record_viewed}
+use Rattle.enforcer.specs.States.{caller_published, record_published, caller_seen, cut_seen, record_seen}
 use Rattle.client_calls.specs.declared.stand.CallerState.{CallerState}
 use Rattle.client_calls.specs.declared.stand.CallerState.TheVariants.{Idle, Announced, Answered, Viewed, Published, Halted, Unjudged}
 
@@ -48,14 +48,10 @@ module _ {P : Type 0} where
   under_way op (Idle c) = []
   under_way op (Announced a) = record { operation = op; reached = Is_announced } ∷ []
   under_way op (Answered a) = record { operation = op; reached = Is_announced } ∷ []
-  under_way op (Viewed v) = record {
-    operation = op;
-    reached = Has_record (record { reply = reply_viewed v; view = view_viewed v });
-  } ∷ []
-  under_way op (Published p) = record {
-    operation = op;
-    reached = Has_record (record { reply = reply_published p; view = view_published p });
-  } ∷ []
+  under_way op (Viewed v) =
+      record { operation = op; reached = Has_record (record_viewed v) } ∷ []
+  under_way op (Published p) =
+      record { operation = op; reached = Has_record (record_published p) } ∷ []
   under_way op (Halted c) = []
   under_way op (Unjudged s) =
       record { operation = op; reached = Has_seen (record_seen s) (cut_seen s) } ∷ []
@@ -69,7 +65,7 @@ module _ {P : Type 0} where
   MayGoOn meaning r op (Announced a) = (op_announced a ≡ op) × (steps_now (announced_local a) ≡ [])
   MayGoOn meaning r op (Answered a) = (op_answered a ≡ op)
       × MayGet meaning (caller_answered a) (reply_answered a)
-  MayGoOn meaning r op (Viewed v) = length (view_viewed v) ≡ r.callers
+  MayGoOn meaning r op (Viewed v) = length (record_viewed v).view ≡ r.callers
   MayGoOn meaning r op (Published p) = Unit {0}
   MayGoOn meaning r op (Halted c) = (stance_of c).live ≡ false
   MayGoOn meaning r op (Unjudged s) = Unit {0}

@@ -1,4 +1,3 @@
-use book_base::Record;
 use drv_wrapper::{Announced, Answered, Viewed};
 use enforcer::{Published, Seen};
 use report_lines::LineEnd;
@@ -66,18 +65,12 @@ impl<P> CallerState<P> {
             CallerState::Announced(announced) => (announced.stop(), Some(LineEnd::Pending)),
             CallerState::Answered(answered) => (answered.stop(), Some(LineEnd::Pending)),
             CallerState::Viewed(viewed) => {
-                let (reply, view) = (viewed.reply(), viewed.view());
-                (
-                    viewed.stop(),
-                    Some(LineEnd::Unchecked(Record { reply, view })),
-                )
+                let record = viewed.record();
+                (viewed.stop(), Some(LineEnd::Unchecked(record)))
             }
             CallerState::Published(published) => {
-                let (reply, view) = (published.reply(), published.view());
-                (
-                    published.stop(),
-                    Some(LineEnd::Unchecked(Record { reply, view })),
-                )
+                let record = published.record();
+                (published.stop(), Some(LineEnd::Unchecked(record)))
             }
             CallerState::Unjudged(seen) => (seen.stop(), None),
         }

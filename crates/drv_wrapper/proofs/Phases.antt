@@ -1,6 +1,7 @@
 -- What announcing and viewing leave of a caller's local.
 use Rattle.std.proofs.Common.{◌≡◌, ℕ, ◌+◌, true, List, [], ◌∷◌, ◌++◌, length, Some, length-append, refl, sym, ap, subst, ◌∙◌, arith}
 use Rattle.std.proofs.lemmas.List.{get_or_push}
+use Rattle.book_base.specs.declared.call.Record.{Record}
 use Rattle.world_core.specs.declared.region.Region.TheVariants.{N}
 use Rattle.world_core.specs.Local.{Phase, Announcing, Asking, Viewing, Publishing, Judging, IsIdle, Local, Looked, Peeked}
 use Rattle.world_core.specs.Event.{Begins_scan, Begins_view, is_asking, is_staging}
@@ -32,11 +33,10 @@ pub record Announces (n op : ℕ) (l m : Local) : Type 0 where
   pub progress : progress_of m ≡ after_announcing op (progress_of l)
   pub grows : Grows l m
 
-pub record Views (n op reply : ℕ) (view : List ℕ) (l m : Local) : Type 0 where
-  pub events : HasViewed n reply view l m
-  pub recorded : IsRecorded op reply view m
-  pub progress : progress_of m
-      ≡ after_viewing (record { reply = reply; view = view }) (progress_of l)
+pub record Views (n op : ℕ) (r : Record) (l m : Local) : Type 0 where
+  pub events : HasViewed n r l m
+  pub recorded : IsRecorded op r m
+  pub progress : progress_of m ≡ after_viewing r (progress_of l)
   pub grows : Grows l m
 
 -- an announcement leaves this row, where its scan leaves the local as `scanned_for_row` says
@@ -121,7 +121,7 @@ recorded_view : (n op reply : ℕ) (view : List ℕ) (l : Local) (looks : List L
     (peeks : List Peeked) → HasPhase l → IsAsked op l
     → HasScanned n N (Begins_view reply) view l (scanned_for_view reply view looks peeks l)
     → HoldsLooks N view l
-    → Views n op reply view l (scanned_for_view reply view looks peeks l)
+    → Views n op (record { reply = reply; view = view }) l (scanned_for_view reply view looks peeks l)
 recorded_view n op reply view l looks peeks has asked scan looked =
     let phase : l.phase ≡ Asking = asking_is l.phase asked.asking in
     let replies : unpublished_replies l.phase ≡ 0 = ap unpublished_replies phase in
@@ -161,12 +161,12 @@ recorded_view n op reply view l looks peeks has asked scan looked =
 pub views : (s : Shape) (who op reply : ℕ) (view : List ℕ) (stance : Stance) (l m : Local)
     → IsLocalOf s who l → IsAsked op l → stance ≡ replied reply
     → HasScanned s.callers N (opening_in (opening_with (Some N) stance.reply)) view l m
-    → HoldsLooks N view l → Views s.callers op reply view l m
+    → HoldsLooks N view l → Views s.callers op (record { reply = reply; view = view }) l m
 views s who op reply view stance l m here asked stands scan looked =
     let so : HasScanned s.callers N (Begins_view reply) view l m = subst
     (λ (x : Stance). HasScanned s.callers N (opening_in (opening_with (Some N) x.reply)) view l m)
     stands scan in
     let (looks, peeks, leaves) = view_scanned s.callers reply view l m so in
-    subst (Views s.callers op reply view l) (sym leaves)
+    subst (Views s.callers op (record { reply = reply; view = view }) l) (sym leaves)
     (recorded_view s.callers op reply view l looks peeks (local_has_phase s who l here) asked
     (subst (HasScanned s.callers N (Begins_view reply) view l) leaves so) looked)

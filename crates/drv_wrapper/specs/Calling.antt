@@ -1,6 +1,7 @@
 -- What the local of a caller is during one of its calls; the call's number is the caller's count of
 -- published records.
-use Rattle.std.specs.Prelude.{◌≡◌, ℕ, ◌+◌, Bool, true, false, List, [], slice_index, slice_index_or}
+use Rattle.std.specs.Prelude.{◌≡◌, ℕ, ◌+◌, Bool, true, false, [], slice_index, slice_index_or}
+use Rattle.book_base.specs.declared.call.Record.{Record}
 use Rattle.world_core.specs.Local.{Local, Phase, Publishing}
 use Rattle.world_core.specs.Event.{is_asking, is_unstaged, is_view_under_way}
 
@@ -18,12 +19,12 @@ pub record IsAsked (op : ℕ) (l : Local) : Type 0 where
   pub operation : slice_index l.operations l.published ≡ op
   pub scan : is_view_under_way l.scan ≡ false
 
--- The caller has announced a call of this operation, whose record has this reply and this view. The
--- record isn't published yet, and none of its words is staged.
-pub record IsRecorded (op reply : ℕ) (view : List ℕ) (l : Local) : Type 0 where
+-- The caller has announced a call of this operation, which has this record. The record isn't
+-- published yet, and none of its words is staged.
+pub record IsRecorded (op : ℕ) (r : Record) (l : Local) : Type 0 where
   pub publishing : is_publishing l.phase ≡ true
   pub unstaged : is_unstaged l.staged ≡ true
   pub counted : l.announced ≡ l.published + 1
   pub operation : slice_index l.operations l.published ≡ op
-  pub reply_is : slice_index l.replies l.published ≡ reply
-  pub view_is : slice_index_or l.views l.published [] ≡ view
+  pub reply_is : slice_index l.replies l.published ≡ r.reply
+  pub view_is : slice_index_or l.views l.published [] ≡ r.view

@@ -1,6 +1,7 @@
 -- Which events the announcement of a call and the taking of its view are, and what they add to the
 -- lists of the caller's local.
 use Rattle.std.specs.Prelude.{◌≡◌, ℕ, List, [], ◌∷◌, ◌++◌}
+use Rattle.book_base.specs.declared.call.Record.{Record}
 use Rattle.world_core.specs.declared.region.Region.TheVariants.{N}
 use Rattle.world_core.specs.Local.{Local}
 use Rattle.world_core.specs.Event.{Begins_scan, Begins_view}
@@ -23,13 +24,13 @@ pub record HasAnnounced (n op : ℕ) (before after : Local) : Type 0 where
   pub object_steps : after.object_steps ≡ before.object_steps ++ [] ∷ []
 
 -- The local `after` is the local `before` of one of n callers, changed by a scan of N that began
--- with this reply and gave this view, and by no other event. The view is the local's last view and
--- last given cut; its entries are at least the counts of N that the caller had looked at before;
+-- with the reply of this record and gave its view, and by no other event. The view is the local's
+-- last view and last given cut; its entries are at least the counts of N that the caller had looked at before;
 -- and no object step is added.
-pub record HasViewed (n reply : ℕ) (view : List ℕ) (before after : Local) : Type 0 where
-  pub scan : HasScanned n N (Begins_view reply) view before after
-  pub replies : after.replies ≡ before.replies ++ reply ∷ []
-  pub views : after.views ≡ before.views ++ view ∷ []
-  pub given : after.cuts ≡ before.cuts ++ given_with before N view ∷ []
-  pub looked : HoldsLooks N view before
+pub record HasViewed (n : ℕ) (r : Record) (before after : Local) : Type 0 where
+  pub scan : HasScanned n N (Begins_view r.reply) r.view before after
+  pub replies : after.replies ≡ before.replies ++ r.reply ∷ []
+  pub views : after.views ≡ before.views ++ r.view ∷ []
+  pub given : after.cuts ≡ before.cuts ++ given_with before N r.view ∷ []
+  pub looked : HoldsLooks N r.view before
   pub object_steps : after.object_steps ≡ before.object_steps

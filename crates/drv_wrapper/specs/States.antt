@@ -1,5 +1,5 @@
 -- The callers inside the states that a call passes through, and the parts of these states.
-use Rattle.std.specs.Prelude.{ℕ, List}
+use Rattle.std.specs.Prelude.{ℕ}
 use Rattle.book_base.specs.declared.call.Record.{Record}
 use Rattle.world_core.specs.Local.{Local}
 use Rattle.row_table.specs.declared.caller.Caller.{Caller}
@@ -57,14 +57,6 @@ module _ {P : Type 0} where
   abbrev pub op_viewed : Viewed P → ℕ
   op_viewed v = v.op
 
-  -- The reply of a call that has its view.
-  abbrev pub reply_viewed : Viewed P → ℕ
-  reply_viewed v = v.reply
-
-  -- The view of a call that has it.
-  abbrev pub view_viewed : Viewed P → List ℕ
-  view_viewed v = v.view
-
   -- The record of a call that has its view: the reply and the view.
   abbrev pub record_viewed : Viewed P → Record
-  record_viewed v = record { reply = v.reply; view = v.view }
+  record_viewed v = v.record

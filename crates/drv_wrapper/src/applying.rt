@@ -5,7 +5,7 @@ ghost use Rattle.report_lines.specs.Phases.{progress_of};
 ghost use Rattle.report_lines.specs.Progress.{after_announcing, after_viewing};
 ghost use Rattle.collect_scan.specs.Scanned.{most_words};
 ghost use Rattle.drv_wrapper.specs.Stands.{ready};
-ghost use Rattle.drv_wrapper.specs.States.{caller_viewed, op_viewed, reply_viewed, view_viewed, viewed_local, record_viewed};
+ghost use Rattle.drv_wrapper.specs.States.{caller_viewed, op_viewed, viewed_local, record_viewed};
 ghost use Rattle.drv_wrapper.specs.Growth.{Grows};
 ghost use Rattle.drv_wrapper.specs.Telling.{told_after};
 
@@ -48,7 +48,7 @@ pub fn apply<B: BlackBox, L: Ledger>(
     // The call has this operation.
     ensures operation { op_viewed result ≡ op }
     // The view has one count for each caller.
-    ensures wide { length (view_viewed result) ≡ rows.now.callers }
+    ensures wide { length (record_viewed result).view ≡ rows.now.callers }
     // The caller's calls are those before with this one at the end, which has its reply and view.
     ensures progress { progress_of (viewed_local result) ≡ after_viewing (record_viewed result)
         (after_announcing op (progress_of (local_with caller))) }
@@ -67,7 +67,7 @@ pub fn apply<B: BlackBox, L: Ledger>(
     // A pass that tells its calls tells one more, with this operation and the object's reply; one
     // that tells none still tells none.
     ensures told { B.Pass.told pass.new
-        ≡ told_after op (reply_viewed result) (B.Pass.told pass.old) }
+        ≡ told_after op (record_viewed result).reply (B.Pass.told pass.old) }
     // The counter of steps has risen by at most twice n * (n + 1) + n for n callers.
     ensures ticks { (steps.old ≤ steps.new)
         × (steps.new ≤ steps.old + (most_words rows.now.callers + most_words rows.now.callers)) }

@@ -3,7 +3,7 @@ ghost use Rattle.row_table.specs.Callers.{local_with, stance_of};
 ghost use Rattle.drv_wrapper.specs.Stands.{ready};
 ghost use Rattle.drv_wrapper.specs.Calling.{IsRecorded};
 
-use book_base::{Cut, OpWord};
+use book_base::{Cut, OpWord, Record};
 use row_table::Caller;
 use world_core::Outside;
 
@@ -14,30 +14,36 @@ use world_core::Outside;
 pub struct Viewed<P = Outside> {
     pub(crate) caller: Caller<P>,
     pub(crate) op: OpWord,
-    pub(crate) reply: u64,
-    pub(crate) view: Cut,
-    pub ghost recorded: { IsRecorded op reply view (local_with caller) },
+    pub(crate) record: Record,
+    pub ghost recorded: { IsRecorded op «record» (local_with caller) },
     pub ghost stands: { stance_of caller ≡ ready },
 }
 
 impl<P> Viewed<P> {
-    ghost use Rattle.drv_wrapper.specs.States.{caller_viewed, reply_viewed, view_viewed};
+    ghost use Rattle.drv_wrapper.specs.States.{caller_viewed, record_viewed};
     ghost use Rattle.drv_wrapper.specs.Stands.{IsSame, IsStopped};
     ghost use Rattle.row_table.specs.Callers.{stance_of};
 
     /// The reply of the object to the call.
     pub fn reply(&self) -> u64
-        ensures { result ≡ reply_viewed self.now }
+        ensures { result ≡ (record_viewed self.now).reply }
     {
-        self.reply
+        self.record.reply
     }
 
     /// The view: the cut of a scan of announcements that began after the object had answered.
     pub fn view(&self) -> Cut
         // The answer is the view of the call.
-        ensures { result ≡ view_viewed self.now }
+        ensures { result ≡ (record_viewed self.now).view }
     {
-        self.view
+        self.record.view
+    }
+
+    /// The record of the call: its reply and its view.
+    pub fn record(&self) -> Record
+        ensures { result ≡ record_viewed self.now }
+    {
+        self.record
     }
 
     /// The call's caller, live, with its local as it is.
@@ -50,8 +56,7 @@ impl<P> Viewed<P> {
         let Viewed {
             caller,
             op: _,
-            reply: _,
-            view: _,
+            record: _,
         } = self;
         caller
     }
@@ -65,8 +70,7 @@ impl<P> Viewed<P> {
         let Viewed {
             caller,
             op: _,
-            reply: _,
-            view: _,
+            record: _,
         } = self;
         caller.halt()
     }

@@ -3,12 +3,13 @@ ghost use Rattle.row_table.specs.Callers.{local_with, MayGet, IsCallerOf, IsStil
 ghost use Rattle.report_lines.specs.Phases.{progress_of};
 ghost use Rattle.report_lines.specs.Progress.{after_viewing};
 ghost use Rattle.collect_scan.specs.Scanned.{most_words};
-ghost use Rattle.drv_wrapper.specs.States.{caller_answered, op_answered, reply_answered, caller_viewed, op_viewed, reply_viewed, view_viewed, answered_local, viewed_local, record_viewed};
+ghost use Rattle.drv_wrapper.specs.States.{caller_answered, op_answered, reply_answered, caller_viewed, op_viewed, answered_local, viewed_local, record_viewed};
 ghost use Rattle.drv_wrapper.specs.Events.{HasViewed};
 ghost use Rattle.drv_wrapper.specs.Growth.{Grows};
 
 use crate::answered::Answered;
 use crate::viewed::Viewed;
+use book_base::Record;
 use collect_scan::scan;
 use row_table::{Rows, Steps};
 use std::sync::ledger::Ledger;
@@ -34,13 +35,13 @@ pub fn view<P: Program, L: Ledger>(
     ensures caller { IsStill P.meaning rows.now (caller_answered answered) (caller_viewed result) }
     // The viewed call has the operation and the reply of the answered one.
     ensures call { (op_viewed result ≡ op_answered answered)
-        × (reply_viewed result ≡ reply_answered answered) }
+        × ((record_viewed result).reply ≡ reply_answered answered) }
     // The view has one count for each caller.
-    ensures wide { length (view_viewed result) ≡ rows.now.callers }
+    ensures wide { length (record_viewed result).view ≡ rows.now.callers }
     // The caller's local is the one before, changed by a scan of N that began with the reply and
     // gave the view, and by no other event.
-    ensures viewed { HasViewed rows.now.callers (reply_viewed result) (view_viewed result)
-        (answered_local answered) (viewed_local result) }
+    ensures viewed { HasViewed rows.now.callers (record_viewed result) (answered_local answered)
+        (viewed_local result) }
     // The caller's last call has its record, of the reply and the view, and nothing else of its
     // progress changes.
     ensures progress { progress_of (viewed_local result)
@@ -60,7 +61,6 @@ pub fn view<P: Program, L: Ledger>(
     Viewed {
         caller,
         op,
-        reply,
-        view,
+        record: Record { reply, view },
     }
 }

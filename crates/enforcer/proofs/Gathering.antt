@@ -1,5 +1,6 @@
 -- That a seen cut is one that a scan of M gave.
 use Rattle.std.proofs.Common.{◌≡◌, ℕ, ◌<◌, true, is_none, List, [], length, Option, Some, None, slice_index_or, refl, ap, subst, arith}
+use Rattle.book_base.specs.declared.call.Record.{Record}
 use Rattle.world_core.specs.declared.region.Region.TheVariants.{M}
 use Rattle.world_core.specs.Shape.{Shape}
 use Rattle.world_core.specs.Local.{Scan, Local}
@@ -18,9 +19,9 @@ none_is (Some scan) e = absurd cc
 
 -- The seen cut of the call whose record a caller of a reachable world published last is one that a
 -- scan of M gave the caller.
-pub seen_is_given : (s : Shape) (i reply : ℕ) (view cut : List ℕ) (l : Local) → IsLocalOf s i l
-    → HasSeen reply view cut l → IsGivenIn l.cuts M cut
-seen_is_given s i reply view cut l (locals, together, low, is) saw =
+pub seen_is_given : (s : Shape) (i : ℕ) (r : Record) (cut : List ℕ) (l : Local) → IsLocalOf s i l
+    → HasSeen r cut l → IsGivenIn l.cuts M cut
+seen_is_given s i r cut l (locals, together, low, is) saw =
     let has = local_has_phase s i l (locals, together, low, is) in
     let seen : unseen_records l.phase ≡ 0 =
     ap unseen_records (announcing_is l.phase saw.announcing) in

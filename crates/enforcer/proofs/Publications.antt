@@ -1,5 +1,6 @@
 -- What the publication of a record, with the scan before it, changes in its caller's local.
 use Rattle.std.proofs.Common.{◌≡◌, ℕ, ◌+◌, ◌-◌, List, [], ◌∷◌, length, Some, slice_index, slice_index_or, refl, sym, ap, subst, ◌∙◌, arith}
+use Rattle.book_base.specs.declared.call.Record.{Record}
 use Rattle.world_core.specs.declared.region.Region.TheVariants.{M}
 use Rattle.world_core.specs.Shape.{Shape}
 use Rattle.world_core.specs.Local.{Phase, Publishing, Local, Looked, Peeked}
@@ -25,16 +26,16 @@ use Rattle.enforcer.proofs.Standing.{publishing_is, unstaged_is}
 -- the cut, and now has the local `m`: it may publish this record in a row that embeds this cut; and
 -- after the publication the record is its last published one, its progress is that of `l` with one
 -- published record more, and it has each look, each peek and each given cut of `l`.
-pub record Readies (n reply : ℕ) (view cut : List ℕ) (l m : Local) : Type 0 where
-  pub may : MayPublish n reply view cut m
-  pub published : IsPublishing reply view (local_after n m Publish)
+pub record Readies (n : ℕ) (r : Record) (cut : List ℕ) (l m : Local) : Type 0 where
+  pub may : MayPublish n r.reply r.view cut m
+  pub published : IsPublishing r (local_after n m Publish)
   pub progress : progress_of (local_after n m Publish) ≡ after_publishing (progress_of l)
   pub grows : Grows l (local_after n m Publish)
 
-readied : (n op reply : ℕ) (view cut : List ℕ) (l : Local) (looks : List Looked)
-    (peeks : List Peeked) → length view ≡ n → length cut ≡ n → l.phase ≡ Publishing
-    → IsRecorded op reply view l → Readies n reply view cut l (scanned_for_row M cut looks peeks l)
-readied n op reply view cut l looks peeks view_wide wide phase recorded =
+readied : (n op : ℕ) (r : Record) (cut : List ℕ) (l : Local) (looks : List Looked)
+    (peeks : List Peeked) → length r.view ≡ n → length cut ≡ n → l.phase ≡ Publishing
+    → IsRecorded op r l → Readies n r cut l (scanned_for_row M cut looks peeks l)
+readied n op r cut l looks peeks view_wide wide phase recorded =
     let m : Local = local_after n (scanned_for_row M cut looks peeks l) Publish in
     let number : l.published ≡ (l.published + 1) - 1 = omega arith in
     record {
@@ -63,36 +64,34 @@ readied n op reply view cut l looks peeks view_wide wide phase recorded =
           (record { region = M; cut = cut; since = length l.looked } ∷ []) refl refl refl;
     }
 
-readies : (n op reply : ℕ) (view cut : List ℕ) (l m : Local) → length view ≡ n → length cut ≡ n
-    → IsRecorded op reply view l
-    → HasScanned n M Begins_scan cut l m → Readies n reply view cut l m
-readies n op reply view cut l m view_wide wide recorded h =
+readies : (n op : ℕ) (r : Record) (cut : List ℕ) (l m : Local) → length r.view ≡ n
+    → length cut ≡ n → IsRecorded op r l
+    → HasScanned n M Begins_scan cut l m → Readies n r cut l m
+readies n op r cut l m view_wide wide recorded h =
     let phase = publishing_is l.phase recorded.publishing in
     let (looks, peeks, is) = row_scanned n M cut l m (ap (λ (p : Phase). is_staging p M) phase)
     (unstaged_is l.staged recorded.unstaged) h in
-    subst (Readies n reply view cut l) (sym is)
-    (readied n op reply view cut l looks peeks view_wide wide phase recorded)
+    subst (Readies n r cut l) (sym is)
+    (readied n op r cut l looks peeks view_wide wide phase recorded)
 
 -- A caller that made a scan of M after its call was viewed is ready to publish the record of that
 -- call, as `Readies` says.
-pub readies_of : (s : Shape) (op reply : ℕ) (view : List ℕ) (said : ℕ) (shown cut : List ℕ)
-    (stance : Stance) (l k m : Local) → said ≡ reply → shown ≡ view → k ≡ l
-    → length view ≡ s.callers → length cut ≡ s.callers → IsRecorded op reply view l
+pub readies_of : (s : Shape) (op : ℕ) (r told : Record) (cut : List ℕ) (stance : Stance)
+    (l k m : Local) → told ≡ r → k ≡ l
+    → length r.view ≡ s.callers → length cut ≡ s.callers → IsRecorded op r l
     → HasScanned s.callers M (opening_in (opening_with (Some M) stance.reply)) cut k m
-    → Readies s.callers said shown cut l m
-readies_of s op reply view said shown cut stance l k m same_reply same_view same view_wide wide
-    recorded h =
-    subst (λ (x : ℕ). Readies s.callers x shown cut l m) (sym same_reply)
-    (subst (λ (v : List ℕ). Readies s.callers reply v cut l m) (sym same_view)
-    (readies s.callers op reply view cut l m view_wide wide recorded
-    (subst (λ (x : Local). HasScanned s.callers M Begins_scan cut x m) same h)))
+    → Readies s.callers told cut l m
+readies_of s op r told cut stance l k m same_record same view_wide wide recorded h =
+    subst (λ (x : Record). Readies s.callers x cut l m) (sym same_record)
+    (readies s.callers op r cut l m view_wide wide recorded
+    (subst (λ (x : Local). HasScanned s.callers M Begins_scan cut x m) same h))
 
 -- A scan of M by a caller whose call is recorded, and the publication after it, make up what
 -- `IsPublication` says.
-pub publication : (n op reply : ℕ) (view cut : List ℕ) (l k scanned m : Local) → k ≡ l
-    → IsRecorded op reply view l → HasScanned n M Begins_scan cut k scanned → HoldsLooks M cut k
+pub publication : (n op : ℕ) (r : Record) (cut : List ℕ) (l k scanned m : Local) → k ≡ l
+    → IsRecorded op r l → HasScanned n M Begins_scan cut k scanned → HoldsLooks M cut k
     → m ≡ local_after n scanned Publish → IsPublication n l m
-publication n op reply view cut l k scanned m same recorded scan looked is =
+publication n op r cut l k scanned m same recorded scan looked is =
     let h : HasScanned n M Begins_scan cut l scanned =
     subst (λ (x : Local). HasScanned n M Begins_scan cut x scanned) same scan in
     let phase = publishing_is l.phase recorded.publishing in

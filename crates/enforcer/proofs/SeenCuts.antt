@@ -1,6 +1,7 @@
 -- What the scan that sees a cut changes in its caller's local.
 use Rattle.std.proofs.Common.{◌≡◌, ◌≢◌, ℕ, ◌-◌, List, [], ◌∷◌, ◌++◌, length, None, Some, slice_index, refl, sym, ap, subst, ◌∙◌, arith}
 use Rattle.std.proofs.lemmas.List.{get_or_push}
+use Rattle.book_base.specs.declared.call.Record.{Record}
 use Rattle.world_core.specs.declared.region.Region.TheVariants.{M}
 use Rattle.world_core.specs.Shape.{Shape}
 use Rattle.world_core.specs.Local.{Phase, Announcing, Judging, Scan, Local, Given, Looked, Peeked}
@@ -51,8 +52,8 @@ seen_scanned n cut l m phase h =
 -- record is its last published one, and the cut is its seen cut; the cut's count for caller `who`
 -- is the number of its published records; its progress is that of `l` with the seen cut for its
 -- last call; and it has each look, each peek and each given cut of `l`.
-pub record Sees (who reply : ℕ) (view cut : List ℕ) (l m : Local) : Type 0 where
-  pub saw : HasSeen reply view cut m
+pub record Sees (who : ℕ) (r : Record) (cut : List ℕ) (l m : Local) : Type 0 where
+  pub saw : HasSeen r cut m
   pub own : slice_index cut who ≡ m.published
   pub progress : progress_of m ≡ after_seeing cut (progress_of l)
   pub grows : Grows l m
@@ -71,10 +72,10 @@ last_is [] cut since = refl
 last_is (given ∷ []) cut since = refl
 last_is (given ∷ later ∷ cuts) cut since = last_is (later ∷ cuts) cut since
 
-seen_leaves : (reply : ℕ) (view cut : List ℕ) (l : Local) (looks : List Looked)
-    (peeks : List Peeked) → HasPhase l → IsPublishing reply view l
-    → HasSeen reply view cut (scanned_for_seen cut looks peeks l)
-seen_leaves reply view cut l looks peeks has publishing =
+seen_leaves : (r : Record) (cut : List ℕ) (l : Local) (looks : List Looked)
+    (peeks : List Peeked) → HasPhase l → IsPublishing r l
+    → HasSeen r cut (scanned_for_seen cut looks peeks l)
+seen_leaves r cut l looks peeks has publishing =
     let unseen : unseen_records l.phase ≡ 1 =
     ap unseen_records (judging_is l.phase publishing.judging) in
     record {
@@ -92,16 +93,16 @@ seen_leaves reply view cut l looks peeks has publishing =
 
 -- After a scan of M, a caller of a reachable world that had published its record has seen the
 -- scan's cut, as `Sees` says.
-pub sees : (s : Shape) (who now reply : ℕ) (view cut : List ℕ) (l m : Local) → IsLocalOf s who l
-    → IsLocalOf s now m → IsPublishing reply view l
-    → HasScanned s.callers M Begins_scan cut l m → Sees now reply view cut l m
-sees s who now reply view cut l m here there publishing h =
+pub sees : (s : Shape) (who now : ℕ) (r : Record) (cut : List ℕ) (l m : Local)
+    → IsLocalOf s who l → IsLocalOf s now m → IsPublishing r l
+    → HasScanned s.callers M Begins_scan cut l m → Sees now r cut l m
+sees s who now r cut l m here there publishing h =
     let phase = judging_is l.phase publishing.judging in
     let has = local_has_phase s who l here in
     let (looks, peeks, is) = seen_scanned s.callers cut l m phase h in
     record {
-      saw = subst (HasSeen reply view cut) (sym is)
-          (seen_leaves reply view cut l looks peeks has publishing);
+      saw = subst (HasSeen r cut) (sym is)
+          (seen_leaves r cut l looks peeks has publishing);
       own = own_entries_are_counts s now M Begins_scan cut l m there h (serves l phase);
       progress =
           ap progress_of is
@@ -112,9 +113,9 @@ sees s who now reply view cut l m here there publishing h =
     }
 
 -- A scan of M by a caller that has published its record is what `IsSight` says.
-pub sight : (n reply : ℕ) (view cut : List ℕ) (l m : Local) → IsPublishing reply view l
+pub sight : (n : ℕ) (r : Record) (cut : List ℕ) (l m : Local) → IsPublishing r l
     → HasScanned n M Begins_scan cut l m → HoldsLooks M cut l → IsSight n cut l m
-sight n reply view cut l m publishing h looked =
+sight n r cut l m publishing h looked =
     let (looks, peeks, is) = seen_scanned n cut l m (judging_is l.phase publishing.judging) h in
     record {
       scan = h;

@@ -1,6 +1,7 @@
 -- What the local of a caller says after the publication of a record: after the publication alone,
 -- and after the cut is seen too.
 use Rattle.std.specs.Prelude.{◌≡◌, ◌<◌, ◌-◌, ℕ, Bool, true, false, is_none, List, [], ◌∷◌, Option, None, Some, slice_index, slice_index_or}
+use Rattle.book_base.specs.declared.call.Record.{Record}
 use Rattle.world_core.specs.declared.region.Region.{Region}
 use Rattle.world_core.specs.declared.region.Region.TheVariants.{N, M}
 use Rattle.world_core.specs.Local.{Local, Given, Phase, Announcing, Judging}
@@ -23,19 +24,18 @@ is_announcing _ = false
 abbrev pub last_published : Local → ℕ
 last_published l = l.published - 1
 
--- A caller with this local has published a record, and the last one that it published is this reply
--- with this view.
-pub record HasPublished (reply : ℕ) (view : List ℕ) (l : Local) : Type 0 where
+-- A caller with this local has published a record, and the last one that it published is this one.
+pub record HasPublished (r : Record) (l : Local) : Type 0 where
   pub some : 0 < l.published
-  pub reply_is : slice_index l.replies (last_published l) ≡ reply
-  pub view_is : slice_index_or l.views (last_published l) [] ≡ view
+  pub reply_is : slice_index l.replies (last_published l) ≡ r.reply
+  pub view_is : slice_index_or l.views (last_published l) [] ≡ r.view
 
 -- A caller with this local has published this record as its last one, is in the phase judge, and
 -- has staged no word.
-pub record IsPublishing (reply : ℕ) (view : List ℕ) (l : Local) : Type 0 where
+pub record IsPublishing (r : Record) (l : Local) : Type 0 where
   pub judging : is_judging l.phase ≡ true
   pub unstaged : is_unstaged l.staged ≡ true
-  pub published : HasPublished reply view l
+  pub published : HasPublished r l
 
 -- The cut that a scan of this region gave, where the region is M; for N, no cut.
 abbrev pub cut_of_M : Region → List ℕ → Option (List ℕ)
@@ -52,11 +52,11 @@ last_of_M (given ∷ later ∷ cuts) = last_of_M (later ∷ cuts)
 -- A caller with this local has published this record as its last one, and the seen cut of that call
 -- is this cut, which is also the last cut that a scan gave the caller. The caller is in the phase
 -- announce, has staged no word, and has no scan under way.
-pub record HasSeen (reply : ℕ) (view cut : List ℕ) (l : Local) : Type 0 where
+pub record HasSeen (r : Record) (cut : List ℕ) (l : Local) : Type 0 where
   pub announcing : is_announcing l.phase ≡ true
   pub unstaged : is_unstaged l.staged ≡ true
   pub free : is_none l.scan ≡ true
-  pub published : HasPublished reply view l
+  pub published : HasPublished r l
   pub seen_is : slice_index_or l.seen (last_published l) [] ≡ cut
   pub last : last_of_M l.cuts ≡ Some cut
 

@@ -7,7 +7,7 @@ ghost use Rattle.drv_wrapper.specs.Growth.{Grows};
 ghost use Rattle.drv_wrapper.specs.Stands.{ready};
 ghost use Rattle.drv_wrapper.specs.Telling.{told_after};
 ghost use Rattle.enforcer.specs.Judged.{AreWide};
-ghost use Rattle.enforcer.specs.States.{caller_seen, reply_seen, view_seen, cut_seen, record_seen};
+ghost use Rattle.enforcer.specs.States.{caller_seen, cut_seen, record_seen};
 ghost use Rattle.enforcer.specs.Enforced.{after_call};
 
 use crate::publishing::publish;
@@ -51,7 +51,7 @@ pub fn call_and_see<B: BlackBox, L: Ledger>(
     ensures progress { progress_of (local_with (caller_seen result)) ≡ after_call op
         (record_seen result) (cut_seen result) (progress_of (local_with caller)) }
     // The view and the cut of the seen call have one count for each caller.
-    ensures wide { AreWide rows.now.callers (view_seen result) (cut_seen result) }
+    ensures wide { AreWide rows.now.callers (record_seen result).view (cut_seen result) }
     // The caller's local has each look, each peek and each given cut that it had before the call.
     ensures grows { Grows (local_with caller) (local_with (caller_seen result)) }
     // The pass still belongs to this object.
@@ -63,7 +63,8 @@ pub fn call_and_see<B: BlackBox, L: Ledger>(
         × (B.Pass.cap pass.new ≡ B.Pass.cap pass.old) }
     // Where the pass has a told list, the list has one more entry at its end: this operation with
     // the reply of the call. A pass without a told list still has none.
-    ensures told { B.Pass.told pass.new ≡ told_after op (reply_seen result) (B.Pass.told pass.old) }
+    ensures told { B.Pass.told pass.new
+        ≡ told_after op (record_seen result).reply (B.Pass.told pass.old) }
     // The counter of steps has not fallen, and has risen by at most the words that four scans may
     // take.
     ensures ticks { (steps.old ≤ steps.new)

@@ -5,7 +5,7 @@ ghost use Rattle.row_gather.specs.Peeks.{OnlyPeeks};
 ghost use Rattle.row_gather.specs.Gathered.{IsGatheredBy};
 ghost use Rattle.drv_wrapper.specs.Stands.{ready};
 ghost use Rattle.enforcer.specs.Recorded.{HoldsOwn};
-ghost use Rattle.enforcer.specs.States.{caller_seen, reply_seen, view_seen, cut_seen};
+ghost use Rattle.enforcer.specs.States.{caller_seen, cut_seen, record_seen};
 ghost use Rattle.enforcer.specs.Judged.{record_in, cut_in, stance_after, IsRightByPeeks, IsRightOf};
 ghost use Rattle.enforcer.specs.Kept.{IsKeptAfterOutcome, TicksForNewAfter};
 ghost use Rattle.enforcer.specs.Verdicts.{outcome_of};
@@ -109,9 +109,8 @@ pub fn judge<P: Program, S: SearchHints, L: Ledger>(
     ensures idle { IfOk result (λ r. IsIdle (local_with r.0)) }
     // After `Delivered` the caller is ready for its next call, and after `Illegal` it is halted.
     ensures stands { IfOk result (λ r. stance_of r.0 ≡ stance_after r.1) }
-    // The reply and the view of an outcome are those of the seen call.
-    ensures record { IfOk result
-        (λ r. record_in r.1 ≡ record { reply = reply_seen seen; view = view_seen seen }) }
+    // The record of an outcome is that of the seen call.
+    ensures record { IfOk result (λ r. record_in r.1 ≡ record_seen seen) }
     // The seen cut of an outcome is that of the seen call.
     ensures cut { IfOk result (λ r. cut_in r.1 ≡ cut_seen seen) }
     // The count for the caller in the seen cut of an outcome is the number of records that the
@@ -150,7 +149,8 @@ pub fn judge<P: Program, S: SearchHints, L: Ledger>(
         (λ u. stance_of u.caller ≡ record ready { live = false }) }
     // The reply, the view and the cut of an unjudged call are those of the seen call.
     ensures unjudged_record { IfErr result
-        (λ u. (u.reply ≡ reply_seen seen) × (u.view ≡ view_seen seen) × (u.seen ≡ cut_seen seen)) }
+        (λ u. (u.reply ≡ (record_seen seen).reply) × (u.view ≡ (record_seen seen).view)
+        × (u.seen ≡ cut_seen seen)) }
     // The count for the caller of an unjudged call in its seen cut is the number of records that
     // this caller has published.
     ensures unjudged_own { IfErr result (λ u. HoldsOwn u.seen u.caller) }
@@ -169,14 +169,13 @@ pub fn judge<P: Program, S: SearchHints, L: Ledger>(
         Err(
             Seen {
                 caller,
-                reply,
-                view,
+                record,
                 cut: seen,
             },
         ) => Err(Unjudged {
             caller: halted(rows, caller),
-            reply,
-            view,
+            reply: record.reply,
+            view: record.view,
             seen,
         }),
     }

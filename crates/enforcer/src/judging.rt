@@ -9,7 +9,7 @@ ghost use Rattle.row_gather.specs.Words.{words_of_book};
 ghost use Rattle.row_gather.specs.Gathered.{IsGatheredBy, TicksForNew};
 ghost use Rattle.frontier_check.specs.Standing.{IsStandingFor};
 ghost use Rattle.enforcer.specs.Recorded.{HoldsOwn};
-ghost use Rattle.enforcer.specs.States.{caller_seen, reply_seen, view_seen, cut_seen, record_seen};
+ghost use Rattle.enforcer.specs.States.{caller_seen, cut_seen, record_seen};
 ghost use Rattle.enforcer.specs.Judged.{IsRightByPeeks, IsRightOf};
 ghost use Rattle.enforcer.specs.Verdicts.{OrderStandsIn, IsGatheredWithin, IsOutcome, IsKeptAfter, TicksForJudged, stance_judged};
 
@@ -45,9 +45,8 @@ pub fn gather<P: Program, L: Ledger>(
     requires gathered { IsGatheredBy (local_with (caller_seen seen.old)) gathered }
     // The caller still belongs to these rows, with the same number.
     ensures caller { IsStill P.meaning rows.now (caller_seen seen.old) (caller_seen seen.new) }
-    // The seen call keeps its reply and its view.
-    ensures record { (reply_seen seen.new ≡ reply_seen seen.old)
-        × (view_seen seen.new ≡ view_seen seen.old) }
+    // The seen call keeps its record.
+    ensures record { record_seen seen.new ≡ record_seen seen.old }
     // The seen call keeps its cut.
     ensures cut { cut_seen seen.new ≡ cut_seen seen.old }
     // The caller has made peeks and no other event, and the counter of steps has risen by 1 for
@@ -118,8 +117,7 @@ fn decide<P: Program, S: SearchHints, L: Ledger>(
     requires gathered { IsGatheredBy (local_with (caller_seen seen.old)) gathered }
     requires stands { OrderStandsIn (S.spec object.now) gathered standing }
     ensures caller { IsStill P.meaning rows.now (caller_seen seen.old) (caller_seen seen.new) }
-    ensures record { (reply_seen seen.new ≡ reply_seen seen.old)
-        × (view_seen seen.new ≡ view_seen seen.old) }
+    ensures record { record_seen seen.new ≡ record_seen seen.old }
     ensures cut { cut_seen seen.new ≡ cut_seen seen.old }
     ensures peeks { OnlyPeeks (caller_seen seen.old) (caller_seen seen.new) steps.old steps.new }
     ensures at { IfOk result (λ r. r.0.cut ≡ cut_seen seen.new) }
@@ -236,9 +234,9 @@ pub fn judge_seen<P: Program, S: SearchHints, L: Ledger>(
     // has risen by 1 for each of them.
     ensures unjudged_peeks { IfErr result
         (λ s. OnlyPeeks (caller_seen seen) (caller_seen s) steps.old steps.new) }
-    // The reply, the view and the cut of an unjudged call are those of the seen call.
-    ensures unjudged_record { IfErr result (λ s. (reply_seen s ≡ reply_seen seen)
-        × (view_seen s ≡ view_seen seen) × (cut_seen s ≡ cut_seen seen)) }
+    // The record and the cut of an unjudged call are those of the seen call.
+    ensures unjudged_record { IfErr result (λ s. (record_seen s ≡ record_seen seen)
+        × (cut_seen s ≡ cut_seen seen)) }
     // After an unjudged call no book is kept.
     ensures unjudged_kept { IfErr result (λ s. gathered.new ≡ None) }
     // The counter of steps has not fallen.
@@ -257,8 +255,7 @@ pub fn judge_seen<P: Program, S: SearchHints, L: Ledger>(
         Ok((found, after)) => {
             let Seen {
                 caller,
-                reply: _,
-                view: _,
+                record: _,
                 cut: _,
             } = seen;
             match after {

@@ -3,7 +3,7 @@ ghost use Rattle.row_table.specs.Callers.{local_with, stance_of};
 ghost use Rattle.drv_wrapper.specs.Stands.{ready};
 ghost use Rattle.enforcer.specs.Recorded.{IsPublishing};
 
-use book_base::Cut;
+use book_base::Record;
 use row_table::Caller;
 use world_core::Outside;
 
@@ -12,28 +12,20 @@ use world_core::Outside;
 /// The state has to be spent: by [`seen`](crate::seen), or by `stop`.
 pub struct Published<P = Outside> {
     pub(crate) caller: Caller<P>,
-    pub(crate) reply: u64,
-    pub(crate) view: Cut,
-    pub ghost publishing: { IsPublishing reply view (local_with caller) },
+    pub(crate) record: Record,
+    pub ghost publishing: { IsPublishing «record» (local_with caller) },
     pub ghost stands: { stance_of caller ≡ ready },
 }
 
 impl<P> Published<P> {
     ghost use Rattle.drv_wrapper.specs.Stands.{IsStopped};
-    ghost use Rattle.enforcer.specs.States.{caller_published, reply_published, view_published};
+    ghost use Rattle.enforcer.specs.States.{caller_published, record_published};
 
-    /// The reply that the object gave.
-    pub fn reply(&self) -> u64
-        ensures { result ≡ reply_published self.now }
+    /// The record of the call: its reply and its view.
+    pub fn record(&self) -> Record
+        ensures { result ≡ record_published self.now }
     {
-        self.reply
-    }
-
-    /// The view of the call.
-    pub fn view(&self) -> Cut
-        ensures { result ≡ view_published self.now }
-    {
-        self.view
+        self.record
     }
 
     /// The caller, halted, with its local as it was: the record of the call stays published, and
@@ -41,11 +33,7 @@ impl<P> Published<P> {
     pub fn stop(self) -> Caller<P>
         ensures { IsStopped (caller_published self) result }
     {
-        let Published {
-            caller,
-            reply: _,
-            view: _,
-        } = self;
+        let Published { caller, record: _ } = self;
         caller.halt()
     }
 }

@@ -4,9 +4,9 @@ ghost use Rattle.collect_scan.specs.Scanned.{most_words};
 ghost use Rattle.report_lines.specs.Phases.{progress_of};
 ghost use Rattle.report_lines.specs.Progress.{after_publishing};
 ghost use Rattle.drv_wrapper.specs.Growth.{Grows};
-ghost use Rattle.drv_wrapper.specs.States.{caller_viewed, reply_viewed, view_viewed};
+ghost use Rattle.drv_wrapper.specs.States.{caller_viewed, record_viewed};
 ghost use Rattle.enforcer.specs.Events.{IsPublication};
-ghost use Rattle.enforcer.specs.States.{caller_published, reply_published, view_published};
+ghost use Rattle.enforcer.specs.States.{caller_published, record_published};
 
 use crate::published_call::Published;
 use collect_scan::scan;
@@ -31,12 +31,11 @@ pub fn publish<P: Program, L: Ledger>(
     // The caller of the viewed call belongs to these rows.
     requires rows { IsCallerOf P.meaning rows.now (caller_viewed viewed) }
     // The view has one count for each caller.
-    requires wide { length (view_viewed viewed) ≡ rows.now.callers }
+    requires wide { length (record_viewed viewed).view ≡ rows.now.callers }
     // The caller still belongs to these rows, with the same number.
     ensures caller { IsStill P.meaning rows.now (caller_viewed viewed) (caller_published result) }
-    // The published call has the reply and the view of the viewed one.
-    ensures record { (reply_published result ≡ reply_viewed viewed)
-        × (view_published result ≡ view_viewed viewed) }
+    // The published call has the record of the viewed one.
+    ensures record { record_published result ≡ record_viewed viewed }
     // The caller's local is the one that it had before, changed by a scan of M, the publication of
     // the row that was staged, and no other event but stages. The row embeds the cut of that scan.
     // This cut is the last one that the caller was given. Each count in M that the scanning caller
@@ -55,14 +54,9 @@ pub fn publish<P: Program, L: Ledger>(
     ensures ticks { (steps.old ≤ steps.new)
         × (steps.new ≤ steps.old + most_words rows.now.callers) }
 {
-    let reply = viewed.reply();
-    let view = viewed.view();
+    let record = viewed.record();
     let mut caller = viewed.into_caller();
     let cut = scan(rows, &mut caller, Region::M, steps);
-    publish_row(rows, &mut caller, reply, &view, &cut);
-    Published {
-        caller,
-        reply,
-        view,
-    }
+    publish_row(rows, &mut caller, record.reply, &record.view, &cut);
+    Published { caller, record }
 }

@@ -6,7 +6,7 @@ ghost use Rattle.report_lines.specs.Progress.{after_seeing};
 ghost use Rattle.drv_wrapper.specs.Growth.{Grows};
 ghost use Rattle.enforcer.specs.Recorded.{HoldsOwn};
 ghost use Rattle.enforcer.specs.Events.{IsSight};
-ghost use Rattle.enforcer.specs.States.{caller_published, reply_published, view_published, caller_seen, reply_seen, view_seen, cut_seen};
+ghost use Rattle.enforcer.specs.States.{caller_published, record_published, caller_seen, cut_seen, record_seen};
 
 use crate::published_call::Published;
 use crate::seen_call::Seen;
@@ -30,9 +30,8 @@ pub fn seen<P: Program, L: Ledger>(
     requires rows { IsCallerOf P.meaning rows.now (caller_published published) }
     // The caller still belongs to these rows, with the same number.
     ensures caller { IsStill P.meaning rows.now (caller_published published) (caller_seen result) }
-    // The seen call has the reply and the view of the published one.
-    ensures record { (reply_seen result ≡ reply_published published)
-        × (view_seen result ≡ view_published published) }
+    // The seen call has the record of the published one.
+    ensures record { record_seen result ≡ record_published published }
     // The seen cut has one count for each caller.
     ensures wide { length (cut_seen result) ≡ rows.now.callers }
     // The seen cut's count for the caller is the number of records that the caller has published.
@@ -55,16 +54,11 @@ pub fn seen<P: Program, L: Ledger>(
     ensures ticks { (steps.old ≤ steps.new)
         × (steps.new ≤ steps.old + most_words rows.now.callers) }
 {
-    let Published {
-        mut caller,
-        reply,
-        view,
-    } = published;
+    let Published { mut caller, record } = published;
     let cut = scan(rows, &mut caller, Region::M, steps);
     Seen {
         caller,
-        reply,
-        view,
+        record,
         cut,
     }
 }

@@ -14,40 +14,22 @@ use world_core::Outside;
 /// by `defer`, or by `stop`.
 pub struct Seen<P = Outside> {
     pub(crate) caller: Caller<P>,
-    pub(crate) reply: u64,
-    pub(crate) view: Cut,
+    pub(crate) record: Record,
     pub(crate) cut: Cut,
-    pub ghost saw: { HasSeen reply view cut (local_with caller) },
+    pub ghost saw: { HasSeen «record» cut (local_with caller) },
     pub ghost own: { HoldsOwn cut caller },
     pub ghost stands: { stance_of caller ≡ ready },
 }
 
 impl<P> Seen<P> {
     ghost use Rattle.drv_wrapper.specs.Stands.{IsSame, IsStopped};
-    ghost use Rattle.enforcer.specs.States.{caller_seen, reply_seen, view_seen, cut_seen, record_seen};
-
-    /// The reply that the object gave.
-    pub fn reply(&self) -> u64
-        ensures { result ≡ reply_seen self.now }
-    {
-        self.reply
-    }
-
-    /// The view of the call.
-    pub fn view(&self) -> Cut
-        ensures { result ≡ view_seen self.now }
-    {
-        self.view
-    }
+    ghost use Rattle.enforcer.specs.States.{caller_seen, cut_seen, record_seen};
 
     /// The record of the call: its reply and its view.
     pub fn record(&self) -> Record
         ensures { result ≡ record_seen self.now }
     {
-        Record {
-            reply: self.reply,
-            view: self.view,
-        }
+        self.record
     }
 
     /// The seen cut: how many records of each caller were published, all at one moment after this
@@ -68,8 +50,7 @@ impl<P> Seen<P> {
     {
         let Seen {
             caller: live,
-            reply: _,
-            view: _,
+            record: _,
             cut: _,
         } = self;
         live
@@ -81,8 +62,7 @@ impl<P> Seen<P> {
     {
         let Seen {
             caller,
-            reply: _,
-            view: _,
+            record: _,
             cut: _,
         } = self;
         caller.halt()

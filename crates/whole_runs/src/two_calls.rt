@@ -3,7 +3,7 @@ ghost use Rattle.row_table.specs.Callers.{who_of, on_bench, IsCallerOf, IsBenchO
 ghost use Rattle.test_objects.specs.Passes.{callers_in, caller_of_pass, IsPassOf, ArePassesOf, IsFresh};
 ghost use Rattle.whole_runs.specs.Seated.{IsAt, IsNew, IsThere, IsNewAt, IsFor, IsUnused};
 
-use book_base::{Cut, NoMemory, OpWord, Place};
+use book_base::{Cut, NoMemory, OpWord, Place, Record};
 use drv_wrapper::ObjectPass;
 use enforcer::{CallVerdict, Gathered, Outcome, Unjudged, call_and_see, enforce, judge_seen};
 use frontier_check::{Guide, KeptOrder};
@@ -242,7 +242,7 @@ fn call_after<M: Machine, L: Ledger>(
     };
     let mut standing = None;
     let seen = call_and_see(caller, rows, op, object, &mut seat.pass, &mut seat.steps);
-    let (reply, view, cut) = (seen.reply(), seen.view(), seen.cut());
+    let (Record { reply, view }, cut) = (seen.record(), seen.cut());
     let (caller, end) = match judge_seen(
         alloc,
         &SearchedKind { kind: Kind::Queue },

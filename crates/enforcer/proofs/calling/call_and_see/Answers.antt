@@ -8,21 +8,17 @@ use Rattle.enforcer.proofs.calling.call_and_see.Goals as goal
 
 pub returns-clause-progress : goal.returns-clause-progress
 returns-clause-progress g c =
-    let viewed : Record =
-    record { reply = c.apply-viewed.result.reply; view = c.apply-viewed.result.view } in
-    let r : Record = record { reply = c.seen.result.reply; view = c.seen.result.view } in
-    let replies = c.seen.ensures.record.0 ∙ c.publish-published.ensures.record.0 in
-    let views = c.seen.ensures.record.1 ∙ c.publish-published.ensures.record.1 in
-    called c.args.op viewed r c.seen.result.cut (local_with c.args.caller)
+    called c.args.op c.apply-viewed.result.record c.seen.result.record c.seen.result.cut
+    (local_with c.args.caller)
     (local_with c.apply-viewed.result.caller) (local_with c.publish-published.result.caller)
     (local_with c.seen.result.caller) c.apply-viewed.ensures.progress
     c.publish-published.ensures.progress c.seen.ensures.progress
-    (λ i. record { reply = replies i; view = views i })
+    (c.seen.ensures.record ∙ c.publish-published.ensures.record)
 
 pub returns-clause-wide : goal.returns-clause-wide
 returns-clause-wide g c = (
-  ap length (c.seen.ensures.record.1 ∙ c.publish-published.ensures.record.1)
-      ∙ c.apply-viewed.ensures.wide,
+  ap (λ (r : Record). length r.view)
+      (c.seen.ensures.record ∙ c.publish-published.ensures.record) ∙ c.apply-viewed.ensures.wide,
   c.seen.ensures.wide,
 )
 

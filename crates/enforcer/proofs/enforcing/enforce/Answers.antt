@@ -34,7 +34,7 @@ returns-clause-unjudged_grows g c =
 pub returns-clause-progress : goal.returns-clause-progress
 returns-clause-progress g c =
     let seen = c.call_and_see-seen.result in
-    let r : Record = record { reply = seen.reply; view = seen.view } in
+    let r : Record = seen.record in
     let before = progress_of (local_with c.args.caller) in
     ok_by c.judge.result (λ x. HasOnlyPeeked (local_with seen.caller) (local_with x.0)
     c.call_and_see-seen.new.steps c.judge.new.steps) (λ x. record_in x.1 ≡ r)
@@ -48,11 +48,11 @@ returns-clause-progress g c =
 pub returns-clause-unjudged_progress : goal.returns-clause-unjudged_progress
 returns-clause-unjudged_progress g c =
     let seen = c.call_and_see-seen.result in
-    let r : Record = record { reply = seen.reply; view = seen.view } in
+    let r : Record = seen.record in
     let before = progress_of (local_with c.args.caller) in
     err_by c.judge.result (λ u. HasOnlyPeeked (local_with seen.caller) (local_with u.caller)
     c.call_and_see-seen.new.steps c.judge.new.steps)
-    (λ u. (u.reply ≡ seen.reply) × (u.view ≡ seen.view) × (u.seen ≡ seen.cut))
+    (λ u. (u.reply ≡ seen.record.reply) × (u.view ≡ seen.record.view) × (u.seen ≡ seen.cut))
     (λ u.
     progress_of (local_with u.caller) ≡ after_call c.args.op (record_unjudged u) u.seen before)
     (λ u peeks tells. whole_call c.args.op r (record_unjudged u) seen.cut u.seen before
@@ -66,7 +66,7 @@ returns-clause-wide g c =
     let n = c.args.rows.now.callers in
     let seen = c.call_and_see-seen.result in
     let wide = c.call_and_see-seen.ensures.wide in
-    ok_by c.judge.result (λ x. record_in x.1 ≡ record { reply = seen.reply; view = seen.view })
+    ok_by c.judge.result (λ x. record_in x.1 ≡ seen.record)
     (λ x. cut_in x.1 ≡ seen.cut) (λ x. cut_in x.1 ≡ seen.cut)
     (λ x. (length (record_in x.1).view ≡ n) × (length (cut_in x.1) ≡ n))
     (λ x tells saw again.
@@ -79,7 +79,7 @@ returns-clause-unjudged_wide g c =
     let seen = c.call_and_see-seen.result in
     let wide = c.call_and_see-seen.ensures.wide in
     err_from c.judge.result
-    (λ u. (u.reply ≡ seen.reply) × (u.view ≡ seen.view) × (u.seen ≡ seen.cut))
+    (λ u. (u.reply ≡ seen.record.reply) × (u.view ≡ seen.record.view) × (u.seen ≡ seen.cut))
     (λ u. (length u.view ≡ n) × (length u.seen ≡ n))
     (λ u tells. (ap length tells.1 ∙ wide.0, ap length tells.2 ∙ wide.1))
     c.judge.ensures.unjudged_record

@@ -32,11 +32,11 @@ scan-cut-requires-clause-begins g c =
 pub publish_row-requires-clause-may : goal.publish_row-requires-clause-may
 publish_row-requires-clause-may g c =
     let v = c.args.viewed in
-    (readies_of (shape_of g.P.Program.meaning c.args.rows.now) v.op v.reply v.view
-    c.reply-reply.result c.view-view.result c.scan-cut.result
+    (readies_of (shape_of g.P.Program.meaning c.args.rows.now) v.op v.record
+    c.record-record.result c.scan-cut.result
     (stance_of c.into_caller-caller.result) (local_with v.caller)
     (local_with c.into_caller-caller.result)
-    (local_with c.scan-cut.new.caller) c.reply-reply.ensures c.view-view.ensures
+    (local_with c.scan-cut.new.caller) c.record-record.ensures
     c.into_caller-caller.ensures.caller.local c.requires.wide c.scan-cut.ensures.wide
     v.recorded c.scan-cut.ensures.scanned).may
 
@@ -45,13 +45,13 @@ invariant_of-result g c =
     let v = c.args.viewed in
     record {
       publishing =
-          subst (IsPublishing c.reply-reply.result c.view-view.result)
+          subst (IsPublishing c.record-record.result)
           (sym c.publish_row.ensures.published)
-          (readies_of (shape_of g.P.Program.meaning c.args.rows.now) v.op v.reply v.view
-          c.reply-reply.result c.view-view.result c.scan-cut.result
+          (readies_of (shape_of g.P.Program.meaning c.args.rows.now) v.op v.record
+          c.record-record.result c.scan-cut.result
           (stance_of c.into_caller-caller.result)
           (local_with v.caller) (local_with c.into_caller-caller.result)
-          (local_with c.scan-cut.new.caller) c.reply-reply.ensures c.view-view.ensures
+          (local_with c.scan-cut.new.caller) c.record-record.ensures
           c.into_caller-caller.ensures.caller.local
           c.requires.wide c.scan-cut.ensures.wide v.recorded c.scan-cut.ensures.scanned).published;
       stands =
@@ -65,11 +65,11 @@ pub returns-clause-progress : goal.returns-clause-progress
 returns-clause-progress g c =
     let v = c.args.viewed in
     ap progress_of c.publish_row.ensures.published
-    ∙ (readies_of (shape_of g.P.Program.meaning c.args.rows.now) v.op v.reply v.view
-    c.reply-reply.result c.view-view.result c.scan-cut.result
+    ∙ (readies_of (shape_of g.P.Program.meaning c.args.rows.now) v.op v.record
+    c.record-record.result c.scan-cut.result
     (stance_of c.into_caller-caller.result) (local_with v.caller)
     (local_with c.into_caller-caller.result)
-    (local_with c.scan-cut.new.caller) c.reply-reply.ensures c.view-view.ensures
+    (local_with c.scan-cut.new.caller) c.record-record.ensures
     c.into_caller-caller.ensures.caller.local c.requires.wide
     c.scan-cut.ensures.wide v.recorded c.scan-cut.ensures.scanned).progress
 
@@ -77,18 +77,18 @@ pub returns-clause-grows : goal.returns-clause-grows
 returns-clause-grows g c =
     let v = c.args.viewed in
     subst (Grows (local_with v.caller)) (sym c.publish_row.ensures.published)
-    (readies_of (shape_of g.P.Program.meaning c.args.rows.now) v.op v.reply v.view
-    c.reply-reply.result c.view-view.result c.scan-cut.result
+    (readies_of (shape_of g.P.Program.meaning c.args.rows.now) v.op v.record
+    c.record-record.result c.scan-cut.result
     (stance_of c.into_caller-caller.result) (local_with v.caller)
     (local_with c.into_caller-caller.result)
-    (local_with c.scan-cut.new.caller) c.reply-reply.ensures c.view-view.ensures
+    (local_with c.scan-cut.new.caller) c.record-record.ensures
     c.into_caller-caller.ensures.caller.local c.requires.wide
     c.scan-cut.ensures.wide v.recorded c.scan-cut.ensures.scanned).grows
 
 pub returns-clause-published : goal.returns-clause-published
 returns-clause-published g c =
     let v = c.args.viewed in
-    publication c.args.rows.now.callers v.op v.reply v.view c.scan-cut.result (local_with v.caller)
+    publication c.args.rows.now.callers v.op v.record c.scan-cut.result (local_with v.caller)
     (local_with c.into_caller-caller.result) (local_with c.scan-cut.new.caller)
     (local_with c.publish_row.new.caller) c.into_caller-caller.ensures.caller.local v.recorded
     c.scan-cut.ensures.scanned c.scan-cut.ensures.looked c.publish_row.ensures.published

@@ -20,7 +20,7 @@ invariant_of-result g c =
     let p = c.args.published in
     let leaves =
     sees (shape_of g.P.Program.meaning c.args.rows.now) (who_of p.caller)
-    (who_of c.scan-cut.new.caller) p.reply p.view c.scan-cut.result (local_with p.caller)
+    (who_of c.scan-cut.new.caller) p.record c.scan-cut.result (local_with p.caller)
     (local_with c.scan-cut.new.caller) c.requires.rows.seat.local
     c.scan-cut.ensures.caller.0.seat.local p.publishing c.scan-cut.ensures.scanned in
     record {
@@ -34,7 +34,7 @@ pub returns-clause-own : goal.returns-clause-own
 returns-clause-own g c =
     let p = c.args.published in
     (sees (shape_of g.P.Program.meaning c.args.rows.now) (who_of p.caller)
-    (who_of c.scan-cut.new.caller) p.reply p.view c.scan-cut.result (local_with p.caller)
+    (who_of c.scan-cut.new.caller) p.record c.scan-cut.result (local_with p.caller)
     (local_with c.scan-cut.new.caller) c.requires.rows.seat.local
     c.scan-cut.ensures.caller.0.seat.local p.publishing c.scan-cut.ensures.scanned).own
 
@@ -42,7 +42,7 @@ pub returns-clause-progress : goal.returns-clause-progress
 returns-clause-progress g c =
     let p = c.args.published in
     (sees (shape_of g.P.Program.meaning c.args.rows.now) (who_of p.caller)
-    (who_of c.scan-cut.new.caller) p.reply p.view c.scan-cut.result (local_with p.caller)
+    (who_of c.scan-cut.new.caller) p.record c.scan-cut.result (local_with p.caller)
     (local_with c.scan-cut.new.caller) c.requires.rows.seat.local
     c.scan-cut.ensures.caller.0.seat.local p.publishing c.scan-cut.ensures.scanned).progress
 
@@ -50,13 +50,13 @@ pub returns-clause-grows : goal.returns-clause-grows
 returns-clause-grows g c =
     let p = c.args.published in
     (sees (shape_of g.P.Program.meaning c.args.rows.now) (who_of p.caller)
-    (who_of c.scan-cut.new.caller) p.reply p.view c.scan-cut.result (local_with p.caller)
+    (who_of c.scan-cut.new.caller) p.record c.scan-cut.result (local_with p.caller)
     (local_with c.scan-cut.new.caller) c.requires.rows.seat.local
     c.scan-cut.ensures.caller.0.seat.local p.publishing c.scan-cut.ensures.scanned).grows
 
 pub returns-clause-seen : goal.returns-clause-seen
 returns-clause-seen g c =
     let p = c.args.published in
-    sight c.args.rows.now.callers p.reply p.view c.scan-cut.result (local_with p.caller)
+    sight c.args.rows.now.callers p.record c.scan-cut.result (local_with p.caller)
     (local_with c.scan-cut.new.caller) p.publishing c.scan-cut.ensures.scanned
     c.scan-cut.ensures.looked
