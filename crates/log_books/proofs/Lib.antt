@@ -1,2 +1,4 @@
 mod Growing
+mod Keying
 mod Making
+mod Writing

@@ -1,6 +1,7 @@
-ghost use Rattle.std.specs.Prelude.{ℕ, List, IfOk, IfSome, OnOk};
+ghost use Rattle.std.specs.Prelude.{◌++◌, ◌∷◌, [], List, IfOk, IfSome, OnOk};
 ghost use Rattle.history_text.specs.declared.call.LogCall.{LogCall};
-ghost use Rattle.seq_objects.specs.declared.kind.Kind.{Kind};
+ghost use Rattle.log_books.specs.declared.options.Options.{Options as TheOptions};
+ghost use Rattle.log_books.specs.Keys.{KeyAt};
 ghost use Rattle.log_books.specs.Parts.{IsPart, AreParts, IsWritten, IsImported};
 
 use crate::key_calls::earlier;
@@ -21,10 +22,10 @@ pub struct Imported {
 
 // Appends the part of a further key.
 fn put_part(imported: &mut Imported, part: &KeyPart) -> Result<(), NoMemory>
-    ensures { OnOk result ((kind : Kind) (log : List LogCall) (places : List ℕ)
-        → IsPart kind log places part.now.has_book part.now.text.items
-        → AreParts kind log imported.old.has_books imported.old.text.items
-        → AreParts kind log imported.new.has_books imported.new.text.items) }
+    ensures { OnOk result ((options : TheOptions) (log : List LogCall) (keys : List KeyAt) (at : KeyAt)
+        → IsPart options log at part.now.has_book part.now.text.items
+        → AreParts options log keys imported.old.has_books imported.old.text.items
+        → AreParts options log (keys ++ at ∷ []) imported.new.has_books imported.new.text.items) }
 {
     imported.text.extend_from_slice(&part.text)?;
     imported.has_books = imported.has_books && part.has_book;
@@ -39,8 +40,8 @@ pub fn import<'a>(
     options: &Options<'a>,
     bytes: &'a [u8],
 ) -> Result<Imported, LogError>
-    // The text consists of parts, each of which ends with the text of the book of some of the calls
-    // that the bytes say, or with the line of a fault.
+    // The text has a part for each key of the calls that the bytes say: the lines of the key, of its
+    // values' names and of its calls, and the text of the book of its calls, or the line of a fault.
     ensures { IfOk result
         (λ imported. IsWritten options.now bytes.now imported.has_books imported.text.items) }
 {
@@ -56,7 +57,7 @@ pub fn import<'a>(
     let mut fault: Option<LogFault> = None;
     let keys = key_places(alloc, &log)?;
     for of_key in &keys {
-        match key_part(alloc, &*options, of_key.key, &log, &of_key.places) {
+        match key_part(alloc, &*options, &log, of_key) {
             Ok(part) => put_part(&mut imported, &part)?,
             Err(LogError::Fault(found)) => fault = Some(earlier(fault, found)),
             Err(LogError::NoMemory) => return Err(LogError::NoMemory),
@@ -75,8 +76,7 @@ pub fn import_by<'a>(
     lines: &'a [u8],
     bytes: &'a [u8],
 ) -> Result<Option<Imported>, LogError>
-    // The text consists of parts, each of which ends with the text of the book of some of the calls
-    // that the bytes say, or with the line of a fault.
+    // The text has a part for each key of the calls that the bytes say, as some options read them.
     ensures { IfOk result (λ found. IfSome found (λ imported. IsImported bytes.now imported.text.items)) }
 {
     match options_of(alloc, &words_of_lines(alloc, lines)?)? {

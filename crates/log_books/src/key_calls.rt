@@ -1,8 +1,9 @@
 //! The calls of one key, as calls of the kind with numbers for their values.
 
-ghost use Rattle.std.specs.Prelude.{◌≡◌, None, IfOk, IfSome, IfNone, IsPermutation, List};
+ghost use Rattle.std.specs.Prelude.{◌≡◌, ◌<◌, All, Some, IfOk, IfSome, IfNone, IsPermutation, List, length, map, option_map, unwrap_or};
 ghost use Rattle.log_books.specs.declared.key_calls.LinedCall.{LinedCall};
-ghost use Rattle.log_books.specs.Calls.{IsMadeOf, AreMadeAt};
+ghost use Rattle.log_books.specs.Calls.{IsMadeOf, IsLeftOut, AreMadeAt};
+ghost use Rattle.log_books.specs.Words.{names_of, KeepsNames, has_numbers, says_no, says_yes, arguments_of, IsWordOf, IsReplyOf};
 
 use crate::names::Names;
 use crate::operation::{Operation, Says, has_numbers};
@@ -42,7 +43,11 @@ fn arguments<'a>(
     options: &Options,
     operation: Operation,
     call: &LogCall<'a>,
-) -> Result<Vec<&'a [u8]>, LogError> {
+) -> Result<Vec<&'a [u8]>, LogError>
+    ensures given { IfOk result (λ found. arguments_of options.now.kind operation.arguments call.now
+        ≡ Some (map (λ value. value.now) found.items)) }
+    ensures many { IfOk result (λ found. length found.items ≡ operation.arguments) }
+{
     let mut found = Vec::new(alloc);
     if options.kind == Kind::Map {
         if let Some(key) = call.key {
@@ -63,9 +68,7 @@ fn arguments<'a>(
             let Some(parts) = items(alloc, false, list)? else {
                 return Err(wrong(call.line, LogWhat::Value));
             };
-            for part in &parts {
-                found.push(*part)?;
-            }
+            found.extend_from_slice(&parts)?;
         }
         None if missing == 1 => match call.value {
             Some(value) => found.push(value)?,
@@ -80,13 +83,19 @@ fn arguments<'a>(
 }
 
 // The operation word of an operation with these arguments.
+#[tactic(auto, using(crate::proofs::Making::keeps_both))]
 fn word_of<'a>(
     alloc: Global,
     options: &Options,
     operation: Operation,
     names: &mut Names<'a>,
     call: &LogCall<'a>,
-) -> Result<OpWord, LogError> {
+) -> Result<OpWord, LogError>
+    requires { names.old.numbered ≡ has_numbers options.now.kind }
+    ensures numbered { names.new.numbered ≡ names.old.numbered }
+    ensures keeps { KeepsNames (names_of names.old) (names_of names.new) }
+    ensures word { IfOk result (IsWordOf options.now (names_of names.new) operation call.now) }
+{
     let mut words: Vec<Vec<u8>> = Vec::new(alloc);
     for argument in &arguments(alloc, options, operation, call)? {
         let Some(value) = names.number_of(*argument)? else {
@@ -96,8 +105,12 @@ fn word_of<'a>(
         put_number(&mut word, value)?;
         words.push(word)?;
     }
-    let second = words.first().map(|word| word.as_slice());
-    let third = words.get(1).map(|word| word.as_slice());
+    let (second, third) = match words.as_slice() {
+        [] => (None, None),
+        [one] => (Some(one.as_slice()), None),
+        [one, other] => (Some(one.as_slice()), Some(other.as_slice())),
+        _ => return Err(wrong(call.line, LogWhat::Value)),
+    };
     match options
         .kind
         .op_from_words(operation.name.as_bytes(), second, third)
@@ -113,7 +126,12 @@ fn reply_of<'a>(
     names: &mut Names<'a>,
     initial: &'a [u8],
     answer: &LogAnswer<'a>,
-) -> Result<u64, LogError> {
+) -> Result<u64, LogError>
+    ensures numbered { names.new.numbered ≡ names.old.numbered }
+    ensures keeps { KeepsNames (names_of names.old) (names_of names.new) }
+    ensures reply { IfOk result (IsReplyOf names.new.numbered (names_of names.new) operation.says
+        (unwrap_or (option_map (λ value. value.now) answer.now.value) initial.entry.now)) }
+{
     let value = answer.value.unwrap_or(initial);
     match operation.says {
         Says::Done => Ok(DONE),
@@ -129,11 +147,15 @@ fn reply_of<'a>(
     }
 }
 
-fn is_no(value: &[u8]) -> bool {
+fn is_no(value: &[u8]) -> bool
+    ensures { result ≡ says_no value.now }
+{
     matches!(value, b"false" | b"no" | b"0")
 }
 
-fn is_yes(value: &[u8]) -> bool {
+fn is_yes(value: &[u8]) -> bool
+    ensures { result ≡ says_yes value.now }
+{
     matches!(value, b"true" | b"yes" | b"1")
 }
 
@@ -153,8 +175,12 @@ fn lined<'a>(
     process: u64,
     call: &LogCall<'a>,
 ) -> Result<Option<LinedCall>, LogError>
-    ensures made { IfOk result (λ found. IfSome found (IsMadeOf call.now)) }
-    ensures lost { IfOk result (λ found. IfNone found (call.now.answer ≡ None)) }
+    requires { names.old.numbered ≡ has_numbers options.now.kind }
+    ensures numbered { names.new.numbered ≡ names.old.numbered }
+    ensures keeps { KeepsNames (names_of names.old) (names_of names.new) }
+    ensures made { IfOk result (λ found. IfSome found
+        (IsMadeOf options.now (names_of names.new) call.now)) }
+    ensures left_out { IfOk result (λ found. IfNone found (IsLeftOut options.now call.now)) }
 {
     let Some(operation) = options.operation(call.operation) else {
         return Err(wrong(call.line, LogWhat::Operation));
@@ -184,24 +210,23 @@ fn lined<'a>(
 impl<'a> KeyCalls<'a> {
     /// The calls at these places of the log, without lost ones that change nothing. Of all faults
     /// of their words the first one, by its line, is answered.
-    #[tactic(auto, using(crate::proofs::Making::made_lost, crate::proofs::Making::made_more))]
     pub fn of(
         alloc: Global,
         options: &Options<'a>,
         log: &[LogCall<'a>],
         places: &[usize],
     ) -> Result<KeyCalls<'a>, LogError>
+        requires { All (λ place. place < length log.now) places.now }
         ensures { IfOk result (λ found. (made : List LinedCall)
-            × AreMadeAt log.now places.now made × IsPermutation made found.calls.items) }
+            × AreMadeAt options.now (names_of found.names) log.now places.now made
+            × IsPermutation made found.calls.items) }
     {
         let mut names = Names::new(alloc, has_numbers(options.kind), options.initial)?;
         let mut users: IndexSet<Option<&'a [u8]>> = IndexSet::new(alloc);
         let mut calls = Vec::new(alloc);
         let mut fault: Option<LogFault> = None;
         for place in places {
-            let Some(call) = log.get(*place) else {
-                continue;
-            };
+            let call = &log[*place];
             let process = users.insert_full(call.process)?.0 as u64;
             match lined(alloc, options, &mut names, process, call) {
                 Ok(Some(lined)) => calls.push(lined)?,

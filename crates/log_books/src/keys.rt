@@ -1,5 +1,8 @@
 //! The calls of a log by their keys.
 
+ghost use Rattle.std.specs.Prelude.{IfOk, map};
+ghost use Rattle.log_books.specs.Keys.{key_at, AreAllKeysOf};
+
 use book_base::NoMemory;
 use history_text::LogCall;
 use indexmap::IndexSet;
@@ -13,23 +16,24 @@ pub struct KeyPlaces<'a> {
 }
 
 /// The keys of a log in the order of their first calls, each with the places of its calls. A log
-/// without keys has one, which is `None`.
-pub fn key_places<'a>(alloc: Global, log: &[LogCall<'a>]) -> Result<Vec<KeyPlaces<'a>>, NoMemory> {
+/// without calls has one, which is `None`.
+pub fn key_places<'a>(alloc: Global, log: &[LogCall<'a>]) -> Result<Vec<KeyPlaces<'a>>, NoMemory>
+    ensures { IfOk result (λ found. AreAllKeysOf log.now (map key_at found.items)) }
+{
     let mut known: IndexSet<Option<&'a [u8]>> = IndexSet::new(alloc);
     let mut found: Vec<KeyPlaces<'a>> = Vec::new(alloc);
     for (place, call) in log.iter().enumerate() {
-        let (at, new) = known.insert_full(call.key)?;
-        if new {
+        let (at, is_new) = known.insert_full(call.key)?;
+        if is_new {
             found.push(KeyPlaces {
                 key: call.key,
-                places: Vec::new(alloc),
+                places: vec![in alloc; place]?,
             })?;
-        }
-        if let Some(of_key) = found.get_mut(at) {
-            of_key.places.push(place)?;
+        } else {
+            found[at].places.push(place)?;
         }
     }
-    if found.is_empty() {
+    if log.is_empty() {
         found.push(KeyPlaces {
             key: None,
             places: Vec::new(alloc),

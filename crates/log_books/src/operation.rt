@@ -1,3 +1,6 @@
+ghost use Rattle.std.specs.Prelude.{◌≡◌};
+ghost use Rattle.log_books.specs.Words.{has_numbers};
+
 use seq_objects::Kind;
 
 /// What the reply of an operation says.
@@ -93,6 +96,8 @@ impl Operation {
 }
 
 /// Whether the values of a kind are numbers of its own, and no names.
-pub fn has_numbers(kind: Kind) -> bool {
+pub fn has_numbers(kind: Kind) -> bool
+    ensures { result ≡ has_numbers kind }
+{
     matches!(kind, Kind::Counter | Kind::Pqueue)
 }

@@ -1,3 +1,6 @@
+ghost use Rattle.std.specs.Prelude.{IfSome};
+ghost use Rattle.log_books.specs.Words.{IsNamed};
+
 use crate::operation::Operation;
 use history_text::{Clock, Format, NamedRole};
 use seq_objects::Kind;
@@ -22,8 +25,11 @@ pub struct Options<'a> {
 }
 
 impl Options<'_> {
-    /// The operation that the log names so.
-    pub fn operation(&self, name: &[u8]) -> Option<Operation> {
+    /// The operation that the log names so: the one that `operations` says, or else the one that
+    /// logs mostly name so.
+    pub fn operation(&self, name: &[u8]) -> Option<Operation>
+        ensures { IfSome result (IsNamed self.now name.now) }
+    {
         for named in &self.operations {
             if named.name == name {
                 return Some(named.operation);

@@ -4,8 +4,8 @@ use Rattle.log_books.proofs.importing.put_part.Goals as goal
 use Rattle.log_books.proofs.importing.put_part.Goals.{then-imported, else-imported}
 
 pub returns : goal.returns
-returns c = λ kind log places is are.
-    parts_more_at kind log places c.args.imported.now.has_books c.args.part.now.has_book
+returns c = λ options log keys at is are.
+    parts_more_at options log keys at c.args.imported.now.has_books c.args.part.now.has_book
     c.if-imported.imported c.args.imported.now.text.items c.args.part.now.text.items
     c.extend_from_slice.new.self.items
     (elim c.if-imported.branch [
