@@ -5,6 +5,6 @@ pub mod WrittenTexts
 pub mod ReadTexts
 pub mod PlaceLines
 pub mod FaultTexts
-mod Answers
+pub mod Answers
 pub mod BookLemmas
 pub mod CertificateLemmas

@@ -7,10 +7,12 @@ use Rattle.book_base.specs.Book.{Page}
 use Rattle.seq_objects.specs.declared.kind.Kind.{Kind}
 use Rattle.seq_objects.specs.Replies.{reply_word}
 use Rattle.text_fields.specs.Lines.{Unread}
-use Rattle.text_fields.specs.Faults.{GoesTo, IsFirstFault, StopsFor}
+use Rattle.text_fields.specs.declared.version.Version.TheVariants.{Second}
+use Rattle.text_fields.specs.Faults.{Wanted, ALine, Nothing, Rules, GoesTo, IsFirstFault, StopsFor}
+use Rattle.text_fields.specs.Head.{TitleDue}
 use Rattle.book_text.specs.Grammar.{end_words}
-use Rattle.book_text.specs.BookRules.{InCalls}
-use Rattle.certificate_text.specs.CertificateRules.{CertificateDue, InBook, OrderDue, InPlaces, AllRead, IsPlaceLine, certificate_rules, nothing_read}
+use Rattle.book_text.specs.BookRules.{BookDue, InHead, InCalls, AtEnd, BookPasses, BookFails}
+use Rattle.certificate_text.specs.CertificateRules.{CertificateDue, OrderDue, InPlaces, AllRead, IsPlaceLine, certificate_rules}
 
 -- the text begins with right lines of a certificate that lead from one state to another, and `left`
 -- is the rest of it
@@ -24,19 +26,34 @@ Stops due text fault = StopsFor certificate_rules due text fault
 
 -- ---- the book
 
+-- what is due next where other rules read on after a book's end
+abbrev pub part_wanted : BookDue → Wanted
+part_wanted (InHead due) = ALine
+part_wanted (InCalls kind book calls) = ALine
+part_wanted (AtEnd kind book) = Nothing
+
+-- the rules of the lines of a book that other lines follow
+abbrev pub book_part : Rules BookDue
+book_part =
+    record { Passes = BookPasses Second; Fails = BookFails Second; wanted = part_wanted }
+
 -- the text begins with the lines of this book, up to its end
 abbrev pub IsBookRead : Unread → Kind → List Page → Unread → Type 0
-IsBookRead text kind book left = Goes nothing_read text (OrderDue kind book) left
+IsBookRead text kind book left = GoesTo book_part (InHead TitleDue) text (AtEnd kind book) left
+
+-- a reader of the lines of a book stops for want of memory, or with the first fault of these lines
+abbrev pub IsNoBook : Unread → ReadFault → Type 0
+IsNoBook text fault = StopsFor book_part (InHead TitleDue) text fault
 
 -- the text begins with the line 'end' of a book, which comes after the lines of its calls
 abbrev pub IsBookEnd : Unread → Unread → Type 0
 IsBookEnd text left = (kind : Kind) (book : List Page)
-    → Goes (InBook (InCalls kind book [])) text (OrderDue kind book) left
+    → GoesTo book_part (InCalls kind book []) text (AtEnd kind book) left
 
 -- the first fault of a text where, after the lines of a book's calls, the line 'end' is due
 abbrev pub IsNoBookEnd : Unread → TextFault → Type 0
 IsNoBookEnd text fault = (kind : Kind) (book : List Page)
-    → IsFirstFault certificate_rules (InBook (InCalls kind book [])) text fault
+    → IsFirstFault book_part (InCalls kind book []) text fault
 
 -- ---- the order
 

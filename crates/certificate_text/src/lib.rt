@@ -14,6 +14,7 @@ mod places;
 mod reader;
 mod writer;
 
+pub use book_lines::{is_end, read_book_lines};
 pub use book_verdict::{BookVerdict, verify, verify_within};
 pub use certificate::Certificate;
 pub use certification::certify;
@@ -22,5 +23,6 @@ pub use laws::{
     no_fault_of_a_text, one_certificate_per_text, one_first_fault, one_text_per_certificate,
 };
 pub use order_verdict::{OrderVerdict, order};
+pub use place_line::take_call;
 pub use reader::read_certificate;
 pub use writer::write_certificate;

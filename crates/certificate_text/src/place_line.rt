@@ -38,9 +38,11 @@ pub(crate) fn read_place_line(line: &[u8]) -> Result<Option<Place>, What>
 }
 
 /// Takes a caller and a number, whether or not a book has such a call.
-fn take_call(words: &mut Words) -> Option<Call>
+pub fn take_call(words: &mut Words) -> Option<Call>
+    // The words that were taken are those of the call that is answered.
     ensures found { IfSome result (λ call.
         IsNamed call × (words.old ≡ place_words call ++ words.new)) }
+    // None is answered only where the words begin with no call.
     ensures none { IfNone result ((call : Call) (suffix : List (List ℕ)) → IsNamed call
         → words.old ≢ place_words call ++ suffix) }
 {

@@ -52,7 +52,9 @@ pub fn numbers_through(
     first: &[Vec<u64>],
     second: &[Vec<u64>],
 ) -> Result<Vec<Vec<u64>>, NoMemory>
+    // Both have a list for each caller.
     requires callers { length first.now ≡ length second.now }
+    // Each place is one of the caller's list in `first`.
     requires inside { (i k : ℕ) → k < length (numbers_of (numbers_in second.now) i)
         → slice_index (numbers_of (numbers_in second.now) i) k
         < length (numbers_of (numbers_in first.now) i) }

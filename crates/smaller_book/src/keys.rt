@@ -22,6 +22,7 @@ const PUT: u64 = 1;
 /// value that the call puts in or shows, of a register the value that it writes or shows, of a set
 /// or a map the argument.
 pub fn key_of(kind: Kind, book: &Book, call: Call) -> Option<u64>
+    // The call is one of the book.
     requires { IsCall book.now call }
     ensures { result ≡ key_of_call kind book.now call }
 {

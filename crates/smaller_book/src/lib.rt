@@ -15,10 +15,12 @@ mod removal;
 mod shrinking;
 mod thinning;
 
+pub use composing::{numbers_of_all, numbers_through};
 pub use cuts::earliest;
 pub use judging::calls_of_all;
-pub use numbered::part;
-pub use removal::Smaller;
+pub use keys::key_of;
+pub use numbered::{count_below, part};
+pub use removal::{Smaller, all_numbers_but, is_read_only, push_if};
 pub use shrinking::shrink;
 
 /// A book has few calls where it has at most this many. Then it is tried at each earlier cut, also

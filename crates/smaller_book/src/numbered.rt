@@ -139,13 +139,13 @@ fn renumbered(view: &Cut, numbers: &[Vec<u64>]) -> Cut
 {
     let mut counts = *view;
     for caller in 0..view.n() {
-        counts.set(caller, count(&numbers[caller as usize], view.get(caller)));
+        counts.set(caller, count_below(&numbers[caller as usize], view.get(caller)));
     }
     counts
 }
 
-// How many numbers stand in a list before the first one that isn't below a bound.
-fn count(numbers: &[u64], bound: u64) -> u64
+/// How many numbers stand in a list before the first one that isn't below a bound.
+pub fn count_below(numbers: &[u64], bound: u64) -> u64
     ensures { result ≡ count_below numbers.now bound }
 {
     numbers.iter().take_while(|number| **number < bound).count() as u64

@@ -123,6 +123,7 @@ pub fn without(
 /// Whether a call is read-only: its operation doesn't change any list at which it has the recorded
 /// reply, or no list at all where the call is unanswered.
 pub fn is_read_only(kind: Kind, book: &Book, call: Call) -> bool
+    // The call is one of the book.
     requires { IsCall book.now call }
     ensures { IsTrue result ↔ IsReadOnly (kind_next kind) book.now call }
 {
@@ -148,8 +149,9 @@ fn leaves_always(kind: Kind, op: OpWord) -> bool
         && kind.leaves(op, wrapping_value_reply(0))
 }
 
-// For each caller of a book the numbers of its calls, with `call` left out.
-fn all_numbers_but(alloc: Global, book: &Book, call: Call) -> Result<Vec<Vec<u64>>, NoMemory>
+/// For each caller of a book the numbers of its calls, with `call` left out.
+pub fn all_numbers_but(alloc: Global, book: &Book, call: Call) -> Result<Vec<Vec<u64>>, NoMemory>
+    // The call is one of the book.
     requires { IsCall book.now call }
     ensures { IfOk result (λ rows. numbers_in rows.items ≡ all_but book.now call) }
 {

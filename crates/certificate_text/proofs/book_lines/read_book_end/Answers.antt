@@ -4,26 +4,26 @@ use Rattle.book_base.specs.declared.fault.What.TheVariants.{End}
 use Rattle.text_fields.specs.Lines.{words_of}
 use Rattle.text_fields.proofs.Sharp.{goes_line, stops_cut, stops_line, only_test}
 use Rattle.book_text.specs.BookRules.{InCalls, AtEnd}
-use Rattle.certificate_text.specs.CertificateRules.{InBook, OrderDue, certificate_rules}
+use Rattle.certificate_text.specs.Reading.{book_part}
 use Rattle.certificate_text.proofs.book_lines.read_book_end.Goals as goal
 
 pub returns-in_err-line-clause-refused : goal.returns-in_err-line-clause-refused
 returns-in_err-line-clause-refused c =
     let p = err_from_is_err_and c.from_residual.result c.from_residual.ensures.1 in
-    rw (p.1, p.2) (λ kind book. stops_cut certificate_rules (InBook (InCalls kind book []))
+    rw (p.1, p.2) (λ kind book. stops_cut book_part (InCalls kind book [])
     c.args.lines.now c.in_err-line.field-0.0 refl c.in_err-line.ensures.cut.0)
 
 pub returns-then-is_end-clause-found : goal.returns-then-is_end-clause-found
 returns-then-is_end-clause-found c = λ kind book.
-    goes_line certificate_rules (InBook (InCalls kind book [])) (OrderDue kind book)
+    goes_line book_part (InCalls kind book []) (AtEnd kind book)
     c.args.lines.now c.line.new.self c.in_ok-line.field-0.now c.in_ok-line.ensures.line
-    (AtEnd kind book, (sym c.new-words.ensures ∙ c.is_end.ensures.0 c.if-is_end.true, refl), refl)
+    (sym c.new-words.ensures ∙ c.is_end.ensures.0 c.if-is_end.true, refl)
 
 pub returns-else-is_end-clause-refused : goal.returns-else-is_end-clause-refused
 returns-else-is_end-clause-refused c = λ kind book.
-    rw c.number-line.ensures (stops_line certificate_rules (InBook (InCalls kind book []))
+    rw c.number-line.ensures (stops_line book_part (InCalls kind book [])
     c.args.lines.now c.line.new.self c.in_ok-line.field-0.now End refl c.in_ok-line.ensures.line
-    (only_test (certificate_rules.Fails (InBook (InCalls kind book []))
+    (only_test (book_part.Fails (InCalls kind book [])
     (words_of c.in_ok-line.field-0.now)) End (
       refl,
       λ e. let is : c.is_end.result ≡ true = c.is_end.ensures.1 (c.new-words.ensures ∙ e) in

@@ -5,11 +5,11 @@ use Rattle.text_fields.specs.Head.{TitleDue, HeadRead}
 use Rattle.text_fields.proofs.Sharp.{goes_then, stops_later}
 use Rattle.text_fields.proofs.Within.{goes_within, fault_within, stops_within}
 use Rattle.book_text.specs.CallLines.{no_call_read}
-use Rattle.book_text.specs.BookRules.{InCalls}
+use Rattle.book_text.specs.BookRules.{InHead, InCalls, AtEnd, after_head}
 use Rattle.book_text.proofs.CallTexts.{stops_then}
 use Rattle.book_text.proofs.Lifts.{few_calls}
-use Rattle.certificate_text.specs.CertificateRules.{InBook, OrderDue, nothing_read, certificate_rules}
-use Rattle.certificate_text.proofs.BookParts.{in_head, head_within, calls_within}
+use Rattle.certificate_text.specs.Reading.{book_part}
+use Rattle.certificate_text.proofs.BookParts.{head_within, calls_within}
 use Rattle.certificate_text.proofs.book_lines.read_book_lines.Goals as goal
 
 pub read_calls-requires : goal.read_calls-requires
@@ -32,7 +32,7 @@ returns-in_err-book-clause-refused c =
     let calls = c.in_ok-head.head.calls in
     let start = goes_within head_within TitleDue
     (HeadRead kind calls) c.args.lines.now c.read_head.new.lines c.in_ok-head.ensures.found in
-    rw (p.1, p.2) (stops_then certificate_rules nothing_read (in_head (HeadRead kind calls))
+    rw (p.1, p.2) (stops_then book_part (InHead TitleDue) (after_head (HeadRead kind calls))
     c.args.lines.now c.read_head.new.lines c.in_err-book.field-0.0 start
     (stops_within (calls_within kind) (no_call_read calls) c.read_head.new.lines
     c.in_err-book.field-0.0 c.in_err-book.ensures.refused))
@@ -48,11 +48,11 @@ returns-in_err-read_book_end-clause-refused c =
     let lines = goes_within (calls_within kind) (no_call_read calls)
     (record { book = c.in_ok-book.book; due = [] }) c.read_head.new.lines c.read_calls.new.lines
     c.in_ok-book.ensures.found in
-    let both = goes_then certificate_rules nothing_read (in_head (HeadRead kind calls))
-    (InBook (InCalls kind c.in_ok-book.book [])) c.args.lines.now c.read_head.new.lines
+    let both = goes_then book_part (InHead TitleDue) (after_head (HeadRead kind calls))
+    (InCalls kind c.in_ok-book.book []) c.args.lines.now c.read_head.new.lines
     c.read_calls.new.lines start lines in
     rw (p.1, p.2)
-    (stops_later certificate_rules nothing_read (InBook (InCalls kind c.in_ok-book.book []))
+    (stops_later book_part (InHead TitleDue) (InCalls kind c.in_ok-book.book [])
     c.args.lines.now c.read_calls.new.lines c.in_err-read_book_end.field-0.0 both
     (c.in_err-read_book_end.ensures.refused kind c.in_ok-book.book))
 
@@ -65,9 +65,9 @@ returns-clause-found c =
     let lines = goes_within (calls_within kind) (no_call_read calls)
     (record { book = c.in_ok-book.book; due = [] }) c.read_head.new.lines c.read_calls.new.lines
     c.in_ok-book.ensures.found in
-    let both = goes_then certificate_rules nothing_read (in_head (HeadRead kind calls))
-    (InBook (InCalls kind c.in_ok-book.book [])) c.args.lines.now c.read_head.new.lines
+    let both = goes_then book_part (InHead TitleDue) (after_head (HeadRead kind calls))
+    (InCalls kind c.in_ok-book.book []) c.args.lines.now c.read_head.new.lines
     c.read_calls.new.lines start lines in
-    goes_then certificate_rules nothing_read (InBook (InCalls kind c.in_ok-book.book []))
-    (OrderDue kind c.in_ok-book.book) c.args.lines.now c.read_calls.new.lines
+    goes_then book_part (InHead TitleDue) (InCalls kind c.in_ok-book.book [])
+    (AtEnd kind c.in_ok-book.book) c.args.lines.now c.read_calls.new.lines
     c.read_book_end.new.lines both (c.in_ok-read_book_end.ensures.found kind c.in_ok-book.book)

@@ -2,11 +2,21 @@ use Rattle.std.proofs.Common.{[], subst}
 use Rattle.std.proofs.lemmas.Result.{err_from_is_err_and}
 use Rattle.text_fields.specs.Lines.{Unread}
 use Rattle.text_fields.proofs.Sharp.{goes_then, stops_later}
-use Rattle.book_text.specs.BookRules.{whole_text}
+use Rattle.text_fields.specs.Head.{TitleDue}
+use Rattle.text_fields.proofs.Within.{goes_within, stops_within}
+use Rattle.book_text.specs.BookRules.{InHead, AtEnd, whole_text}
 use Rattle.book_text.proofs.CallTexts.{stops_then}
 use Rattle.certificate_text.specs.CertificateRules.{OrderDue, InPlaces, AllRead, nothing_read, certificate_rules}
-use Rattle.certificate_text.specs.Reading.{Goes}
+use Rattle.certificate_text.specs.Reading.{Goes, Stops}
+use Rattle.certificate_text.proofs.BookParts.{book_within}
 use Rattle.certificate_text.proofs.reader.read_parts.Goals as goal
+
+pub returns-in_err-kind-clause-refused : goal.returns-in_err-kind-clause-refused
+returns-in_err-kind-clause-refused c =
+    let p = err_from_is_err_and c.from_residual.result c.from_residual.ensures.1 in
+    rw (p.1, p.2) (subst (λ (t : Unread). Stops nothing_read t c.in_err-kind.field-0.0)
+    c.new-lines.ensures (stops_within book_within (InHead TitleDue) _ c.in_err-kind.field-0.0
+    c.in_err-kind.ensures.refused))
 
 pub returns-in_err-read_title-clause-refused : goal.returns-in_err-read_title-clause-refused
 returns-in_err-read_title-clause-refused c =
@@ -17,7 +27,8 @@ returns-in_err-read_title-clause-refused c =
     let text : Unread = whole_text c.args.bytes.now in
     let prefix =
     subst (λ (t : Unread). Goes nothing_read t (OrderDue kind book) c.read_book_lines.new.lines)
-    c.new-lines.ensures c.in_ok-kind.ensures.found in
+    c.new-lines.ensures (goes_within book_within (InHead TitleDue) (AtEnd kind book) _ _
+    c.in_ok-kind.ensures.found) in
     rw (p.1, p.2) (stops_later certificate_rules nothing_read
     (OrderDue kind book) text c.read_book_lines.new.lines c.in_err-read_title.field-0.0 prefix
     (c.in_err-read_title.ensures.refused kind book))
@@ -31,7 +42,8 @@ returns-in_err-order-clause-refused c =
     let text : Unread = whole_text c.args.bytes.now in
     let prefix =
     subst (λ (t : Unread). Goes nothing_read t (OrderDue kind book) c.read_book_lines.new.lines)
-    c.new-lines.ensures c.in_ok-kind.ensures.found in
+    c.new-lines.ensures (goes_within book_within (InHead TitleDue) (AtEnd kind book) _ _
+    c.in_ok-kind.ensures.found) in
     let titled = goes_then certificate_rules nothing_read (OrderDue kind book)
     (InPlaces kind book []) text c.read_book_lines.new.lines c.read_title.new.lines prefix
     (c.in_ok-read_title.ensures.found kind book) in
@@ -49,7 +61,8 @@ returns-in_err-no_more-clause-refused c =
     let text : Unread = whole_text c.args.bytes.now in
     let prefix =
     subst (λ (t : Unread). Goes nothing_read t (OrderDue kind book) c.read_book_lines.new.lines)
-    c.new-lines.ensures c.in_ok-kind.ensures.found in
+    c.new-lines.ensures (goes_within book_within (InHead TitleDue) (AtEnd kind book) _ _
+    c.in_ok-kind.ensures.found) in
     let titled = goes_then certificate_rules nothing_read (OrderDue kind book)
     (InPlaces kind book []) text c.read_book_lines.new.lines c.read_title.new.lines prefix
     (c.in_ok-read_title.ensures.found kind book) in
@@ -68,7 +81,8 @@ returns-clause-found c =
     let text : Unread = whole_text c.args.bytes.now in
     let prefix =
     subst (λ (t : Unread). Goes nothing_read t (OrderDue kind book) c.read_book_lines.new.lines)
-    c.new-lines.ensures c.in_ok-kind.ensures.found in
+    c.new-lines.ensures (goes_within book_within (InHead TitleDue) (AtEnd kind book) _ _
+    c.in_ok-kind.ensures.found) in
     let titled = goes_then certificate_rules nothing_read (OrderDue kind book)
     (InPlaces kind book []) text c.read_book_lines.new.lines c.read_title.new.lines prefix
     (c.in_ok-read_title.ensures.found kind book) in
