@@ -5,8 +5,6 @@
 mod answer;
 mod fault;
 pub mod laws;
-#[cfg(test)]
-mod search_tests;
 mod table;
 mod told_search;
 mod walk;

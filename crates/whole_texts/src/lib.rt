@@ -1,5 +1,5 @@
 //! Tests of texts that are read and written, of reports, of pictures, of byte streams and of the
-//! texts of faults; of books, their sketches, and what is judged of them.
+//! texts of faults; of books, their sketches, and what is judged of them; and of searches that ask.
 #![tactic(auto)]
 
 #[cfg(test)]
@@ -36,5 +36,7 @@ mod searches;
 mod sets;
 #[cfg(test)]
 mod streams;
+#[cfg(test)]
+mod told_searches;
 #[cfg(test)]
 mod words;

@@ -2,8 +2,8 @@ use Rattle.std.proofs.Common.{subst, sym}
 use Rattle.told_models.specs.Table.{Table}
 use Rattle.told_models.specs.Searching.{IsSearch}
 use Rattle.told_models.proofs.Walks.{searches_stay}
-use Rattle.told_models.proofs.search_tests.searched.Goals as goal
-use Rattle.told_models.proofs.search_tests.searched.Goals.{in-Some-Ask+in_ok-tell-in-Some-Ask, in-None}
+use Rattle.whole_texts.proofs.told_searches.searched.Goals as goal
+use Rattle.whole_texts.proofs.told_searches.searched.Goals.{in-Some-Ask+in_ok-tell-in-Some-Ask, in-None}
 
 pub loop-rounds-preserved : goal.loop-rounds-preserved
 loop-rounds-preserved c =

@@ -3,12 +3,12 @@
 
 ghost use Rattle.std.specs.Prelude.{◌≡◌, length};
 
-use crate::{Answer, ToldSearch, ToldTable, Transition};
 use book_base::{Book, Call, Cut, OpWord};
 use frontier_check::{Verdict, check};
 use indexmap::IndexSet;
 use std::alloc::Global;
 use std::test::Fail;
+use told_models::{Answer, ToldSearch, ToldTable, Transition};
 
 // Owner A or B acquires the lock or releases it. State 0 is free, 1 is held by A, and 2 by B.
 const ACQUIRE_A: OpWord = 1;

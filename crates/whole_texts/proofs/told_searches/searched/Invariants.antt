@@ -1,5 +1,5 @@
 use Rattle.told_models.specs.Searching.{IsSearch}
-use Rattle.told_models.proofs.search_tests.searched.Given as goal
+use Rattle.whole_texts.proofs.told_searches.searched.Given as goal
 
 abbrev pub invariant-loop-rounds : goal.invariant-loop-rounds
 invariant-loop-rounds l = IsSearch l.table l.book l.search
