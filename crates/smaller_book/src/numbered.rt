@@ -139,7 +139,10 @@ fn renumbered(view: &Cut, numbers: &[Vec<u64>]) -> Cut
 {
     let mut counts = *view;
     for caller in 0..view.n() {
-        counts.set(caller, count_below(&numbers[caller as usize], view.get(caller)));
+        counts.set(
+            caller,
+            count_below(&numbers[caller as usize], view.get(caller)),
+        );
     }
     counts
 }

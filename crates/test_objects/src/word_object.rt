@@ -95,7 +95,11 @@ pub struct WordObject<M: WordCalls> {
 impl<M: WordCalls> WordObject<M> {
     /// Opens an object for `n` callers with `cap` calls each, with a pass for each caller, in
     /// order. All its words are 0.
-    pub fn open(alloc: Global, n: u32, cap: u64) -> Result<(WordObject<M>, Vec<WordsPass>), NoMemory>
+    pub fn open(
+        alloc: Global,
+        n: u32,
+        cap: u64,
+    ) -> Result<(WordObject<M>, Vec<WordsPass>), NoMemory>
         // There is at least one caller.
         requires some_callers { 1 ≤ n }
         // There are at most `MAX_CALLERS` callers.

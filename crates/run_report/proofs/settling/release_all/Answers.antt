@@ -10,8 +10,12 @@ release-requires g c =
     let place = c.loop-place.place in
     let there : slice_get c.loop-place.workers.items place ≡ Some c.index_mut.result.now =
     slice_get-get_or c.loop-place.workers.items place _
-    (omega (arith, c.loop-place-test.true, c.loop-place.invariant.workers.all,
-    c.requires.workers.all))
+    (omega (
+      arith,
+      c.loop-place-test.true,
+      c.loop-place.invariant.workers.all,
+      c.requires.workers.all,
+    ))
     ∙ ap (λ w. Some w) (sym c.index_mut.ensures.value) in
     let n = length c.args._script.now.operations in
     let spent = c.loop-place.invariant.workers.each (n - 1 - place) place c.index_mut.result.now
@@ -23,8 +27,12 @@ loop-place-preserved g c =
     let place = c.loop-place.place in
     let there : slice_get c.loop-place.workers.items place ≡ Some c.index_mut.result.now =
     slice_get-get_or c.loop-place.workers.items place _
-    (omega (arith, c.loop-place-test.true, c.loop-place.invariant.workers.all,
-    c.requires.workers.all))
+    (omega (
+      arith,
+      c.loop-place-test.true,
+      c.loop-place.invariant.workers.all,
+      c.requires.workers.all,
+    ))
     ∙ ap (λ w. Some w) (sym c.index_mut.ensures.value) in
     record {
       workers = record {
