@@ -8,14 +8,16 @@ use Rattle.named_runs.proofs.fresh.replay_fresh.Goals as goal
 pub returns-in_default-clause-passes : goal.returns-in_default-clause-passes
 returns-in_default-clause-passes g c = unused_own _ _ _ _ _ _ c.requires.passes.each
 
-pub replay_and_write-status-requires-clause-begins :
-    goal.replay_and_write-status-requires-clause-begins
-replay_and_write-status-requires-clause-begins g c =
+pub replay_and_write-status-requires : goal.replay_and_write-status-requires
+replay_and_write-status-requires g c =
     let opened = c.in-Ok.ensures in
     record {
-      begins = may_begin _ c.args.script.now 0 _ 256 _ _ (omega (arith, c.callers.ensures.count))
-          c.callers.ensures.plan.calls opened.rows.0 opened.rows.1 opened.bench opened.fresh;
-      passes_for = c.requires.passes;
+      begins = record {
+        begins = may_begin _ c.args.script.now 0 _ 256 _ _
+            (omega (arith, c.callers.ensures.count)) c.callers.ensures.plan.calls opened.rows.0
+            opened.rows.1 opened.bench opened.fresh;
+        passes_for = c.requires.passes;
+      };
     }
 
 pub returns-clause-ends : goal.returns-clause-ends
