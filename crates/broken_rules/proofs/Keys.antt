@@ -19,7 +19,7 @@ use Rattle.broken_rules.proofs.Standing.{reply_of_place}
 use Rattle.broken_rules.proofs.KeyedObjects.{FindsWhatIsPut}
 
 -- an option is this key, or it isn't
-cases_key : (o : Option ℕ) (k : ℕ) → (o ≡ Some k) ⊎ (o ≢ Some k)
+pub cases_key : (o : Option ℕ) (k : ℕ) → (o ≡ Some k) ⊎ (o ≢ Some k)
 cases_key None k = inr (λ e. none-some k e)
 cases_key (Some j) k = elim (cases_eq j k) [
   | inl same ↦ inl (ap Some same)
@@ -27,7 +27,7 @@ cases_key (Some j) k = elim (cases_eq j k) [
 ]
 
 -- an operation that is read as a take has a key, and found it
-found_parts : (o : Option ℕ) (found puts : Bool) (k : ℕ) → deal_on_key o found puts ≡ deals.Took k
+pub found_parts : (o : Option ℕ) (found puts : Bool) (k : ℕ) → deal_on_key o found puts ≡ deals.Took k
     → (o ≡ Some k) × (found ≡ true)
 found_parts None found puts k e = absurd cc
 found_parts (Some j) true puts k e = ((let same : j ≡ k = cc in ap Some same), refl)
@@ -35,7 +35,7 @@ found_parts (Some j) false true k e = absurd cc
 found_parts (Some j) false false k e = absurd cc
 
 -- an operation that found its key is answered
-found_record : (kind : Kind) (word : ℕ) (o : Option Record) → has_found kind word o ≡ true
+pub found_record : (kind : Kind) (word : ℕ) (o : Option Record) → has_found kind word o ≡ true
     → (r : Record) × (o ≡ Some r) × (finds_key kind word r.reply ≡ true)
 found_record kind word None e = absurd (false≢true e)
 found_record kind word (Some r) e = (r, refl, e)
@@ -44,7 +44,7 @@ module _ (kind : Kind) (key : ℕ → Option ℕ) (part : ℕ → List ℕ → L
     (next : List ℕ → ℕ → List ℕ × ℕ) (book : List Page)
     (is : FindsWhatIsPut kind key part next) where
   -- while no item has a key, no operation on it finds it
-  unfound : (list : List ℕ) (word k : ℕ) → key word ≡ Some k → part k list ≡ []
+  pub unfound : (list : List ℕ) (word k : ℕ) → key word ≡ Some k → part k list ≡ []
       → finds_key kind word (next list word).1 ≡ false
   unfound list word k same empty =
       ap (finds_key kind word) (is.keyed.reply list [] word k same (empty ∙ sym (is.none k)))

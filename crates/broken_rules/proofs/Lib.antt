@@ -8,9 +8,11 @@ pub mod Least
 pub mod Seen
 pub mod Counts
 pub mod Writes
+pub mod Setting
 pub mod Codes
 pub mod KeyedObjects
 pub mod Keys
+pub mod Missing
 pub mod Replies
 pub mod Refuting
 pub mod Stepping

@@ -1,5 +1,5 @@
 -- A reply that the object never gives: a book with one has no legal order.
-use Rattle.std.proofs.Common.{◌≡◌, ℕ, List, Option, Some, IsSomeAnd, unwrap_or, get_or, sym, subst, slice_get}
+use Rattle.std.proofs.Common.{◌≡◌, ℕ, List, Option, Some, IsSomeAnd, unwrap_or, get_or, sym, subst}
 use Rattle.std.proofs.lemmas.Option.{slice_get-get_or}
 use Rattle.list_laws.proofs.Options.{some_from_is_some_and}
 use Rattle.book_base.specs.declared.call.Call.{Call}

@@ -64,6 +64,7 @@ all_listed named.FoundNothing = (9, refl)
 all_listed named.CountedTwice = (10, refl)
 all_listed named.CountedDown = (11, refl)
 all_listed named.ReadOverwritten = (12, refl)
+all_listed named.KeyMissed = (13, refl)
 
 -- the two calls that break a rule of one call are the same call
 pub of_one_call : (rule : Rule) (kind : Kind) (book : List Page) (first second : Call)

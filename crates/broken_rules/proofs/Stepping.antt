@@ -1,6 +1,6 @@
 -- Steps of runs, and which operation a word is.
-use Rattle.std.proofs.Common.{◌≡◌, ◌≢◌, ℕ, ◌/◌, ◌^◌, true, false, ◌==◌, ◌&&◌, List, [], ◌∷◌, ◌++◌, Some, None, refl, sym, ap, ◌∙◌, arith}
-use Rattle.std.proofs.lemmas.Bool.{cond-true, and_parts, eqb-true, eq-eqb, ne_eqb}
+use Rattle.std.proofs.Common.{◌≡◌, ◌≢◌, ℕ, zero, suc, ◌/◌, ◌^◌, ◌<◌, ◌≤◌, true, false, ◌==◌, ◌&&◌, List, [], ◌∷◌, ◌++◌, Some, None, refl, sym, ap, subst, inl, inr, ◌∙◌, arith}
+use Rattle.std.proofs.lemmas.Bool.{cases_lt, cond-true, and_parts, eqb-true, eq-eqb, ne_eqb}
 use Rattle.book_base.specs.Sequential.{IsRunFrom}
 use Rattle.book_base.specs.Reaching.{list_after_run}
 use Rattle.seq_objects.specs.Words.{OperationEntry, is_operation_of, has_arguments, code_of}
@@ -42,3 +42,15 @@ pub shown_item : (item : ℕ) → shown_value (reply_value item) ≡ Some (value
 shown_item item =
     cond-true (is_value (reply_value item)) (Some (value_of (reply_value item))) None
     (eq-eqb (reply_value item / 2 ^ 32) 2 (omega arith)) ∙ ap Some (omega arith)
+
+-- What holds at a moment, and is kept by each step from it up to a later moment, holds up to that
+-- moment.
+pub carried : (P : ℕ → Type 0) (b m : ℕ) → ((n : ℕ) → b ≤ n → n < m → P n → P (suc n)) → P b
+    → (n : ℕ) → b ≤ n → n ≤ m → P n
+carried P b m kept start zero le high = subst P (let same : b ≡ zero = omega (arith, le) in same) start
+carried P b m kept start (suc n) le high = elim (cases_lt n b) [
+  | inl before ↦ subst P (let same : b ≡ suc n = omega (arith, before, le) in same) start
+  | inr past ↦
+      kept n past (omega (arith, high))
+      (carried P b m kept start n past (omega (arith, high)))
+]

@@ -7,7 +7,7 @@ use Rattle.legal_orders.specs.Deals as deals
 use Rattle.seq_objects.specs.declared.kind.Kind.{Kind}
 use Rattle.broken_rules.specs.declared.demand.Demand.{Demand}
 use Rattle.broken_rules.specs.declared.demand.Demand.TheVariants as demands
-use Rattle.broken_rules.specs.Deeds.{did, value_at}
+use Rattle.broken_rules.specs.Deeds.{did, absence_by, value_at, taken_at}
 
 -- A call of a book puts the value `value` in.
 abbrev pub Puts : Kind → List Page → ℕ → Call → Type 0
@@ -21,21 +21,30 @@ Took kind book value call = did kind book call ≡ deals.Took value
 abbrev pub MayTake : Kind → List Page → ℕ → Call → Type 0
 MayTake kind book value call = Took kind book value call ⊎ (did kind book call ≡ deals.OpenTake)
 
+-- A call of a set or a map may take the key `key` out: it takes it out, and isn't known to have
+-- missed it.
+abbrev pub Removes : Kind → List Page → ℕ → Call → Type 0
+Removes kind book key call = absence_by kind book call ≡ deals.Put key
+
+-- A call of a set or a map is answered, and missed the key `key`.
+abbrev pub Missed : Kind → List Page → ℕ → Call → Type 0
+Missed kind book key call = absence_by kind book call ≡ deals.Took key
+
 -- A call of a book meets a demand about two calls, `first` and `second`.
 abbrev pub Meets : Kind → List Page → Demand → Call → Call → Call → Type 0
--- a call that puts in the value of the first call comes after the first call
+-- a call that puts in the value that the first call takes comes after the first call
 Meets kind book demands.OwnPutsFollow first second call =
-    Puts kind book (value_at kind book first) call → Precedes book first call
--- a call that puts in the value of the second call comes after the first call
+    Puts kind book (taken_at kind book first) call → Precedes book first call
+-- a call that puts in the value that the second call takes comes after the first call
 Meets kind book demands.OtherPutsFollow first second call =
-    Puts kind book (value_at kind book second) call → Precedes book first call
--- a call that puts in the value of the second call comes before the first call, or after the second
--- one
+    Puts kind book (taken_at kind book second) call → Precedes book first call
+-- a call that puts in the value that the second call takes comes before the first call, or after
+-- the second one
 Meets kind book demands.OtherPutsOutside first second call =
-    Puts kind book (value_at kind book second) call → Precedes book call first
+    Puts kind book (taken_at kind book second) call → Precedes book call first
     ⊎ Precedes book second call
--- no call but the first one puts in the value of the first call
-Meets kind book demands.OnlyPut first second call = Puts kind book (value_at kind book first) call
+-- no call but the first one puts in the value that the second call takes
+Meets kind book demands.OnlyPut first second call = Puts kind book (taken_at kind book second) call
     → call ≡ first
 -- no call but the second one is answered and takes the value of the second call
 Meets kind book demands.OnlyTake first second call = Took kind book (value_at kind book second) call
@@ -43,6 +52,11 @@ Meets kind book demands.OnlyTake first second call = Took kind book (value_at ki
 -- a call that may take the value of the first call comes after the second call
 Meets kind book demands.TakesFollow first second call =
     MayTake kind book (value_at kind book first) call → Precedes book second call
+-- a call that may take out the key of the first call comes before the first call, or after the
+-- second one
+Meets kind book demands.RemovalsOutside first second call =
+    Removes kind book (value_at kind book first) call → Precedes book call first
+    ⊎ Precedes book second call
 -- the demand `Nothing` asks nothing of a call
 Meets kind book demands.Nothing first second call = Unit {0}
 

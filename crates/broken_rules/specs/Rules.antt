@@ -1,5 +1,5 @@
 -- The rules that objects keep, and how two calls of a book break them.
-use Rattle.std.specs.Prelude.{◌≡◌, ◌≢◌, ℕ, ◌≤◌, ◌==◌, ◌&&◌, nat_lt, not, Bool, true, false, List, [], ◌∷◌, sum, IsSomeAnd, unwrap_or}
+use Rattle.std.specs.Prelude.{◌≡◌, ◌≢◌, ℕ, ◌≤◌, ◌==◌, ◌&&◌, ◌||◌, nat_lt, not, Bool, true, false, List, [], ◌∷◌, sum, IsSomeAnd, unwrap_or}
 use Rattle.book_base.specs.declared.call.Call.{Call}
 use Rattle.book_base.specs.Book.{Page, operation_of, record_of, IsCall, IsSmall, Precedes}
 use Rattle.book_base.specs.Order.{HasLegalOrder}
@@ -15,8 +15,8 @@ use Rattle.broken_rules.specs.declared.rule.Relation.TheVariants as relations
 use Rattle.broken_rules.specs.declared.rule.Rule.{Rule}
 use Rattle.broken_rules.specs.declared.rule.Rule.TheVariants as rules
 use Rattle.broken_rules.specs.declared.rule.BrokenRule.{BrokenRule}
-use Rattle.broken_rules.specs.Deeds.{is_keyed, did, value_by, value_at, is_put, is_take, is_nothing}
-use Rattle.broken_rules.specs.Demands.{AllMeet}
+use Rattle.broken_rules.specs.Deeds.{is_keyed, did, took, value_by, value_at, is_put, is_take, is_nothing}
+use Rattle.broken_rules.specs.Demands.{Missed, AllMeet}
 
 -- Whether a kind's objects hold what is put in until it is taken out.
 abbrev pub holds_values : Kind → Bool
@@ -45,9 +45,10 @@ abbrev pub is_counter : Kind → Bool
 is_counter kinds.Counter = true
 is_counter _ = false
 
--- Whether a kind's objects are registers.
+-- Whether a kind's objects are registers, with compare-and-set or without.
 abbrev pub is_register : Kind → Bool
 is_register kinds.Register = true
+is_register kinds.CasRegister = true
 is_register _ = false
 
 -- Whether the objects of a kind keep a rule.
@@ -65,8 +66,10 @@ keeps kind rules.CountedDown = is_counter kind
 keeps kind rules.ReadUnwritten = is_register kind
 keeps kind rules.ReadOverwritten = is_register kind
 keeps kind rules.FoundUnput = is_keyed kind
+keeps kind rules.KeyMissed = is_keyed kind
 
--- Whether two calls whose deals are `first` and `second` may break a rule.
+-- Whether two calls may break a rule, of which the first one did `first` and the second one took
+-- `second`.
 abbrev pub fits : Rule → Deal → Deal → Bool
 -- the two calls may have done anything
 fits rules.NeverReplied first second = true
@@ -91,12 +94,14 @@ fits rules.CountedTwice first second =
 -- the second call replies a lower count than the first one
 fits rules.CountedDown first second =
     is_take first && is_take second && nat_lt (value_by second) (value_by first)
--- the first call reads a value other than 0
-fits rules.ReadUnwritten first second = is_take first && not (value_by first == 0)
+-- the one call reads a value other than 0
+fits rules.ReadUnwritten first second = is_take second && not (value_by second == 0)
 -- the first call writes a value, and the second one reads a value
 fits rules.ReadOverwritten first second = is_put first && is_take second
 -- the first call finds its key
 fits rules.FoundUnput first second = is_take first
+-- the first call puts its key in, or finds it
+fits rules.KeyMissed first second = is_put first || is_take first
 
 -- Whether a rule is broken by one call, which then stands as both of its calls.
 abbrev pub is_of_one_call : Rule → Bool
@@ -124,6 +129,7 @@ takes_demand rules.FoundNothing = demands.TakesFollow
 takes_demand rules.PassedOver = demands.TakesFollow
 takes_demand rules.TakenFromUnder = demands.TakesFollow
 takes_demand rules.LesserLeft = demands.TakesFollow
+takes_demand rules.KeyMissed = demands.RemovalsOutside
 takes_demand _ = demands.Nothing
 
 -- How two calls that break a rule are related.
@@ -141,6 +147,7 @@ relation_of rules.CountedDown = relations.Before
 relation_of rules.ReadUnwritten = relations.Same
 relation_of rules.ReadOverwritten = relations.Before
 relation_of rules.FoundUnput = relations.Same
+relation_of rules.KeyMissed = relations.MissedAfter
 
 -- A call is answered, and its view holds at most `most` calls, the call itself among them.
 abbrev pub SeesAtMost : List Page → Call → ℕ → Type 0
@@ -168,6 +175,9 @@ Related kind book relations.Before first second = Precedes book first second
 -- another call takes the value that the second one takes
 Related kind book relations.TakenByAnother first second =
     ¬ AllMeet kind book demands.OnlyTake first second
+-- the first call precedes the second one, which missed the key of the first one
+Related kind book relations.MissedAfter first second =
+    Precedes book first second × Missed kind book (value_at kind book first) second
 -- the relation `Any` asks nothing
 Related kind book relations.Any first second = Unit {0}
 
@@ -179,7 +189,7 @@ pub record Breaks (kind : Kind) (book : List Page) (broken : BrokenRule) : Type 
   -- the objects of the kind keep the rule
   pub kept : keeps kind broken.rule ≡ true
   -- the two calls did what `fits` asks of calls that break the rule
-  pub fit : fits broken.rule (did kind book broken.first) (did kind book broken.second) ≡ true
+  pub fit : fits broken.rule (did kind book broken.first) (took kind book broken.second) ≡ true
   -- the two calls are related as the rule says
   pub related : Related kind book (relation_of broken.rule) broken.first broken.second
   -- all calls of the book meet the rule's demand on puts, and its demand on takes
@@ -199,4 +209,4 @@ all_rules =
     rules.NeverReplied ∷ rules.TakenUnput ∷ rules.CountedUnseen ∷ rules.ReadUnwritten
     ∷ rules.FoundUnput ∷ rules.TakenTwice ∷ rules.PassedOver ∷ rules.TakenFromUnder
     ∷ rules.LesserLeft ∷ rules.FoundNothing ∷ rules.CountedTwice ∷ rules.CountedDown
-    ∷ rules.ReadOverwritten ∷ []
+    ∷ rules.ReadOverwritten ∷ rules.KeyMissed ∷ []

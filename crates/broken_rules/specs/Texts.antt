@@ -6,7 +6,7 @@ use Rattle.seq_objects.specs.declared.kind.Kind.{Kind}
 use Rattle.broken_rules.specs.declared.rule.Rule.{Rule}
 use Rattle.broken_rules.specs.declared.rule.Rule.TheVariants as rules
 use Rattle.broken_rules.specs.declared.rule.BrokenRule.{BrokenRule}
-use Rattle.broken_rules.specs.Deeds.{value_at}
+use Rattle.broken_rules.specs.Deeds.{value_at, taken_at}
 
 -- a call by its caller and its number, as in the text of a book
 abbrev pub call_text : Call → List ℕ
@@ -30,8 +30,8 @@ abbrev pub both_text : Call → List ℕ → ℕ → List ℕ → Call → List 
 both_text first deed value middle second verb other end =
     two_text first deed value middle second verb ++ decimal other ++ end
 
--- the line that says that two calls, with a value each, break a rule; of a rule of one call it
--- names the first call alone
+-- the line that says that two calls break a rule, with the value of what the first one did and of
+-- what the second one took; of a rule of one call it names the first call alone
 unfoldable pub rule_text : Rule → Call → ℕ → Call → ℕ → List ℕ
 rule_text rules.NeverReplied first value second other =
     plain_text first (codes " has a reply that the object never gives to its operation\n")
@@ -61,15 +61,18 @@ rule_text rules.CountedDown first value second other =
     both_text first (codes " counted ") value (codes ", and after it ") second
     (codes " counted ") other (codes "\n")
 rule_text rules.ReadUnwritten first value second other =
-    one_text first (codes " read ") value (codes ", which no call had written before\n")
+    one_text first (codes " read ") other (codes ", which no call had written before\n")
 rule_text rules.ReadOverwritten first value second other =
     both_text first (codes " wrote ") value (codes ", and after it ") second (codes " read ") other
     (codes ", which was written over\n")
 rule_text rules.FoundUnput first value second other =
     one_text first (codes " found ") value (codes ", which no call had put in before\n")
+rule_text rules.KeyMissed first value second other =
+    two_text first (codes " left ") value (codes " in, yet ") second
+    (codes " missed it while it was there\n")
 
 -- the line that says by which calls a book breaks a rule
 abbrev pub broken_text : Kind → List Page → BrokenRule → List ℕ
 broken_text kind book broken =
     rule_text broken.rule broken.first (value_at kind book broken.first) broken.second
-    (value_at kind book broken.second)
+    (taken_at kind book broken.second)

@@ -5,18 +5,24 @@ ghost use Rattle.book_base.specs.Book.{IsCall, record_of};
 ghost use Rattle.legal_orders.specs.Deals.{deed_of, deal_of, take_of};
 ghost use Rattle.kind_search.specs.Readings.{queue_reading};
 ghost use Rattle.broken_rules.specs.Deeds as deeds;
-ghost use Rattle.broken_rules.specs.Deeds.{reading_of, counter_reading, did, deal_by_key, deal_on_key, deal_of_act, value_by, is_put, is_take, is_nothing, is_open};
+ghost use Rattle.broken_rules.specs.Deeds.{reading_of, counter_reading, did, took, set_by, set_deal, expected_by, expected_deal, deal_by_key, deal_on_key, absence_by, deal_of_act, value_by, is_put, is_take, is_nothing, is_open};
 
 use book_base::{Book, Call, OpWord, SeqObject, low};
 use kind_search::{PqueueReader, QueueReader, RegisterReader, StackReader};
 use legal_orders::{Reader, Role};
-use seq_objects::{Kind, NO, YES, shown_value};
+use seq_objects::{CasRegisterOperation, Kind, NO, NONE, YES, shown_value};
 
 /// How many keys there are: a key is below this number.
 const KEYS: u64 = 1 << 32;
 
 /// The code of the operation of a set or a map that puts a key in.
 const PUT: u64 = 1;
+
+/// The code of the operation of a set that takes a key out.
+const REMOVE: u64 = 2;
+
+/// The code of the operation of a map that takes a key out.
+const DELETE: u64 = 3;
 
 /// The number that a reply word has above its low 32 bits where it gives a value.
 const VALUE_TAG: u64 = 2;
@@ -107,8 +113,23 @@ pub(crate) fn act_of(kind: Kind, book: &Book, call: Call) -> Act
 {
     if is_keyed(kind) {
         act_by_key(kind, book, call)
+    } else if is_cas_register(kind) {
+        act_by_setting(book, call)
     } else {
         act_by_reading(kind, book, call)
+    }
+}
+
+/// What a call of a book took: what it did, but a compare-and-set that is answered `yes` took the
+/// value that it expected.
+pub(crate) fn taking_of(kind: Kind, book: &Book, call: Call) -> Act
+    requires { IsCall book.now call }
+    ensures { deal_of_act result ≡ took kind book.now call }
+{
+    if is_cas_register(kind) {
+        act_by_expecting(book, call)
+    } else {
+        act_of(kind, book, call)
     }
 }
 
@@ -117,6 +138,65 @@ pub(crate) fn is_keyed(kind: Kind) -> bool
     ensures { result ≡ deeds.is_keyed kind }
 {
     matches!(kind, Kind::IntSet | Kind::Map)
+}
+
+// Whether a kind's objects are registers with compare-and-set.
+fn is_cas_register(kind: Kind) -> bool
+    ensures { result ≡ deeds.is_cas_register kind }
+{
+    matches!(kind, Kind::CasRegister)
+}
+
+// What a call of a register with compare-and-set did.
+fn act_by_setting(book: &Book, call: Call) -> Act
+    requires { IsCall book.now call }
+    ensures { deal_of_act result ≡ set_by book.now call }
+{
+    match CasRegisterOperation::from_word(book.op(call)) {
+        Some(CasRegisterOperation::Write(value)) => Act::Put(u64::from(value)),
+        Some(CasRegisterOperation::Read) => take_of(book, call),
+        Some(CasRegisterOperation::CompareAndSet(_, new)) => set_act(book, call, u64::from(new)),
+        None => Act::Other,
+    }
+}
+
+// What a call that is a compare-and-set to the value `value` did.
+fn set_act(book: &Book, call: Call, value: u64) -> Act
+    requires { IsCall book.now call }
+    ensures { deal_of_act result ≡ set_deal value (record_of book.now call) }
+{
+    if call.number < book.answers(call.caller) && book.record(call).reply == NO {
+        Act::Other
+    } else {
+        Act::Put(value)
+    }
+}
+
+// What a call of a register with compare-and-set found.
+fn act_by_expecting(book: &Book, call: Call) -> Act
+    requires { IsCall book.now call }
+    ensures { deal_of_act result ≡ expected_by book.now call }
+{
+    match CasRegisterOperation::from_word(book.op(call)) {
+        Some(CasRegisterOperation::Write(value)) => Act::Put(u64::from(value)),
+        Some(CasRegisterOperation::Read) => take_of(book, call),
+        Some(CasRegisterOperation::CompareAndSet(expected, _)) => {
+            expected_act(book, call, u64::from(expected))
+        }
+        None => Act::Other,
+    }
+}
+
+// What a call that is a compare-and-set, and expects the value `expected`, found.
+fn expected_act(book: &Book, call: Call, expected: u64) -> Act
+    requires { IsCall book.now call }
+    ensures { deal_of_act result ≡ expected_deal expected (record_of book.now call) }
+{
+    if call.number < book.answers(call.caller) && book.record(call).reply == YES {
+        Act::Took(expected)
+    } else {
+        Act::Other
+    }
 }
 
 // What a call of a set or a map did with its key.
@@ -205,6 +285,75 @@ fn set_finds(op: OpWord, reply: u64) -> bool
         reply == NO
     } else {
         reply == YES
+    }
+}
+
+/// What a call of a set or a map did with the absence of its key: a call that missed the key takes
+/// its absence, and one that may take the key out puts it in.
+pub(crate) fn absence_of(kind: Kind, book: &Book, call: Call) -> Act
+    requires { IsCall book.now call }
+    ensures { deal_of_act result ≡ absence_by kind book.now call }
+{
+    let op = book.op(call);
+    let key = key_of_word(kind, op);
+    let missed = has_missed(kind, book, call, op);
+    let takes = takes_key_out(kind, op);
+    act_on_key(key, missed, takes)
+}
+
+// Whether an operation word of a set or a map takes its key out.
+fn takes_key_out(kind: Kind, op: OpWord) -> bool
+    ensures { result ≡ deeds.takes_key_out kind op }
+{
+    match kind {
+        Kind::IntSet => low(op) / KEYS == REMOVE,
+        Kind::Map => low(op) / KEYS == DELETE,
+        Kind::Queue
+        | Kind::Stack
+        | Kind::Pqueue
+        | Kind::Register
+        | Kind::Counter
+        | Kind::CasRegister => false,
+    }
+}
+
+// Whether a call with the operation word `op` is answered, and its reply says that its key was not
+// there.
+fn has_missed(kind: Kind, book: &Book, call: Call, op: OpWord) -> bool
+    requires { IsCall book.now call }
+    ensures { result ≡ deeds.has_missed kind op (record_of book.now call) }
+{
+    if call.number >= book.answers(call.caller) {
+        return false;
+    }
+    misses_key(kind, op, book.record(call).reply)
+}
+
+// Whether the reply to an operation of a set or a map says that its key was not there. It never
+// does for other kinds.
+fn misses_key(kind: Kind, op: OpWord, reply: u64) -> bool
+    ensures { result ≡ deeds.misses_key kind op reply }
+{
+    match kind {
+        Kind::IntSet => set_misses(op, reply),
+        Kind::Map => reply == NONE,
+        Kind::Queue
+        | Kind::Stack
+        | Kind::Pqueue
+        | Kind::Register
+        | Kind::Counter
+        | Kind::CasRegister => false,
+    }
+}
+
+// Whether the reply to an operation of a set says that its key was not there.
+fn set_misses(op: OpWord, reply: u64) -> bool
+    ensures { result ≡ deeds.set_misses op reply }
+{
+    if puts_key(op) {
+        reply == YES
+    } else {
+        reply == NO
     }
 }
 

@@ -1,12 +1,13 @@
 //! Whether a book breaks a rule by two of its calls.
 
 ghost use Rattle.std.specs.Prelude.{◌≡◌, ◌≤◌, ◌↔◌, sum, IsTrue};
-ghost use Rattle.book_base.specs.Book.{IsCall};
+ghost use Rattle.book_base.specs.Book.{IsCall, Precedes};
 ghost use Rattle.broken_rules.specs.Deeds.{value_at};
+ghost use Rattle.broken_rules.specs.Demands.{Missed};
 ghost use Rattle.broken_rules.specs.Rules.{HasImpossibleReply, SeesAtMost, Related, Breaks};
 
-use crate::act::act_of;
-use crate::demand::{Demand, all_meet, is_same};
+use crate::act::{act_of, taking_of};
+use crate::demand::{Demand, all_meet, is_same, misses_key_of};
 use crate::rule::{BrokenRule, Relation};
 use book_base::{Book, Call, Cut, SeqObject};
 use seq_objects::Kind;
@@ -22,7 +23,7 @@ pub(crate) fn is_broken(kind: Kind, book: &Book, broken: BrokenRule) -> bool
         return false;
     }
     let first = act_of(kind, book, broken.first);
-    let second = act_of(kind, book, broken.second);
+    let second = taking_of(kind, book, broken.second);
     if !rule.fits(first, second) {
         return false;
     }
@@ -48,7 +49,22 @@ fn are_related(kind: Kind, book: &Book, relation: Relation, first: Call, second:
         Relation::Apart => !is_same(first, second),
         Relation::Before => book.precedes(first, second),
         Relation::TakenByAnother => !all_meet(kind, book, Demand::OnlyTake, first, second),
+        Relation::MissedAfter => is_missed_after(kind, book, first, second),
         Relation::Any => true,
+    }
+}
+
+// Whether a call precedes another one, which missed the key of the first one.
+fn is_missed_after(kind: Kind, book: &Book, first: Call, second: Call) -> bool
+    requires first { IsCall book.now first }
+    requires second { IsCall book.now second }
+    ensures { IsTrue result ↔ (Precedes book.now first second
+        × Missed kind book.now (value_at kind book.now first) second) }
+{
+    if book.precedes(first, second) {
+        misses_key_of(kind, book, first, second)
+    } else {
+        false
     }
 }
 

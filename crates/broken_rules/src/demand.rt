@@ -3,10 +3,10 @@
 
 ghost use Rattle.std.specs.Prelude.{◌≡◌, ◌↔◌, ◌⊎◌, ℕ, ◌<◌, length, IsTrue};
 ghost use Rattle.book_base.specs.Book.{calls_of, IsCall, Precedes};
-ghost use Rattle.broken_rules.specs.Deeds.{value_at};
-ghost use Rattle.broken_rules.specs.Demands.{Puts, Took, MayTake, Meets, AllMeet};
+ghost use Rattle.broken_rules.specs.Deeds.{value_at, taken_at};
+ghost use Rattle.broken_rules.specs.Demands.{Puts, Took, MayTake, Removes, Missed, Meets, AllMeet};
 
-use crate::act::act_of;
+use crate::act::{absence_of, act_of, taking_of};
 use book_base::{Book, Call};
 use seq_objects::Kind;
 
@@ -14,18 +14,22 @@ use seq_objects::Kind;
 /// and the second call.
 #[derive(Clone, Copy, Debug)]
 pub(crate) enum Demand {
-    /// The puts of the first call's value come after the first call.
+    /// The puts of the value that the first call takes come after the first call.
     OwnPutsFollow,
-    /// The puts of the second call's value come after the first call.
+    /// The puts of the value that the second call takes come after the first call.
     OtherPutsFollow,
-    /// The puts of the second call's value come before the first call, or after the second one.
+    /// The puts of the value that the second call takes come before the first call, or after the
+    /// second one.
     OtherPutsOutside,
-    /// No call but the first one puts in the first call's value.
+    /// No call but the first one puts in the value that the second call takes.
     OnlyPut,
     /// No call but the second one is answered and takes the second call's value.
     OnlyTake,
     /// The takes that may take the first call's value come after the second call.
     TakesFollow,
+    /// The calls that may take out the first call's key come before the first call, or after the
+    /// second one.
+    RemovalsOutside,
     /// The demand asks nothing.
     Nothing,
 }
@@ -78,36 +82,37 @@ fn meets(kind: Kind, book: &Book, demand: Demand, first: Call, second: Call, cal
         Demand::OwnPutsFollow => put_follows(kind, book, first, first, call),
         Demand::OtherPutsFollow => put_follows(kind, book, second, first, call),
         Demand::OtherPutsOutside => put_is_outside(kind, book, first, second, call),
-        Demand::OnlyPut => put_is_only(kind, book, first, call),
+        Demand::OnlyPut => put_is_only(kind, book, first, second, call),
         Demand::OnlyTake => take_is_only(kind, book, second, call),
         Demand::TakesFollow => take_follows(kind, book, first, second, call),
+        Demand::RemovalsOutside => removal_is_outside(kind, book, first, second, call),
         Demand::Nothing => true,
     }
 }
 
-// Whether the call `call`, if it puts in the value of the call `valued`, comes after the call
-// `first`.
-fn put_follows(kind: Kind, book: &Book, valued: Call, first: Call, call: Call) -> bool
-    requires valued { IsCall book.now valued }
+// Whether the call `call`, if it puts in the value that the call `taker` takes, comes after the
+// call `first`.
+fn put_follows(kind: Kind, book: &Book, taker: Call, first: Call, call: Call) -> bool
+    requires taker { IsCall book.now taker }
     requires first { IsCall book.now first }
     requires call { IsCall book.now call }
     ensures { IsTrue result
-        ↔ (Puts kind book.now (value_at kind book.now valued) call → Precedes book.now first call) }
+        ↔ (Puts kind book.now (taken_at kind book.now taker) call → Precedes book.now first call) }
 {
-    if puts_value(kind, book, valued, call) {
+    if puts_value(kind, book, taker, call) {
         book.precedes(first, call)
     } else {
         true
     }
 }
 
-// Whether the call `call`, if it puts in the value of the call `second`, comes before the call
-// `first` or after the call `second`.
+// Whether the call `call`, if it puts in the value that the call `second` takes, comes before the
+// call `first` or after the call `second`.
 fn put_is_outside(kind: Kind, book: &Book, first: Call, second: Call, call: Call) -> bool
     requires first { IsCall book.now first }
     requires second { IsCall book.now second }
     requires call { IsCall book.now call }
-    ensures { IsTrue result ↔ (Puts kind book.now (value_at kind book.now second) call
+    ensures { IsTrue result ↔ (Puts kind book.now (taken_at kind book.now second) call
         → Precedes book.now call first ⊎ Precedes book.now second call) }
 {
     if puts_value(kind, book, second, call) {
@@ -131,14 +136,15 @@ fn is_outside(book: &Book, first: Call, second: Call, call: Call) -> bool
     }
 }
 
-// Whether the call `call`, if it puts in the value of the call `only`, is the call `only` itself.
-fn put_is_only(kind: Kind, book: &Book, only: Call, call: Call) -> bool
+// Whether the call `call`, if it puts in the value that the call `taker` takes, is the call `only`.
+fn put_is_only(kind: Kind, book: &Book, only: Call, taker: Call, call: Call) -> bool
     requires only { IsCall book.now only }
+    requires taker { IsCall book.now taker }
     requires call { IsCall book.now call }
     ensures { IsTrue result
-        ↔ (Puts kind book.now (value_at kind book.now only) call → call ≡ only) }
+        ↔ (Puts kind book.now (taken_at kind book.now taker) call → call ≡ only) }
 {
-    if puts_value(kind, book, only, call) {
+    if puts_value(kind, book, taker, call) {
         is_same(call, only)
     } else {
         true
@@ -176,13 +182,29 @@ fn take_follows(kind: Kind, book: &Book, first: Call, second: Call, call: Call) 
     }
 }
 
-// Whether the call `call` puts in the value of the call `valued`.
-fn puts_value(kind: Kind, book: &Book, valued: Call, call: Call) -> bool
-    requires valued { IsCall book.now valued }
+// Whether the call `call`, if it may take out the key of the call `first`, comes before the call
+// `first` or after the call `second`.
+fn removal_is_outside(kind: Kind, book: &Book, first: Call, second: Call, call: Call) -> bool
+    requires first { IsCall book.now first }
+    requires second { IsCall book.now second }
     requires call { IsCall book.now call }
-    ensures { IsTrue result ↔ Puts kind book.now (value_at kind book.now valued) call }
+    ensures { IsTrue result ↔ (Removes kind book.now (value_at kind book.now first) call
+        → Precedes book.now call first ⊎ Precedes book.now second call) }
 {
-    let value = act_of(kind, book, valued).value();
+    if removes_key(kind, book, first, call) {
+        is_outside(book, first, second, call)
+    } else {
+        true
+    }
+}
+
+// Whether the call `call` puts in the value that the call `taker` takes.
+fn puts_value(kind: Kind, book: &Book, taker: Call, call: Call) -> bool
+    requires taker { IsCall book.now taker }
+    requires call { IsCall book.now call }
+    ensures { IsTrue result ↔ Puts kind book.now (taken_at kind book.now taker) call }
+{
+    let value = taking_of(kind, book, taker).value();
     act_of(kind, book, call).puts(value)
 }
 
@@ -205,6 +227,26 @@ fn may_take_value(kind: Kind, book: &Book, valued: Call, call: Call) -> bool
 {
     let value = act_of(kind, book, valued).value();
     act_of(kind, book, call).may_take(value)
+}
+
+// Whether the call `call` may take out the key of the call `keyed`.
+fn removes_key(kind: Kind, book: &Book, keyed: Call, call: Call) -> bool
+    requires keyed { IsCall book.now keyed }
+    requires call { IsCall book.now call }
+    ensures { IsTrue result ↔ Removes kind book.now (value_at kind book.now keyed) call }
+{
+    let key = act_of(kind, book, keyed).value();
+    absence_of(kind, book, call).puts(key)
+}
+
+/// Whether the call `call` is answered, and missed the key of the call `keyed`.
+pub(crate) fn misses_key_of(kind: Kind, book: &Book, keyed: Call, call: Call) -> bool
+    requires keyed { IsCall book.now keyed }
+    requires call { IsCall book.now call }
+    ensures { IsTrue result ↔ Missed kind book.now (value_at kind book.now keyed) call }
+{
+    let key = act_of(kind, book, keyed).value();
+    absence_of(kind, book, call).took(key)
 }
 
 /// Whether two calls are the same call.

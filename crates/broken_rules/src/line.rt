@@ -5,7 +5,7 @@ ghost use Rattle.book_base.specs.Book.{IsCall};
 ghost use Rattle.broken_rules.specs.Deeds.{value_at};
 ghost use Rattle.broken_rules.specs.Texts.{call_text, plain_text, one_text, two_text, both_text, rule_text, broken_text};
 
-use crate::act::act_of;
+use crate::act::{act_of, taking_of};
 use crate::rule::{BrokenRule, Rule};
 use book_base::{Book, Call, NoMemory};
 use seq_objects::{Kind, put_number};
@@ -27,7 +27,7 @@ pub fn broken_line(
     ensures { IfOk result (λ line. line.items ≡ broken_text kind book.now broken) }
 {
     let value = act_of(kind, book, broken.first).value();
-    let other = act_of(kind, book, broken.second).value();
+    let other = taking_of(kind, book, broken.second).value();
     let mut line = Vec::new(alloc);
     put_rule(&mut line, broken, value, other)?;
     Ok(line)
@@ -136,7 +136,7 @@ fn put_rule(out: &mut Vec<u8>, broken: BrokenRule, value: u64, other: u64) -> Re
             out,
             first,
             b" read ",
-            value,
+            other,
             b", which no call had written before\n",
         ),
         Rule::ReadOverwritten => put_both(
@@ -156,6 +156,15 @@ fn put_rule(out: &mut Vec<u8>, broken: BrokenRule, value: u64, other: u64) -> Re
             b" found ",
             value,
             b", which no call had put in before\n",
+        ),
+        Rule::KeyMissed => put_two(
+            out,
+            first,
+            b" left ",
+            value,
+            b" in, yet ",
+            second,
+            b" missed it while it was there\n",
         ),
     }
 }

@@ -44,8 +44,9 @@ pub enum Rule {
     /// A counter goes up: the second call replies a lower count than the first one, which precedes
     /// it.
     CountedDown,
-    /// What is read was written before: the first call reads a value other than 0, and each write
-    /// of this value comes after the first call.
+    /// What is read was written before: the call reads a value other than 0, and each write of this
+    /// value comes after it. A compare-and-set that is answered `yes` reads the value that it
+    /// expects, and one that isn't answered `no` writes its new value.
     ReadUnwritten,
     /// A register holds the value written last: the first call writes a value and precedes the
     /// second call, which reads another value that is only written before the first call or after
@@ -54,6 +55,10 @@ pub enum Rule {
     /// What is found in a set or a map was put in before: the first call finds a key, and each call
     /// that puts this key in comes after the first call.
     FoundUnput,
+    /// A set or a map finds what is there: the first call puts a key in or finds it and precedes
+    /// the second call, which doesn't find this key, and each call that may take the key out comes
+    /// before the first call or after the second one.
+    KeyMissed,
 }
 
 /// A rule that a book breaks, and the two calls by which it breaks the rule.
@@ -79,6 +84,8 @@ pub(crate) enum Relation {
     Before,
     /// Another call takes the value that the second one takes.
     TakenByAnother,
+    /// The first call precedes the second one, which missed the key of the first one.
+    MissedAfter,
     /// The relation asks nothing.
     Any,
 }
@@ -99,13 +106,15 @@ impl Rule {
             Rule::CountedUnseen => matches!(kind, Kind::Counter),
             Rule::CountedTwice => matches!(kind, Kind::Counter),
             Rule::CountedDown => matches!(kind, Kind::Counter),
-            Rule::ReadUnwritten => matches!(kind, Kind::Register),
-            Rule::ReadOverwritten => matches!(kind, Kind::Register),
+            Rule::ReadUnwritten => is_register(kind),
+            Rule::ReadOverwritten => is_register(kind),
             Rule::FoundUnput => is_keyed(kind),
+            Rule::KeyMissed => is_keyed(kind),
         }
     }
 
-    /// Whether two calls whose acts are `first` and `second` may break the rule.
+    /// Whether two calls may break the rule, of which the first one did `first` and the second one
+    /// took `second`.
     pub(crate) fn fits(self, first: Act, second: Act) -> bool
         ensures { result ≡ rules.fits self (deal_of_act first) (deal_of_act second) }
     {
@@ -128,9 +137,10 @@ impl Rule {
             Rule::CountedDown => {
                 first.is_take() && second.is_take() && second.value() < first.value()
             }
-            Rule::ReadUnwritten => first.is_take() && first.value() != 0,
+            Rule::ReadUnwritten => second.is_take() && second.value() != 0,
             Rule::ReadOverwritten => first.is_put() && second.is_take(),
             Rule::FoundUnput => first.is_take(),
+            Rule::KeyMissed => first.is_put() || first.is_take(),
         }
     }
 
@@ -162,7 +172,8 @@ impl Rule {
             | Rule::LesserLeft
             | Rule::CountedUnseen
             | Rule::CountedTwice
-            | Rule::CountedDown => Demand::Nothing,
+            | Rule::CountedDown
+            | Rule::KeyMissed => Demand::Nothing,
         }
     }
 
@@ -174,6 +185,7 @@ impl Rule {
             Rule::FoundNothing | Rule::PassedOver | Rule::TakenFromUnder | Rule::LesserLeft => {
                 Demand::TakesFollow
             }
+            Rule::KeyMissed => Demand::RemovalsOutside,
             Rule::NeverReplied
             | Rule::TakenUnput
             | Rule::TakenTwice
@@ -195,6 +207,7 @@ impl Rule {
             Rule::TakenUnput | Rule::ReadUnwritten | Rule::FoundUnput => Relation::Same,
             Rule::TakenTwice => Relation::TakenByAnother,
             Rule::PassedOver => Relation::Any,
+            Rule::KeyMissed => Relation::MissedAfter,
             Rule::CountedUnseen => Relation::Unseen,
             Rule::CountedTwice => Relation::Apart,
             Rule::FoundNothing
@@ -204,6 +217,13 @@ impl Rule {
             | Rule::ReadOverwritten => Relation::Before,
         }
     }
+}
+
+// Whether a kind's objects are registers, with compare-and-set or without.
+fn is_register(kind: Kind) -> bool
+    ensures { result ≡ rules.is_register kind }
+{
+    matches!(kind, Kind::Register | Kind::CasRegister)
 }
 
 // Whether a kind's objects hold what is put in until it is taken out.

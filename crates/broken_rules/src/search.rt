@@ -15,7 +15,7 @@ use book_base::{Book, Call};
 use seq_objects::Kind;
 
 /// The rules, in the order in which they are tried.
-const RULES: [Rule; 13] = [
+const RULES: [Rule; 14] = [
     Rule::NeverReplied,
     Rule::TakenUnput,
     Rule::CountedUnseen,
@@ -29,6 +29,7 @@ const RULES: [Rule; 13] = [
     Rule::CountedTwice,
     Rule::CountedDown,
     Rule::ReadOverwritten,
+    Rule::KeyMissed,
 ];
 
 /// A rule that a book breaks, with the two calls by which it breaks the rule; `None` where it

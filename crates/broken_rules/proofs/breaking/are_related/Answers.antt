@@ -36,6 +36,11 @@ returns-in-TakenByAnother c =
     ↔ Related c.args.kind c.args.book.now r c.args.first c.args.second) (sym c.in-TakenByAnother.is)
     (not_decides c.all_meet.ensures)
 
+pub returns-in-MissedAfter : goal.returns-in-MissedAfter
+returns-in-MissedAfter c =
+    subst (λ (r : Relation). IsTrue c.is_missed_after.result ↔ Related c.args.kind c.args.book.now r
+    c.args.first c.args.second) (sym c.in-MissedAfter.is) c.is_missed_after.ensures
+
 pub returns-in-Any : goal.returns-in-Any
 returns-in-Any c =
     subst (λ (r : Relation). IsTrue true ↔ Related c.args.kind c.args.book.now r c.args.first

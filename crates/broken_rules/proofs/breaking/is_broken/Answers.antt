@@ -3,7 +3,7 @@ use Rattle.std.proofs.lemmas.Bool.{false≢true, both_ways, iff_false}
 use Rattle.legal_orders.specs.Deals.{Deal}
 use Rattle.broken_rules.specs.declared.demand.Demand.{Demand}
 use Rattle.broken_rules.specs.declared.rule.Relation.{Relation}
-use Rattle.broken_rules.specs.Deeds.{did, deal_of_act}
+use Rattle.broken_rules.specs.Deeds.{did, took, deal_of_act}
 use Rattle.broken_rules.specs.Demands.{AllMeet}
 use Rattle.broken_rules.specs.Rules.{fits, Related}
 use Rattle.broken_rules.proofs.breaking.is_broken.Goals as goal
@@ -19,9 +19,9 @@ pub returns-then-not-fits : goal.returns-then-not-fits
 returns-then-not-fits c =
     let rule = c.args.broken.rule in
     let one : Deal = did c.args.kind c.args.book.now c.args.broken.first in
-    let here : c.fits.result ≡ fits rule one (did c.args.kind c.args.book.now c.args.broken.second)
-    = c.fits.ensures ∙ (ap (λ (d : Deal). fits rule d (deal_of_act c.act_of-second.result))
-    c.act_of-first.ensures ∙ ap (fits rule one) c.act_of-second.ensures) in (
+    let here : c.fits.result ≡ fits rule one (took c.args.kind c.args.book.now c.args.broken.second)
+    = c.fits.ensures ∙ (ap (λ (d : Deal). fits rule d (deal_of_act c.taking_of-second.result))
+    c.act_of-first.ensures ∙ ap (fits rule one) c.taking_of-second.ensures) in (
       λ e. absurd (false≢true e),
       λ breaks. absurd (both_ways c.fits.result c.if-not-fits.true (here ∙ breaks.fit)),
     )
@@ -49,9 +49,9 @@ pub returns : goal.returns
 returns c =
     let rule = c.args.broken.rule in
     let one : Deal = did c.args.kind c.args.book.now c.args.broken.first in
-    let here : c.fits.result ≡ fits rule one (did c.args.kind c.args.book.now c.args.broken.second)
-    = c.fits.ensures ∙ (ap (λ (d : Deal). fits rule d (deal_of_act c.act_of-second.result))
-    c.act_of-first.ensures ∙ ap (fits rule one) c.act_of-second.ensures) in
+    let here : c.fits.result ≡ fits rule one (took c.args.kind c.args.book.now c.args.broken.second)
+    = c.fits.ensures ∙ (ap (λ (d : Deal). fits rule d (deal_of_act c.taking_of-second.result))
+    c.act_of-first.ensures ∙ ap (fits rule one) c.taking_of-second.ensures) in
     let related : Relation → Type 0 = λ relation.
     Related c.args.kind c.args.book.now relation c.args.broken.first c.args.broken.second in
     let meet : Demand → Type 0 = λ demand.

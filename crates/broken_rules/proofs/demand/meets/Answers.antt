@@ -34,6 +34,12 @@ returns-in-TakesFollow c =
     subst (λ (d : Demand). IsTrue c.take_follows.result ↔ Meets c.args.kind c.args.book.now d
     c.args.first c.args.second c.args.call) (sym c.in-TakesFollow.is) c.take_follows.ensures
 
+pub returns-in-RemovalsOutside : goal.returns-in-RemovalsOutside
+returns-in-RemovalsOutside c =
+    subst (λ (d : Demand). IsTrue c.removal_is_outside.result ↔ Meets c.args.kind c.args.book.now d
+    c.args.first c.args.second c.args.call) (sym c.in-RemovalsOutside.is)
+    c.removal_is_outside.ensures
+
 pub returns-in-Nothing : goal.returns-in-Nothing
 returns-in-Nothing c =
     subst (λ (d : Demand). IsTrue true ↔ Meets c.args.kind c.args.book.now d c.args.first

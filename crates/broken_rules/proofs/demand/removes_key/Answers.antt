@@ -1,0 +1,10 @@
+use Rattle.broken_rules.specs.Deeds.{did, absence_by, deal_of_act}
+use Rattle.broken_rules.proofs.Acts.{puts_same}
+use Rattle.broken_rules.proofs.demand.removes_key.Goals as goal
+
+pub returns : goal.returns
+returns c =
+    puts_same c.puts.result (deal_of_act c.absence_of.result) (deal_of_act c.act_of.result)
+    (absence_by c.args.kind c.args.book.now c.args.call)
+    (did c.args.kind c.args.book.now c.args.keyed)
+    c.value-key.result c.puts.ensures c.value-key.ensures c.absence_of.ensures c.act_of.ensures
