@@ -1,0 +1,9 @@
+pub mod Lines
+pub mod SharpRefutations
+pub mod NumberLists
+pub mod Parts
+pub mod StepLaws
+pub mod OnePart
+pub mod OneVerdict
+pub mod Judging
+pub mod Readings

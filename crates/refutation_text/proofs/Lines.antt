@@ -1,0 +1,209 @@
+-- A line after a refutation's title says one thing at most.
+use Rattle.std.proofs.Common.{◌≡◌, ℕ, ◌-◌, ◌<◌, ◌≤◌, ◌^◌, true, false, List, [], ◌∷◌, length, map, get_or, decimal, refl, sym, ap, subst, ◌∙◌, arith}
+use Rattle.std.specs.Prelude.{codes}
+use Rattle.std.proofs.lemmas.Fmt.{decimal_nonempty}
+use Rattle.list_laws.proofs.Decimals.{decimal_byte}
+use Rattle.book_base.specs.declared.call.Call.{Call}
+use Rattle.refutations.specs.declared.entry.Entry.{Entry}
+use Rattle.text_fields.specs.Lines.{IsSolid, AreSolid}
+use Rattle.text_fields.specs.Counts.{pair_words}
+use Rattle.text_fields.proofs.NumberTexts.{same_first, same_number, solid_decimal}
+use Rattle.text_fields.proofs.HeadTexts.{same_numbers, solid_numbers, plain}
+use Rattle.book_text.specs.CallLines.{place_words}
+use Rattle.book_text.proofs.CallTexts.{pairs_once}
+use Rattle.book_text.proofs.SharpBooks.{solid_pairs}
+use Rattle.certificate_text.specs.Grammar.{IsNamed}
+use Rattle.refutation_text.specs.Said.{StepSaid, At, Keys, Leave, LineSaid, StepLine, ImpossibleLine, PlainLine, ItemLine, EndLine}
+use Rattle.refutation_text.specs.Grammar.{MaySay, line_words, IsEntry, IsLine}
+
+-- how far the first byte of a line is above the digits
+abbrev initial : List (List ℕ) → ℕ
+initial [] = 0
+initial (word ∷ words) = get_or word 0 0 - 57
+
+-- the same, by what the line says
+abbrev letter : LineSaid → ℕ
+letter (StepLine (At counts)) = 40
+letter (StepLine (Keys true keys)) = 62
+letter (StepLine (Keys false keys)) = 54
+letter (StepLine (Leave call)) = 51
+letter (ImpossibleLine call) = 48
+letter PlainLine = 42
+letter (ItemLine entry) = 0
+letter EndLine = 44
+
+initial-letter : (line : LineSaid) → MaySay line → initial (line_words line) ≡ letter line
+initial-letter (StepLine (At counts)) may = refl
+initial-letter (StepLine (Keys true keys)) may = refl
+initial-letter (StepLine (Keys false keys)) may = refl
+initial-letter (StepLine (Leave call)) may = refl
+initial-letter (ImpossibleLine call) may = refl
+initial-letter PlainLine may = refl
+initial-letter (ItemLine entry) may =
+    let digit = decimal_byte entry.item 0 may.0 (decimal_nonempty entry.item may.0) in
+    omega (arith, digit.1)
+initial-letter EndLine may = refl
+
+-- a caller and a number have one call
+one_named : (a b : Call) → IsNamed a → IsNamed b → place_words a ≡ place_words b → a ≡ b
+one_named a b h k e =
+    let first = same_first _ _ _ _ e in
+    let callers = same_number a.caller b.caller (omega (arith, h.caller)) (omega (arith, k.caller))
+    first.0 in
+    let numbers = same_number a.number b.number h.number k.number (same_first _ _ _ _ first.1).0 in
+    let made : ℕ → ℕ → Call = λ i n. record { caller = i; number = n } in
+    ap (λ (i : ℕ). made i a.number) callers ∙ ap (made b.caller) numbers
+
+one_entry : (a b : Entry) → IsEntry a → IsEntry b
+    → ◌≡◌ {A = List (List ℕ)} (decimal a.item ∷ decimal a.caller ∷ [])
+    (decimal b.item ∷ decimal b.caller ∷ []) → a ≡ b
+one_entry a b h k e =
+    let first = same_first _ _ _ _ e in
+    let items = same_number a.item b.item h.0 k.0 first.0 in
+    let callers = same_number a.caller b.caller h.1 k.1 (same_first _ _ _ _ first.1).0 in
+    let made : ℕ → ℕ → Entry = λ n i. record { item = n; caller = i } in
+    ap (λ (n : ℕ). made n a.caller) items ∙ ap (made b.item) callers
+
+same_line_said : (a b : LineSaid) → MaySay a → MaySay b → letter a ≡ letter b
+    → line_words a ≡ line_words b → a ≡ b
+same_line_said (StepLine (At x)) (StepLine (At y)) h k l e =
+    ap (λ (counts : List ℕ). StepLine (At counts))
+    (pairs_once 0 x y (h.0 ∙ sym k.0) (omega (arith, h.0)) h.1 k.1 (same_first _ _ _ _ e).1)
+same_line_said (StepLine (Keys true x)) (StepLine (Keys true y)) h k l e =
+    ap (λ (keys : List ℕ). StepLine (Keys true keys)) (same_numbers x y h k (same_first _ _ _ _ e).1)
+same_line_said (StepLine (Keys false x)) (StepLine (Keys false y)) h k l e =
+    ap (λ (keys : List ℕ). StepLine (Keys false keys)) (same_numbers x y h k (same_first _ _ _ _ e).1)
+same_line_said (StepLine (Leave x)) (StepLine (Leave y)) h k l e =
+    ap (λ (call : Call). StepLine (Leave call)) (one_named x y h k (same_first _ _ _ _ e).1)
+same_line_said (ImpossibleLine x) (ImpossibleLine y) h k l e =
+    ap ImpossibleLine (one_named x y h k (same_first _ _ _ _ e).1)
+same_line_said PlainLine PlainLine h k l e = refl
+same_line_said (ItemLine x) (ItemLine y) h k l e = ap ItemLine (one_entry x y h k e)
+same_line_said EndLine EndLine h k l e = refl
+same_line_said a (StepLine (Keys true y)) h k l e = absurd (omega (arith, l))
+same_line_said a (StepLine (Keys false y)) h k l e = absurd (omega (arith, l))
+same_line_said a b h k l e = absurd (omega (arith, l))
+
+-- words are the line that says one thing at most
+pub one_line : (words : List (List ℕ)) (a b : LineSaid) → IsLine words a → IsLine words b → a ≡ b
+one_line words a b h k =
+    let same : line_words a ≡ line_words b = sym h.text ∙ k.text in
+    same_line_said a b h.may k.may
+    (sym (initial-letter a h.may) ∙ ap initial same ∙ initial-letter b k.may) same
+
+solid_named : (call : Call) → IsNamed call → (word : List ℕ) → 0 < length word
+    → IsSolid word → AreSolid (word ∷ place_words call)
+solid_named call h word some solid = record {
+  some = omega arith;
+  each = (
+    solid,
+    (solid_decimal call.caller (omega (arith, h.caller)), (solid_decimal call.number h.number, tt)),
+  );
+}
+
+solid_said : (line : LineSaid) → MaySay line → AreSolid (line_words line)
+solid_said (StepLine (At counts)) may = record {
+  some = omega arith;
+  each = (
+    plain (codes "at") (omega arith, (omega arith, tt)) (omega arith),
+    solid_pairs 0 counts (omega (arith, may.0)) may.1,
+  );
+}
+solid_said (StepLine (Keys true keys)) may = record {
+  some = omega arith;
+  each = (
+    plain (codes "without") (
+      omega arith,
+      (
+        omega arith,
+        (
+          omega arith,
+          (
+            omega arith,
+            (omega arith, (omega arith, (omega arith, tt))),
+          ),
+        ),
+      ),
+    ) (omega arith),
+    solid_numbers keys may,
+  );
+}
+solid_said (StepLine (Keys false keys)) may = record {
+  some = omega arith;
+  each = (
+    plain (codes "only") (omega arith, (omega arith, (omega arith, (omega arith, tt))))
+        (omega arith),
+    solid_numbers keys may,
+  );
+}
+solid_said (StepLine (Leave call)) may = solid_named call may (codes "leave") (omega arith)
+    (plain (codes "leave")
+    (omega arith, (omega arith, (omega arith, (omega arith, (omega arith, tt))))) (omega arith))
+solid_said (ImpossibleLine call) may = solid_named call may (codes "impossible") (omega arith)
+    (plain (codes "impossible") (
+      omega arith,
+      (
+        omega arith,
+        (
+          omega arith,
+          (
+            omega arith,
+            (
+              omega arith,
+              (
+                omega arith,
+                (omega arith, (omega arith, (omega arith, (omega arith, tt)))),
+              ),
+            ),
+          ),
+        ),
+      ),
+    ) (omega arith))
+solid_said PlainLine may = record {
+  some = omega arith;
+  each = (
+    plain (codes "closed") (
+      omega arith,
+      (
+        omega arith,
+        (
+          omega arith,
+          (
+            omega arith,
+            (
+              omega arith,
+              (omega arith, tt),
+            ),
+          ),
+        ),
+      ),
+    ) (omega arith),
+    (
+      plain (codes "plain") (
+        omega arith,
+        (
+          omega arith,
+          (
+            omega arith,
+            (
+              omega arith,
+              (omega arith, tt),
+            ),
+          ),
+        ),
+      ) (omega arith),
+      tt,
+    ),
+  );
+}
+solid_said (ItemLine entry) may = record {
+  some = omega arith;
+  each = (solid_decimal entry.item may.0, (solid_decimal entry.caller may.1, tt));
+}
+solid_said EndLine may = record {
+  some = omega arith;
+  each = (plain (codes "end") (omega arith, (omega arith, (omega arith, tt))) (omega arith), tt);
+}
+
+pub line_solid : (words : List (List ℕ)) (line : LineSaid) → IsLine words line → AreSolid words
+line_solid words line h = subst AreSolid (sym h.text) (solid_said line h.may)

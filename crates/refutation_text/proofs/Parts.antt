@@ -1,0 +1,108 @@
+-- The lines of a book and the lines after the title within the text of a refutation.
+use Rattle.std.proofs.Common.{◌≡◌, ℕ, List, [], ◌∷◌, decimal, Option, Some, None, refl}
+use Rattle.book_base.specs.declared.call.Call.{Call}
+use Rattle.book_base.specs.declared.fault.What.{What}
+use Rattle.book_base.specs.declared.fault.What.TheVariants as what
+use Rattle.book_base.specs.Book.{Page}
+use Rattle.seq_objects.specs.declared.kind.Kind.{Kind}
+use Rattle.text_fields.specs.declared.version.Version.TheVariants.{Second}
+use Rattle.text_fields.specs.Faults.{IsFirstTest, IsWrong}
+use Rattle.text_fields.proofs.Sharp.{only_test}
+use Rattle.text_fields.proofs.Within.{AreWithin, wrong_alike}
+use Rattle.book_text.specs.BookRules.{BookDue, InHead, InCalls, AtEnd, BookPasses}
+use Rattle.certificate_text.specs.Reading.{part_wanted, book_part}
+use Rattle.book_text.specs.Grammar.{end_words}
+use Rattle.refutations.specs.declared.entry.Entry.{Entry}
+use Rattle.refutation_text.specs.Said.{StepSaid, LineSaid, StepLine, ImpossibleLine, PlainLine, ItemLine, EndLine}
+use Rattle.refutation_text.specs.Grammar.{IsEntry, IsLine}
+use Rattle.refutation_text.specs.RefutationRules.{BodyDue, InSteps, EndDue, InEntries, BodyRead, after_line, body_wanted, BodyPasses, BodyFails, body_rules, InBody, after_book, RefutationPasses, refutation_wanted, refutation_rules}
+use Rattle.refutation_text.specs.Reading.{opening_line, ending_due}
+
+book_right : (due after : BookDue) (words : List (List ℕ)) → BookPasses Second due words after
+    → RefutationPasses (after_book due) words (after_book after)
+book_right (InHead due) after words h = (after, h, refl)
+book_right (InCalls kind book calls) after words h = (after, h, refl)
+book_right (AtEnd kind book) after words h = absurd h
+
+book_wrong : (due : BookDue) (bytes : List ℕ) (what : What)
+    → IsWrong book_part due (part_wanted due) bytes what → IsWrong refutation_rules
+    (after_book due) (refutation_wanted (after_book due)) bytes what
+book_wrong (InHead due) bytes what h = wrong_alike book_part refutation_rules (InHead due)
+    (after_book (InHead due)) (λ words what. (λ h. h, λ h. h)) bytes what h
+book_wrong (InCalls kind book calls) bytes what h =
+    wrong_alike book_part refutation_rules (InCalls kind book calls)
+    (after_book (InCalls kind book calls)) (λ words what. (λ h. h, λ h. h)) bytes what h
+book_wrong (AtEnd kind book) bytes what h = absurd h
+
+pub book_within : AreWithin book_part refutation_rules after_book
+book_within = record { right = book_right; wrong = book_wrong }
+
+module _ (kind : Kind) (book : List Page) where
+  body_wrong : (due : BodyDue) (bytes : List ℕ) (what : What)
+      → IsWrong body_rules due (body_wanted due) bytes what
+      → IsWrong refutation_rules (InBody kind book due) (body_wanted due) bytes what
+  body_wrong (InSteps steps) bytes what h = wrong_alike body_rules refutation_rules
+      (InSteps steps) (InBody kind book (InSteps steps)) (λ words what. (λ h. h, λ h. h))
+      bytes what h
+  body_wrong (EndDue steps call) bytes what h = wrong_alike body_rules refutation_rules
+      (EndDue steps call) (InBody kind book (EndDue steps call)) (λ words what. (λ h. h, λ h. h))
+      bytes what h
+  body_wrong (InEntries steps entries) bytes what h = wrong_alike body_rules refutation_rules
+      (InEntries steps entries) (InBody kind book (InEntries steps entries))
+      (λ words what. (λ h. h, λ h. h)) bytes what h
+  body_wrong (BodyRead steps ending) bytes what h = h
+
+  pub body_within : AreWithin body_rules refutation_rules (InBody kind book)
+  body_within =
+      record { right = λ due after words h. (after, h, refl); wrong = body_wrong }
+
+-- ---- the one test of a line that isn't right
+
+-- a line that is neither a step nor begins an ending fails the test of a step
+pub no_step : (steps : List StepSaid) (words : List (List ℕ))
+    → ((step : StepSaid) → IsLine words (StepLine step) → ⊥)
+    → ((named : Option Call) → IsLine words (opening_line named) → ⊥)
+    → IsFirstTest (BodyFails (InSteps steps) words) what.Op
+no_step steps words none opens =
+    only_test (BodyFails (InSteps steps) words) what.Op (refl, fails) (λ other k. k.0) where
+      fails : (line : LineSaid) → IsLine words line → after_line (InSteps steps) line ≡ None
+      fails (StepLine step) h = absurd (none step h)
+      fails (ImpossibleLine call) h = absurd (opens (Some call) h)
+      fails PlainLine h = absurd (opens None h)
+      fails (ItemLine entry) h = refl
+      fails EndLine h = refl
+
+-- a line that is neither an entry nor the end fails the test of an entry
+pub no_entry : (steps : List StepSaid) (entries : List Entry) (words : List (List ℕ))
+    → ((entry : Entry) → IsEntry entry
+    → words ≡ decimal entry.item ∷ decimal entry.caller ∷ [] → ⊥)
+    → (words ≡ end_words → ⊥)
+    → IsFirstTest (BodyFails (InEntries steps entries) words) what.Place
+no_entry steps entries words none not_end =
+    only_test (BodyFails (InEntries steps entries) words) what.Place (refl, fails)
+    (λ other k. k.0) where
+      fails : (line : LineSaid) → IsLine words line
+          → after_line (InEntries steps entries) line ≡ None
+      fails (StepLine step) h = refl
+      fails (ImpossibleLine call) h = refl
+      fails PlainLine h = refl
+      fails (ItemLine entry) h = absurd (none entry h.may h.text)
+      fails EndLine h = absurd (not_end h.text)
+
+-- a line that isn't the end fails the test of the end
+pub no_end : (steps : List StepSaid) (call : Call) (words : List (List ℕ))
+    → (words ≡ end_words → ⊥) → IsFirstTest (BodyFails (EndDue steps call) words) what.End
+no_end steps call words not_end =
+    only_test (BodyFails (EndDue steps call) words) what.End (refl, fails) (λ other k. k.0) where
+      fails : (line : LineSaid) → IsLine words line → after_line (EndDue steps call) line ≡ None
+      fails (StepLine step) h = refl
+      fails (ImpossibleLine called) h = refl
+      fails PlainLine h = refl
+      fails (ItemLine entry) h = refl
+      fails EndLine h = absurd (not_end h.text)
+
+-- the line that begins an ending leads to what is due then
+pub opens : (steps : List StepSaid) (named : Option Call)
+    → after_line (InSteps steps) (opening_line named) ≡ Some (ending_due steps named)
+opens steps None = refl
+opens steps (Some call) = refl

@@ -1,0 +1,12 @@
+use Rattle.std.proofs.Common.{[], List, length}
+use Rattle.text_fields.specs.Faults.{GoesTo}
+use Rattle.refutation_text.specs.Said.{StepSaid}
+use Rattle.refutation_text.specs.RefutationRules.{InEntries, body_rules}
+use Rattle.refutation_text.proofs.body.read_entries.Given as goal
+
+abbrev pub invariant-loop-entries : goal.invariant-loop-entries
+invariant-loop-entries l = (steps : List StepSaid)
+    → GoesTo body_rules (InEntries steps []) l.fn.lines (InEntries steps l.entries.items) l.lines
+
+abbrev pub decreases-loop-entries : goal.decreases-loop-entries
+decreases-loop-entries l = length l.lines.bytes

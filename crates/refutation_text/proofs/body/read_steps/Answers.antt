@@ -1,0 +1,49 @@
+use Rattle.std.proofs.Common.{◌≡◌, [], ◌∷◌, ◌++◌, List, sym, ap, subst, ◌∙◌, refl}
+use Rattle.std.proofs.lemmas.List.{map_push}
+use Rattle.book_base.specs.declared.fault.What.TheVariants.{Op}
+use Rattle.text_fields.specs.Lines.{words_of}
+use Rattle.text_fields.specs.Faults.{GoesTo}
+use Rattle.text_fields.proofs.Sharp.{goes_then, goes_line, stops_line, stops_later}
+use Rattle.refutation_text.specs.Said.{StepSaid, StepLine, step_said, steps_said}
+use Rattle.refutation_text.specs.RefutationRules.{InSteps, body_rules}
+use Rattle.refutation_text.specs.Reading.{opening_line, ending_due}
+use Rattle.refutation_text.proofs.Parts.{no_step, opens}
+use Rattle.refutation_text.proofs.body.read_steps.Goals as goal
+
+pub loop-steps-preserved : goal.loop-steps-preserved
+loop-steps-preserved c =
+    let l = c.loop-steps in
+    let old : List StepSaid = steps_said l.steps.items in
+    let step = c.in-Some.step in
+    let found = rw c.in-Some.is at c.in_ok-step.ensures.found in
+    let line = goes_line body_rules (InSteps old) (InSteps (old ++ step_said step ∷ [])) l.lines
+    c.line.new.self c.in_ok-line.line.now c.in_ok-line.ensures.line
+    (StepLine (step_said step), found, refl) in
+    let both = goes_then body_rules (InSteps []) (InSteps old)
+    (InSteps (old ++ step_said step ∷ [])) c.args.lines.now l.lines c.line.new.self l.invariant
+    line in
+    subst (λ (steps : List StepSaid). GoesTo body_rules (InSteps []) c.args.lines.now
+    (InSteps steps) c.line.new.self)
+    (sym (ap steps_said c.in_ok-push-in-Some.ensures.items ∙ map_push step_said l.steps.items step))
+    both
+
+pub returns-in-Some-opening_of-clause-found : goal.returns-in-Some-opening_of-clause-found
+returns-in-Some-opening_of-clause-found c =
+    let l = c.loop-steps in
+    let old : List StepSaid = steps_said l.steps.items in
+    let named = c.in-Some-opening_of.named in
+    let line = goes_line body_rules (InSteps old) (ending_due old named) l.lines
+    c.line.new.self c.in_ok-line.line.now c.in_ok-line.ensures.line
+    (opening_line named, c.in-Some-opening_of.ensures.found, opens old named) in
+    goes_then body_rules (InSteps []) (InSteps old) (ending_due old named) c.args.lines.now
+    l.lines c.line.new.self l.invariant line
+
+pub returns-in-None-opening_of-clause-refused : goal.returns-in-None-opening_of-clause-refused
+returns-in-None-opening_of-clause-refused c =
+    let l = c.loop-steps in
+    let old : List StepSaid = steps_said l.steps.items in
+    let none = rw c.in-None.is at c.in_ok-step.ensures.none in
+    rw c.number-number.ensures (stops_later body_rules (InSteps []) (InSteps old) c.args.lines.now
+    l.lines _ l.invariant (stops_line body_rules (InSteps old) l.lines c.line.new.self
+    c.in_ok-line.line.now Op refl c.in_ok-line.ensures.line
+    (no_step old (words_of c.in_ok-line.line.now) none c.in-None-opening_of.ensures.none)))

@@ -1,0 +1,44 @@
+-- What the lines of a refutation say, apart from how it is stored.
+use Rattle.std.specs.Prelude.{ℕ, Bool, true, false, List, map}
+use Rattle.book_base.specs.declared.call.Call.{Call}
+use Rattle.refutations.specs.declared.entry.Entry.{Entry}
+use Rattle.refutation_text.specs.declared.refutation.Step.{Step}
+use Rattle.refutation_text.specs.declared.refutation.Step.TheVariants as steps
+use Rattle.refutation_text.specs.declared.refutation.Ending.{Ending}
+use Rattle.refutation_text.specs.declared.refutation.Ending.TheVariants as endings
+
+-- What a step says: a count for each of 16 callers; keys, and whether the calls of these keys go,
+-- or those of all others; or a call.
+pub data StepSaid : Type 0 where
+  At : List ℕ → StepSaid
+  Keys : Bool → List ℕ → StepSaid
+  Leave : Call → StepSaid
+
+-- what an ending says: a call, or the entries of a list
+pub data EndingSaid : Type 0 where
+  Impossible : Call → EndingSaid
+  Closed : List Entry → EndingSaid
+
+-- what a line after the title says
+pub data LineSaid : Type 0 where
+  StepLine : StepSaid → LineSaid
+  ImpossibleLine : Call → LineSaid
+  PlainLine : LineSaid
+  ItemLine : Entry → LineSaid
+  EndLine : LineSaid
+
+-- what a stored step says
+abbrev pub step_said : Step → StepSaid
+step_said (steps.At counts) = At counts
+step_said (steps.Without keys) = Keys true keys.items
+step_said (steps.Only keys) = Keys false keys.items
+step_said (steps.Leave call) = Leave call
+
+-- what stored steps say
+abbrev pub steps_said : List Step → List StepSaid
+steps_said steps = map step_said steps
+
+-- what a stored ending says
+abbrev pub ending_said : Ending → EndingSaid
+ending_said (endings.Impossible call) = Impossible call
+ending_said (endings.Closed entries) = Closed entries.items

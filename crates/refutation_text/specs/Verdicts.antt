@@ -1,0 +1,77 @@
+-- What a refutation shows of its book.
+use Rattle.std.specs.Prelude.{◌≡◌, ℕ, ◌⊎◌, List, length}
+use Rattle.book_base.specs.declared.call.Call.{Call}
+use Rattle.book_base.specs.Book.{Page}
+use Rattle.book_base.specs.Order.{HasLegalOrder}
+use Rattle.seq_objects.specs.declared.kind.Kind.{Kind}
+use Rattle.seq_objects.specs.Objects.{kind_spec}
+use Rattle.refutations.specs.Closed.{MakeClosed}
+use Rattle.refutations.specs.Fault.{IsFirstFault}
+use Rattle.refutations.specs.Impossible.{IsImpossible}
+use Rattle.refutation_text.specs.declared.fault.RefutationFault.{RefutationFault}
+use Rattle.refutation_text.specs.declared.fault.RefutationFault.TheVariants as faults
+use Rattle.refutation_text.specs.declared.part_steps.StepFault.{StepFault}
+use Rattle.refutation_text.specs.declared.part_steps.StepFault.TheVariants as reasons
+use Rattle.refutation_text.specs.declared.verdict.RefutationVerdict.{RefutationVerdict}
+use Rattle.refutation_text.specs.declared.verdict.RefutationVerdict.TheVariants.{Illegal, Faulty}
+use Rattle.refutation_text.specs.Said.{StepSaid, EndingSaid, Impossible, Closed}
+use Rattle.refutation_text.specs.RefutationRules.{IsRefutationText}
+use Rattle.refutation_text.specs.Steps.{IsCalled, LeaveAfter, IsFirstStepFault}
+
+-- What an ending says of a part is so.
+abbrev pub IsShown : Kind → List (List ℕ) → List Page → EndingSaid → Type 0
+IsShown kind names part (Impossible named) = (call : Call) × IsCalled names part named call
+    × IsImpossible (kind_spec kind) part call
+IsShown kind names part (Closed entries) = MakeClosed (kind_spec kind) part entries
+
+-- What an ending with the number `s` says of a part isn't so, for this fault.
+abbrev pub EndingFails : Kind → List (List ℕ) → List Page → ℕ → EndingSaid → RefutationFault → Type 0
+EndingFails kind names part s (Impossible named) (faults.Lacks at) =
+    (at ≡ s) × ((call : Call) → IsCalled names part named call → ⊥)
+EndingFails kind names part s (Impossible named) faults.Possible = (call : Call)
+    × IsCalled names part named call × (IsImpossible (kind_spec kind) part call → ⊥)
+EndingFails kind names part s (Closed entries) (faults.Closed fault) =
+    IsFirstFault (kind_spec kind) part entries fault
+EndingFails kind names part s ending fault = ⊥
+
+-- A refutation is right: all its steps can be made, and what the ending says of the part that they
+-- leave is so.
+pub record IsRefutation (kind : Kind) (book : List Page) (steps : List StepSaid)
+    (ending : EndingSaid) : Type 0 where
+  pub names : List (List ℕ)
+  pub part : List Page
+  pub left : LeaveAfter kind book steps (length steps) names part
+  pub shown : IsShown kind names part ending
+
+-- the fault of a refutation whose step with this number can't be made
+abbrev pub step_fault : ℕ → StepFault → RefutationFault
+step_fault s reasons.Lacks = faults.Lacks s
+step_fault s reasons.Open = faults.Open s
+step_fault s reasons.Changes = faults.Changes s
+
+-- The first fault of a refutation: that of its first step that can't be made; or, where all can be,
+-- that of its ending.
+abbrev pub IsFaultOf : Kind → List Page → List StepSaid → EndingSaid → RefutationFault → Type 0
+IsFaultOf kind book steps ending fault =
+    ((s : ℕ) × (why : StepFault) × IsFirstStepFault kind book steps s why
+    × (fault ≡ step_fault s why))
+    ⊎ ((names : List (List ℕ)) × (part : List Page)
+    × LeaveAfter kind book steps (length steps) names part
+    × EndingFails kind names part (length steps) ending fault)
+
+-- the verdict on a refutation
+abbrev pub IsVerdictOf : Kind → List Page → List StepSaid → EndingSaid → RefutationVerdict → Type 0
+IsVerdictOf kind book steps ending Illegal = IsRefutation kind book steps ending
+IsVerdictOf kind book steps ending (Faulty fault) = IsFaultOf kind book steps ending fault
+
+-- the verdict on the refutation that the bytes are the text of
+unfoldable pub IsRefutationVerdict : List ℕ → RefutationVerdict → Type 0
+IsRefutationVerdict bytes verdict = (kind : Kind) × (book : List Page) × (steps : List StepSaid)
+    × (ending : EndingSaid) × IsRefutationText bytes kind book steps ending
+    × IsVerdictOf kind book steps ending verdict
+
+-- The bytes are the text of a refutation whose book has no legal order.
+unfoldable pub IsOfIllegalBook : List ℕ → Type 0
+IsOfIllegalBook bytes = (kind : Kind) × (book : List Page) × (steps : List StepSaid)
+    × (ending : EndingSaid) × IsRefutationText bytes kind book steps ending
+    × (HasLegalOrder (kind_spec kind) book → ⊥)

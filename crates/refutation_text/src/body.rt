@@ -1,0 +1,132 @@
+//! The lines after a book: the title of the refutation, its steps, its ending, and the end.
+
+ghost use Rattle.std.specs.Prelude.{◌≡◌, [], IfOk, IfErr};
+ghost use Rattle.refutation_text.specs.Said.{steps_said, ending_said};
+ghost use Rattle.refutation_text.specs.Reading.{IsTitle, IsNoTitle, AreSteps, AreEntries, AreNoEntries, IsEnd, IsNoEnd, IsBody, IsNoBody, IsRest};
+
+use crate::fields::entry_of;
+use crate::line::{opening_of, step_of};
+use crate::refutation::{Ending, Step};
+use book_base::{Call, ReadFault, TextFault, What};
+use certificate_text::is_end;
+use refutations::Entry;
+use std::alloc::Global;
+use text_fields::{Lines, Words, are_words};
+
+/// Reads the title of the refutation, which is the line after a book.
+pub(crate) fn read_title(lines: &mut Lines) -> Result<(), TextFault>
+    ensures found { IfOk result (λ _. IsTitle lines.old lines.new) }
+    ensures refused { IfErr result (IsNoTitle lines.old) }
+{
+    let line = lines.number();
+    let mut words = Words::new(lines.line()?);
+    if are_words(&mut words, b"refutation", b"2") {
+        Ok(())
+    } else {
+        Err(TextFault {
+            line,
+            what: What::Head,
+        })
+    }
+}
+
+/// The steps and the ending that the lines after the title give, up to the end.
+pub(crate) fn read_body(alloc: Global, lines: &mut Lines) -> Result<(Vec<Step>, Ending), ReadFault>
+    ensures found { IfOk result (λ (steps, ending).
+        IsBody lines.old (steps_said steps.items) (ending_said ending) lines.new) }
+    ensures refused { IfErr result (IsNoBody lines.old) }
+{
+    let (steps, named) = read_steps(alloc, lines)?;
+    match named {
+        Some(call) => {
+            read_end(lines)?;
+            Ok((steps, Ending::Impossible(call)))
+        }
+        None => {
+            let entries = read_entries(alloc, lines)?;
+            Ok((steps, Ending::Closed(entries)))
+        }
+    }
+}
+
+/// The steps that the lines give, and what the line after them says: the call whose reply is
+/// impossible, or none, where entries follow.
+fn read_steps(alloc: Global, lines: &mut Lines) -> Result<(Vec<Step>, Option<Call>), ReadFault>
+    ensures found { IfOk result (λ (steps, named).
+        AreSteps lines.old (steps_said steps.items) named lines.new) }
+    ensures refused { IfErr result (IsNoBody lines.old) }
+{
+    let mut steps = Vec::new(alloc);
+    loop {
+        let number = lines.number();
+        let line = lines.line()?;
+        match step_of(alloc, line)? {
+            Some(step) => steps.push(step)?,
+            None => match opening_of(line) {
+                Some(named) => return Ok((steps, named)),
+                None => {
+                    return Err(ReadFault::Text(TextFault {
+                        line: number,
+                        what: What::Op,
+                    }));
+                }
+            },
+        }
+    }
+}
+
+/// The entries that the lines give, up to the end.
+fn read_entries(alloc: Global, lines: &mut Lines) -> Result<Vec<Entry>, ReadFault>
+    ensures found { IfOk result (λ entries. AreEntries lines.old entries.items lines.new) }
+    ensures refused { IfErr result (AreNoEntries lines.old) }
+{
+    let mut entries = Vec::new(alloc);
+    loop {
+        let line = lines.number();
+        let words = Words::new(lines.line()?);
+        match entry_of(&mut words.copy()) {
+            Some(entry) => entries.push(entry)?,
+            None => {
+                if is_end(&mut words.copy()) {
+                    return Ok(entries);
+                }
+                return Err(ReadFault::Text(TextFault {
+                    line,
+                    what: What::Place,
+                }));
+            }
+        }
+    }
+}
+
+/// Reads the end of a refutation that names a call.
+fn read_end(lines: &mut Lines) -> Result<(), TextFault>
+    ensures found { IfOk result (λ _. IsEnd lines.old lines.new) }
+    ensures refused { IfErr result (IsNoEnd lines.old) }
+{
+    let line = lines.number();
+    let mut words = Words::new(lines.line()?);
+    if is_end(&mut words) {
+        Ok(())
+    } else {
+        Err(TextFault {
+            line,
+            what: What::End,
+        })
+    }
+}
+
+/// Refuses bytes after the end.
+pub(crate) fn no_more(lines: &Lines) -> Result<(), TextFault>
+    ensures whole { IfOk result (λ _. lines.now.bytes ≡ []) }
+    ensures refused { IfErr result (IsRest lines.now) }
+{
+    if lines.at_end() {
+        Ok(())
+    } else {
+        Err(TextFault {
+            line: lines.number(),
+            what: What::Rest,
+        })
+    }
+}

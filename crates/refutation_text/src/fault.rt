@@ -1,0 +1,25 @@
+use refutations::ClosedFault;
+use thiserror::Error;
+
+/// Why a refutation doesn't show that its book has no legal order. Steps are counted from 0, and
+/// the ending has the number of steps as its number.
+///
+/// The steps are tried first, then the ending, and then its entries.
+#[derive(Clone, Copy, Debug, PartialEq, Eq, Error)]
+pub enum RefutationFault {
+    /// This step or ending names a caller that the book lacks, or a call that the part lacks.
+    #[error("step {0} names what isn't there")]
+    Lacks(u64),
+    /// This step is of keys, and some view holds two unanswered calls of one caller.
+    #[error("some view holds two unanswered calls of one caller at step {0}")]
+    Open(u64),
+    /// The call of this step `leave` isn't read-only.
+    #[error("the call of step {0} isn't read-only")]
+    Changes(u64),
+    /// Some state gives the call's operation its reply, or the call is unanswered.
+    #[error("the reply isn't impossible")]
+    Possible,
+    /// The entries make no closed list.
+    #[error(transparent)]
+    Closed(ClosedFault),
+}

@@ -1,0 +1,98 @@
+//! The words of a line after the title of a refutation, read as one form of line.
+
+ghost use Rattle.std.specs.Prelude.{◌≡◌, ◌≢◌, ℕ, ◌∷◌, [], List, map, decimal, codes, IfOk, IfSome, IfNone};
+ghost use Rattle.book_base.specs.declared.call.Call.{Call};
+ghost use Rattle.refutations.specs.declared.entry.Entry.{Entry};
+ghost use Rattle.text_fields.specs.Counts.{AreNumbers, pair_words};
+ghost use Rattle.book_text.specs.CallLines.{place_words};
+ghost use Rattle.certificate_text.specs.Grammar.{IsNamed};
+ghost use Rattle.refutation_text.specs.Grammar.{AreCounts, IsEntry};
+
+use crate::STEP_CALLERS;
+use book_base::{Call, Cut, NoMemory};
+use book_text::take_word;
+use certificate_text::take_call;
+use refutations::Entry;
+use std::alloc::Global;
+use text_fields::{Words, next_number, read_pairs};
+
+/// The word `at`, and pairs of a caller below 16 and a count above 0, by rising callers.
+pub(crate) fn counts_of(words: &mut Words) -> Option<Cut>
+    ensures found { IfSome result (λ counts.
+        AreCounts counts × (words.old ≡ codes "at" ∷ pair_words 0 counts)) }
+    ensures none { IfNone result ((counts : List ℕ) → AreCounts counts
+        → words.old ≢ codes "at" ∷ pair_words 0 counts) }
+{
+    take_word(words, b"at")?;
+    let counts = read_pairs(words, STEP_CALLERS)?;
+    match words.next() {
+        None => Some(counts),
+        Some(_) => None,
+    }
+}
+
+/// A first word, and numbers.
+pub(crate) fn keys_of(
+    alloc: Global,
+    words: &mut Words,
+    first: &[u8],
+) -> Result<Option<Vec<u64>>, NoMemory>
+    ensures found { IfOk result (λ found. IfSome found (λ keys.
+        AreNumbers keys.items × (words.old ≡ first.now ∷ map decimal keys.items))) }
+    ensures none { IfOk result (λ found. IfNone found ((keys : List ℕ) → AreNumbers keys
+        → words.old ≢ first.now ∷ map decimal keys)) }
+{
+    match take_word(words, first) {
+        Some(()) => numbers_of(alloc, words),
+        None => Ok(None),
+    }
+}
+
+/// All words as numbers.
+fn numbers_of(alloc: Global, words: &mut Words) -> Result<Option<Vec<u64>>, NoMemory>
+    ensures found { IfOk result (λ found. IfSome found (λ keys.
+        AreNumbers keys.items × (words.old ≡ map decimal keys.items))) }
+    ensures none { IfOk result (λ found. IfNone found ((keys : List ℕ) → AreNumbers keys
+        → words.old ≢ map decimal keys)) }
+{
+    let mut keys = Vec::new(alloc);
+    loop {
+        if words.copy().next().is_none() {
+            return Ok(Some(keys));
+        }
+        match next_number(words, u64::MAX) {
+            Some(key) => keys.push(key)?,
+            None => return Ok(None),
+        }
+    }
+}
+
+/// A first word, and a caller and a number, whether or not a book has such a call.
+pub(crate) fn call_of(words: &mut Words, first: &[u8]) -> Option<Call>
+    ensures found { IfSome result (λ call.
+        IsNamed call × (words.old ≡ first.now ∷ place_words call)) }
+    ensures none { IfNone result ((call : Call) → IsNamed call
+        → words.old ≢ first.now ∷ place_words call) }
+{
+    take_word(words, first)?;
+    let call = take_call(words)?;
+    match words.next() {
+        None => Some(call),
+        Some(_) => None,
+    }
+}
+
+/// The number of an item and a caller, as an entry.
+pub(crate) fn entry_of(words: &mut Words) -> Option<Entry>
+    ensures found { IfSome result (λ entry. IsEntry entry
+        × (words.old ≡ decimal entry.item ∷ decimal entry.caller ∷ [])) }
+    ensures none { IfNone result ((entry : Entry) → IsEntry entry
+        → words.old ≢ decimal entry.item ∷ decimal entry.caller ∷ []) }
+{
+    let item = next_number(words, u64::MAX)?;
+    let caller = next_number(words, u64::MAX)?;
+    match words.next() {
+        None => Some(Entry { item, caller }),
+        Some(_) => None,
+    }
+}

@@ -1,0 +1,40 @@
+use book_base::{Book, Call, Cut};
+use refutations::Entry;
+use seq_objects::Kind;
+
+/// A step, which leaves a part of a book. Calls have the numbers that they have in the book.
+#[derive(Debug, Drop)]
+pub enum Step {
+    /// Of each caller the calls below its count keep their replies and views, and all others lose
+    /// theirs; then the calls go that no view holds. There are 16 counts, whatever the book.
+    At(Cut),
+    /// The calls of these keys go.
+    Without(Vec<u64>),
+    /// The calls of all other keys go.
+    Only(Vec<u64>),
+    /// This call goes, which is read-only. The book need not have it.
+    Leave(Call),
+}
+
+/// What is said of the part that the steps leave.
+#[derive(Debug, Drop)]
+pub enum Ending {
+    /// This call is answered, and no state gives its operation this reply. The book need not have
+    /// it.
+    Impossible(Call),
+    /// These entries make a closed list of pairs of calls and a state.
+    Closed(Vec<Entry>),
+}
+
+/// A book with a reason why it has no legal order, which is right or not.
+#[derive(Debug, Drop)]
+pub struct Refutation {
+    /// The kind of the book's object.
+    pub kind: Kind,
+    /// The book.
+    pub book: Book,
+    /// The steps, from the first.
+    pub steps: Vec<Step>,
+    /// What is said of the part that they leave.
+    pub ending: Ending,
+}

@@ -1,0 +1,143 @@
+//! What a refutation shows of its book.
+
+ghost use Rattle.std.specs.Prelude.{◌≡◌, ◌⊎◌, ◌↔◌, IfOk, IfErr, IfSome, IfNone, IsTrue, MatchResult};
+ghost use Rattle.book_base.specs.declared.fault.TextFault.{TextFault};
+ghost use Rattle.book_base.specs.Book.{IsCall};
+ghost use Rattle.seq_objects.specs.Objects.{kind_spec};
+ghost use Rattle.refutations.specs.Impossible.{IsImpossible};
+ghost use Rattle.text_fields.specs.Faults.{IsFaultOf};
+ghost use Rattle.smaller_book.specs.Numbers.{numbers_in};
+ghost use Rattle.refutation_text.specs.RefutationRules.{IsFirstRefutationFault};
+ghost use Rattle.refutation_text.specs.Said.{Impossible, steps_said, ending_said};
+ghost use Rattle.refutation_text.specs.Steps.{AreNamesOf};
+ghost use Rattle.refutation_text.specs.Verdicts.{IsShown, EndingFails, step_fault, IsVerdictOf, IsRefutationVerdict, IsOfIllegalBook};
+
+use crate::fault::RefutationFault;
+use crate::part_steps::{StepFault, call_in, part_of};
+use crate::reader::read_refutation;
+use crate::refutation::{Ending, Refutation};
+use book_base::{Book, Call, NoMemory, ReadFault};
+use refutations::{check_closed, has_impossible_reply};
+use seq_objects::Kind;
+use smaller_book::Smaller;
+use std::alloc::Global;
+
+/// Whether a refutation is right, and if not its first fault.
+#[derive(Clone, Copy, Debug, PartialEq, Eq)]
+pub enum RefutationVerdict {
+    /// The book has no legal order, as the refutation shows.
+    Illegal,
+    /// The refutation shows nothing, for this fault.
+    Faulty(RefutationFault),
+}
+
+/// Judges the refutation that the bytes are the text of.
+///
+/// A fault of the text names the first wrong line, and the first test that this line fails.
+pub fn refute(alloc: Global, bytes: &[u8]) -> Result<RefutationVerdict, ReadFault>
+    // A verdict that is answered is the one on the refutation whose text the bytes are.
+    ensures verdict { IfOk result (IsRefutationVerdict bytes.now) }
+    // The answer `Illegal` comes only where the book of the text has no legal order.
+    ensures illegal { IfOk result (λ verdict.
+        verdict ≡ RefutationVerdict.Illegal → IsOfIllegalBook bytes.now) }
+    // A refusal has the first fault of the bytes as the text of a refutation, or says want of
+    // memory.
+    ensures refused { IfErr result (IsFaultOf (IsFirstRefutationFault bytes.now)) }
+    // Where the bytes are the text of a refutation, the answer is the verdict on it, unless memory
+    // runs out.
+    ensures only { (verdict : RefutationVerdict) → IsRefutationVerdict bytes.now verdict
+        → MatchResult result (λ v. v ≡ verdict) (λ e. e ≡ ReadFault.NoMemory) }
+    // Where the bytes have a first fault, the answer is that fault, unless memory runs out.
+    ensures first { (fault : TextFault) → IsFirstRefutationFault bytes.now fault
+        → MatchResult result (λ _. ⊥)
+        (λ e. (e ≡ ReadFault.Text fault) ⊎ (e ≡ ReadFault.NoMemory)) }
+{
+    judged(alloc, bytes)
+}
+
+// Reads the refutation, and judges it.
+#[tactic(auto, using(crate::proofs::Readings::verdict_from_judged))]
+fn judged(alloc: Global, bytes: &[u8]) -> Result<RefutationVerdict, ReadFault>
+    ensures verdict { IfOk result (IsRefutationVerdict bytes.now) }
+    ensures refused { IfErr result (IsFaultOf (IsFirstRefutationFault bytes.now)) }
+{
+    let read = read_refutation(alloc, bytes)?;
+    Ok(judge(alloc, read)?)
+}
+
+// What a refutation shows.
+#[tactic(auto, using(crate::proofs::Judging::step_verdict, crate::proofs::Judging::ending_verdict, crate::proofs::Judging::right_verdict))]
+fn judge(alloc: Global, read: Refutation) -> Result<RefutationVerdict, NoMemory>
+    ensures { IfOk result (IsVerdictOf read.kind read.book (steps_said read.steps.items)
+        (ending_said read.ending)) }
+{
+    let steps = read.steps.len() as u64;
+    match part_of(alloc, read.kind, read.book, &read.steps)? {
+        Err((s, why)) => Ok(RefutationVerdict::Faulty(fault_of_step(s, why))),
+        Ok(left) => match fault_of_ending(alloc, read.kind, &left, steps, &read.ending)? {
+            Some(fault) => Ok(RefutationVerdict::Faulty(fault)),
+            None => Ok(RefutationVerdict::Illegal),
+        },
+    }
+}
+
+// The fault of a refutation with a step that can't be made.
+fn fault_of_step(s: u64, why: StepFault) -> RefutationFault
+    ensures { result ≡ step_fault s why }
+{
+    match why {
+        StepFault::Lacks => RefutationFault::Lacks(s),
+        StepFault::Open => RefutationFault::Open(s),
+        StepFault::Changes => RefutationFault::Changes(s),
+    }
+}
+
+// Why what an ending says of a part isn't so.
+fn fault_of_ending(
+    alloc: Global,
+    kind: Kind,
+    left: &Smaller,
+    steps: u64,
+    ending: &Ending,
+) -> Result<Option<RefutationFault>, NoMemory>
+    requires { AreNamesOf (numbers_in left.now.numbers.items) left.now.book }
+    ensures fault { IfOk result (λ found. IfSome found
+        (EndingFails kind (numbers_in left.now.numbers.items) left.now.book steps
+        (ending_said ending.now))) }
+    ensures shown { IfOk result (λ found. IfNone found
+        (IsShown kind (numbers_in left.now.numbers.items) left.now.book (ending_said ending.now))) }
+{
+    match ending {
+        Ending::Impossible(named) => Ok(fault_of_reply(kind, left, steps, *named)),
+        Ending::Closed(entries) => match check_closed(alloc, &kind, &left.book, entries)? {
+            Ok(()) => Ok(None),
+            Err(fault) => Ok(Some(RefutationFault::Closed(fault))),
+        },
+    }
+}
+
+// Why a call's reply isn't impossible.
+fn fault_of_reply(kind: Kind, left: &Smaller, steps: u64, named: Call) -> Option<RefutationFault>
+    requires { AreNamesOf (numbers_in left.now.numbers.items) left.now.book }
+    ensures fault { IfSome result (EndingFails kind
+        (numbers_in left.now.numbers.items) left.now.book steps (Impossible named)) }
+    ensures shown { IfNone result (IsShown kind
+        (numbers_in left.now.numbers.items) left.now.book (Impossible named)) }
+{
+    let Some(call) = call_in(left, named) else {
+        return Some(RefutationFault::Lacks(steps));
+    };
+    if is_impossible(kind, &left.book, call) {
+        None
+    } else {
+        Some(RefutationFault::Possible)
+    }
+}
+
+// Whether a call is answered, and no list gives its operation its reply.
+fn is_impossible(kind: Kind, book: &Book, call: Call) -> bool
+    requires { IsCall book.now call }
+    ensures { IsTrue result ↔ IsImpossible (kind_spec kind) book.now call }
+{
+    call.number < book.answers(call.caller) && has_impossible_reply(kind, book, call)
+}
