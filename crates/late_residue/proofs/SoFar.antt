@@ -11,9 +11,10 @@ use Rattle.residue_laws.proofs.Events.{alike_itself}
 use Rattle.late_residue.specs.declared.open_call.OpenCall.{OpenCall}
 use Rattle.late_residue.specs.declared.reached.Reached.{Reached}
 use Rattle.late_residue.specs.Reached.{Has, HasAlike, Grows, configuration_of, configurations_of}
-use Rattle.late_residue.specs.Placing.{IsPlacedAt, with_call, MayBePlaced, LeadsInto, IsLeft}
-use Rattle.late_residue.specs.LateOnes.{AreAdded, AreListed}
-use Rattle.late_residue.proofs.Items.{map-at, map-from, has-none}
+use Rattle.late_residue.specs.Placing.{Ascend, IsPlacedAt, with_call, MayBePlaced, LeadsInto, IsLeft}
+use Rattle.late_residue.specs.LateOnes.{AreAdded, AreCopied, AreLate, AreListed}
+use Rattle.late_residue.proofs.Items.{map-at, map-from, has-none, grows-has, grows-map}
+use Rattle.streams.specs.Stream.{StreamEvent}
 use Rattle.late_residue.proofs.Alike.{alike-back, alike-on, has_alike-on}
 use Rattle.late_residue.proofs.Ascending.{listed-none}
 use Rattle.late_residue.proofs.Adding.{added_none, added_on, has_alike-grows, leads-grows, below_next, at_place}
@@ -204,4 +205,54 @@ left_not next one reply ones k r left so_far is none = record {
         (sym equal) leaves))
   ];
   listed = so_far.listed;
+}
+
+pub copied_none : (ones copy : List Reached) → copy ≡ [] → AreCopied ones copy 0
+copied_none ones copy none = record {
+  from = λ at has. absurd (has-none at
+      (subst (λ (l : List Reached). Has (configurations_of l) at) none has));
+  all = λ j at less. absurd (not_below_zero j less);
+  listed = λ listed. subst (λ (l : List Reached). AreListed (configurations_of l)) (sym none)
+      listed-none;
+}
+
+pub copied_next : (ones : List Reached) (k : ℕ) (r x : Reached) (copy new : List Reached)
+    → AreCopied ones copy k → slice_get ones k ≡ Some r → configuration_of x ≡ configuration_of r
+    → Grows copy new → Has (configurations_of new) (configuration_of x)
+    → ((at : Configuration) → Has (configurations_of new) at
+    → Has (configurations_of copy) at ⊎ (configuration_of x ≡ at))
+    → (Ascend (configuration_of x).placed → AreListed (configurations_of copy)
+    → AreListed (configurations_of new)) → AreCopied ones new (k + 1)
+copied_next ones k r x copy new so_far is same grows has cases lists = record {
+  from = λ at there. elim (cases at there) [
+    | inl before ↦ so_far.from at before
+    | inr equal ↦ subst (λ (c : Configuration). Has (configurations_of ones) c)
+        (sym same ∙ equal) (k, map-at configuration_of ones k r is)
+  ];
+  all = below_next (λ at. Has (configurations_of new) at) (configurations_of ones) k
+      (λ j at less there. grows-has (configurations_of copy) (configurations_of new) at
+      (grows-map configuration_of copy new grows) (so_far.all j at less there))
+      (λ at there. subst (λ (c : Configuration). Has (configurations_of new) c)
+      (same ∙ at_place ones k r at is there) has);
+  listed = λ listed. lists
+      (subst (λ (c : Configuration). Ascend c.placed) (sym same)
+      (listed.ascend (configuration_of r) (k, map-at configuration_of ones k r is)))
+      (so_far.listed listed);
+}
+
+-- copies of all configurations of a late residue are this late residue
+pub copied_late : (spec : SeqSpec) (stream : List StreamEvent) (calls : List OpenCall)
+    (ones copy : List Reached) → AreCopied ones copy (length ones)
+    → AreLate spec stream calls (configurations_of ones)
+    → AreLate spec stream calls (configurations_of copy)
+copied_late spec stream calls ones copy copied late = record {
+  late = λ at has. late.late at (copied.from at has);
+  agree = λ at has. late.agree at (copied.from at has);
+  whole = λ at is agrees.
+      let found = late.whole at is agrees in (
+        found.0,
+        copied.all found.1.0 found.0 (within_keys ones found.1.0 found.0 found.1.1) found.1.1,
+        found.2,
+      );
+  listed = copied.listed late.listed;
 }

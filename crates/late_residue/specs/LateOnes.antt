@@ -61,6 +61,14 @@ pub record AreAdded (spec : SeqSpec) (calls : List OpenCall) (returning : ℕ)
       → Has (configurations_of old) at
   pub listed : AreListed (configurations_of old) → AreListed (configurations_of new)
 
+-- The first configurations of a list, as many as a number says, are copied to another list: it has
+-- these, and none that the list hasn't.
+pub record AreCopied (ones copy : List Reached) (number : ℕ) : Type 0 where
+  pub from : (at : Configuration) → Has (configurations_of copy) at → Has (configurations_of ones) at
+  pub all : (j : ℕ) (at : Configuration) → j < number
+      → slice_get (configurations_of ones) j ≡ Some at → Has (configurations_of copy) at
+  pub listed : AreListed (configurations_of ones) → AreListed (configurations_of copy)
+
 -- The residue of a stream is beyond a limit, as far as replies are known: more configurations than
 -- the limit agree with what is known, or one with a list of as many words as a state may have.
 abbrev pub IsBeyond : SeqSpec → List StreamEvent → List OpenCall → ℕ → Type 0

@@ -3,7 +3,7 @@ ghost use Rattle.book_base.specs.declared.TheConstants.{MAX_ROOM};
 ghost use Rattle.residue_laws.specs.Residue.{Configuration};
 ghost use Rattle.late_residue.specs.Reached.{Has, HasAlike, Grows, configuration_of, configurations_of};
 ghost use Rattle.late_residue.specs.Placing.{Ascend, IsPlacedAt, MayBePlaced, with_call, LeadsInto, AreClosed, AreLeft};
-ghost use Rattle.late_residue.specs.LateOnes.{AreListed, AreAdded};
+ghost use Rattle.late_residue.specs.LateOnes.{AreListed, AreAdded, AreCopied};
 
 use crate::open_call::OpenCall;
 use crate::reached::Reached;
@@ -148,4 +148,15 @@ pub fn after_return<O: GrowsByOne>(
         }
     }
     Ok(left)
+}
+
+/// A copy of some configurations.
+pub fn copy_of(alloc: Global, ones: &IndexSet<Reached>) -> Result<IndexSet<Reached>, NoMemory>
+    ensures { IfOk result (λ copy. AreCopied ones.now.keys copy.keys (length ones.now.keys)) }
+{
+    let mut copy = IndexSet::new(alloc);
+    for k in 0..ones.len() {
+        put(&mut copy, ones[k].copy(alloc)?)?;
+    }
+    Ok(copy)
 }

@@ -7,7 +7,7 @@ ghost use Rattle.late_residue.specs.LateOnes.{AreOpen, AreLate, IsBeyond};
 ghost use Rattle.late_residue.specs.declared.open_call.OpenCall.{OpenCall};
 ghost use Rattle.book_base.specs.SeqSpec.{SeqSpec};
 
-use crate::closing::{after_return, close};
+use crate::closing::{after_return, close, copy_of};
 use crate::open_call::OpenCall;
 use crate::reached::Reached;
 use book_base::{GrowsByOne, NoMemory, State};
@@ -43,6 +43,18 @@ impl LateResidue {
         let mut reached = IndexSet::new(alloc);
         reached.insert(Reached::first(alloc, &state)?)?;
         Ok(LateResidue { reached })
+    }
+
+    /// A copy of the configurations.
+    pub fn copy(&self, alloc: Global) -> Result<LateResidue, NoMemory>
+        // The copy is the late residue of each stream of which these configurations are.
+        ensures { IfOk result (λ copy. (spec : SeqSpec) (stream : List StreamEvent)
+            → (calls : List OpenCall) → AreLate spec stream calls self.now
+            → AreLate spec stream calls copy) }
+    {
+        Ok(LateResidue {
+            reached: copy_of(alloc, &self.reached)?,
+        })
     }
 
     /// How many configurations there are.

@@ -39,6 +39,16 @@ impl Reached {
         })
     }
 
+    /// A copy of the configuration.
+    pub fn copy(&self, alloc: Global) -> Result<Reached, NoMemory>
+        ensures { IfOk result (λ copy. configuration_of copy ≡ configuration_of self.now) }
+    {
+        Ok(Reached {
+            placed: places_of(alloc, &self.placed)?,
+            list: copy_of(alloc, &self.list)?,
+        })
+    }
+
     /// Whether a call is placed here.
     pub fn places(&self, call: u64) -> bool
         ensures { IsTrue result ↔ IsPlacedAt (configuration_of self.now) call }

@@ -315,3 +315,21 @@ taken_told kind limit taken seen calls residue new last stream later near far at
           (may_have stream later calls has.table at reply one here near far parts returns.0
           returns.1 seen has.known) late)) has.held;
     })
+
+-- a copy of a watch has taken what the watch has taken
+pub taken_copy : (kind : Kind) (limit taken seen : ℕ) (calls : List OpenCall)
+    (residue new : List Configuration) (last : Option Verdict) (stream later : List StreamEvent)
+    (copy : List OpenCall) → HasTaken (watch kind limit taken seen calls residue last) stream later
+    → copy ≡ calls
+    → (AreLate (kind_spec kind) stream calls residue → AreLate (kind_spec kind) stream calls new)
+    → HasTaken (watch kind limit taken seen copy new last) stream later
+taken_copy kind limit taken seen calls residue new last stream later copy has same becomes =
+    subst (λ (l : List OpenCall). HasTaken (watch kind limit taken seen l new last) stream later)
+    (sym same) (record {
+      valid = has.valid;
+      count = has.count;
+      table = has.table;
+      known = has.known;
+      held = held-told (kind_spec kind) limit stream later calls calls residue new last becomes
+          has.held;
+    })

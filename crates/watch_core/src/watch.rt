@@ -1,4 +1,4 @@
-ghost use Rattle.std.specs.Prelude.{◌≡◌, ◌↔◌, IsTrue, ℕ, ◌+◌, ◌<◌, ◌^◌, [], ◌∷◌, ◌++◌, false, List, length, slice_get, IfOk, IfErr, IfSome, IfNone, OnOk, OnErr, max};
+ghost use Rattle.std.specs.Prelude.{◌≡◌, ◌↔◌, IsTrue, ℕ, ◌+◌, ◌<◌, ◌≤◌, ◌^◌, [], ◌∷◌, ◌++◌, false, List, length, slice_get, IfOk, IfErr, IfSome, IfNone, OnOk, OnErr, max};
 ghost use Rattle.seq_objects.specs.Objects.{kind_spec};
 ghost use Rattle.streams.specs.Stream.{StreamEvent, Called, Returned, Lost, IsValidStream, IsWaiting, Returns};
 ghost use Rattle.late_residue.specs.declared.open_call.OpenCall.{OpenCall};
@@ -6,6 +6,7 @@ ghost use Rattle.watch_core.specs.Event.{event_of};
 ghost use Rattle.late_residue.specs.Reached.{Has};
 ghost use Rattle.watch_core.specs.Table.{Waits, IsTable};
 ghost use Rattle.watch_core.specs.Verdict.{IsVerdict, IsRefusal};
+ghost use Rattle.watch_core.specs.declared.TheConstants.{MAX_OPEN};
 ghost use Rattle.watch_core.specs.Watch.{IsHeld, IsSeen, HasTaken};
 
 use crate::MAX_OPEN;
@@ -58,6 +59,8 @@ impl Watch {
             → HasTaken watch [] later) }
         // It has this kind and this limit.
         ensures kind { IfOk result (λ watch. (watch.kind ≡ kind) × (watch.limit ≡ limit)) }
+        // No call is open.
+        ensures none { IfOk result (λ watch. watch.calls ≡ []) }
     {
         Ok(Watch {
             alloc,
@@ -69,6 +72,36 @@ impl Watch {
             residue: LateResidue::new(alloc, &kind)?,
             last: None,
         })
+    }
+
+    /// A copy of the watch.
+    pub fn copy(&self) -> Result<Watch, NoMemory>
+        // The copy has taken what the watch has taken, and knows what it knows of later events.
+        ensures taken { IfOk result (λ copy. (stream later : List StreamEvent)
+            → HasTaken self.now stream later → HasTaken copy stream later) }
+        // It has the same kind and the same limit.
+        ensures kind { IfOk result
+            (λ copy. (copy.kind ≡ self.now.kind) × (copy.limit ≡ self.now.limit)) }
+    {
+        let mut calls = Vec::with_capacity(self.alloc, self.calls.len())?;
+        calls.extend_from_slice(&self.calls)?;
+        Ok(Watch {
+            alloc: self.alloc,
+            kind: self.kind,
+            limit: self.limit,
+            taken: self.taken,
+            seen: self.seen,
+            calls,
+            residue: self.residue.copy(self.alloc)?,
+            last: self.last,
+        })
+    }
+
+    /// How many events the watch has taken.
+    pub fn taken(&self) -> u64
+        ensures { result ≡ self.now.taken }
+    {
+        self.taken
     }
 
     /// What is said of the events that were taken.
@@ -105,6 +138,11 @@ impl Watch {
         ensures taken { OnOk result ((stream later : List StreamEvent)
             → HasTaken self.old stream (event_of event ∷ later)
             → HasTaken self.new (stream ++ event_of event ∷ []) later) }
+        // The watch has counted it, in a word of 64 bits.
+        ensures count { OnOk result ((self.new.taken ≡ self.old.taken + 1)
+            × (self.new.taken < 2 ^ 64)) }
+        // No more calls are open than may be, where there were no more before.
+        ensures few { length self.old.calls ≤ MAX_OPEN → length self.new.calls ≤ MAX_OPEN }
         // An event is refused only for a named cause.
         ensures refused { IfErr result (λ refused. (stream later : List StreamEvent)
             → HasTaken self.old stream later
@@ -157,6 +195,8 @@ impl Watch {
         ensures taken { OnOk result ((stream later : List StreamEvent)
             → HasTaken self.old stream (Called process op ∷ later)
             → HasTaken self.new (stream ++ Called process op ∷ []) later) }
+        ensures count { OnOk result (self.new.taken ≡ self.old.taken + 1) }
+        ensures few { length self.old.calls ≤ MAX_OPEN → length self.new.calls ≤ MAX_OPEN }
         ensures refused { IfErr result (λ refused. (stream later : List StreamEvent)
             → HasTaken self.old stream later
             → IsRefusal stream (length self.old.calls) (Called process op) refused) }
@@ -189,6 +229,8 @@ impl Watch {
         ensures taken { OnOk result ((stream later : List StreamEvent)
             → HasTaken self.old stream (Lost process ∷ later)
             → HasTaken self.new (stream ++ Lost process ∷ []) later) }
+        ensures count { OnOk result (self.new.taken ≡ self.old.taken + 1) }
+        ensures few { length self.old.calls ≤ MAX_OPEN → length self.new.calls ≤ MAX_OPEN }
         ensures refused { IfErr result (λ refused. (stream later : List StreamEvent)
             → HasTaken self.old stream later
             → IsRefusal stream (length self.old.calls) (Lost process) refused) }
@@ -209,6 +251,8 @@ impl Watch {
         ensures taken { OnOk result ((stream later : List StreamEvent)
             → HasTaken self.old stream (Returned process reply ∷ later)
             → HasTaken self.new (stream ++ Returned process reply ∷ []) later) }
+        ensures count { OnOk result (self.new.taken ≡ self.old.taken + 1) }
+        ensures few { length self.old.calls ≤ MAX_OPEN → length self.new.calls ≤ MAX_OPEN }
         ensures refused { IfErr result (λ refused. (stream later : List StreamEvent)
             → HasTaken self.old stream later
             → IsRefusal stream (length self.old.calls) (Returned process reply) refused) }
