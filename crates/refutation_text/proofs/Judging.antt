@@ -1,12 +1,11 @@
 -- What a judging finds of a refutation is its verdict.
-use Rattle.std.proofs.Common.{◌≡◌, ℕ, List, length, map, refl, sym, subst, inl, inr}
+use Rattle.std.proofs.Common.{◌≡◌, ℕ, List, length, refl, sym, subst, inl, inr}
 use Rattle.std.proofs.lemmas.List.{length-map}
 use Rattle.book_base.specs.Book.{Page}
 use Rattle.seq_objects.specs.declared.kind.Kind.{Kind}
 use Rattle.refutation_text.specs.declared.fault.RefutationFault.{RefutationFault}
 use Rattle.refutation_text.specs.declared.part_steps.StepFault.{StepFault}
 use Rattle.refutation_text.specs.declared.refutation.Step.{Step}
-use Rattle.refutation_text.specs.declared.verdict.RefutationVerdict.{RefutationVerdict}
 use Rattle.refutation_text.specs.declared.verdict.RefutationVerdict.TheVariants.{Illegal, Faulty}
 use Rattle.refutation_text.specs.Said.{EndingSaid, step_said, steps_said}
 use Rattle.refutation_text.specs.Steps.{LeaveAfter, IsFirstStepFault}

@@ -1,19 +1,18 @@
 -- A line after a refutation's title says one thing at most.
-use Rattle.std.proofs.Common.{◌≡◌, ℕ, ◌-◌, ◌<◌, ◌≤◌, ◌^◌, true, false, List, [], ◌∷◌, length, map, get_or, decimal, refl, sym, ap, subst, ◌∙◌, arith}
+use Rattle.std.proofs.Common.{◌≡◌, ℕ, ◌-◌, ◌<◌, true, false, List, [], ◌∷◌, length, get_or, decimal, refl, sym, ap, subst, ◌∙◌, arith}
 use Rattle.std.specs.Prelude.{codes}
 use Rattle.std.proofs.lemmas.Fmt.{decimal_nonempty}
 use Rattle.list_laws.proofs.Decimals.{decimal_byte}
 use Rattle.book_base.specs.declared.call.Call.{Call}
 use Rattle.refutations.specs.declared.entry.Entry.{Entry}
 use Rattle.text_fields.specs.Lines.{IsSolid, AreSolid}
-use Rattle.text_fields.specs.Counts.{pair_words}
 use Rattle.text_fields.proofs.NumberTexts.{same_first, same_number, solid_decimal}
 use Rattle.text_fields.proofs.HeadTexts.{same_numbers, solid_numbers, plain}
 use Rattle.book_text.specs.CallLines.{place_words}
 use Rattle.book_text.proofs.CallTexts.{pairs_once}
 use Rattle.book_text.proofs.SharpBooks.{solid_pairs}
 use Rattle.certificate_text.specs.Grammar.{IsNamed}
-use Rattle.refutation_text.specs.Said.{StepSaid, At, Keys, Leave, LineSaid, StepLine, ImpossibleLine, PlainLine, ItemLine, EndLine}
+use Rattle.refutation_text.specs.Said.{At, Keys, Leave, LineSaid, StepLine, ImpossibleLine, PlainLine, ItemLine, EndLine}
 use Rattle.refutation_text.specs.Grammar.{MaySay, line_words, IsEntry, IsLine}
 
 -- how far the first byte of a line is above the digits

@@ -1,12 +1,12 @@
 -- What steps leave is one part.
-use Rattle.std.proofs.Common.{◌≡◌, ℕ, zero, suc, ◌+◌, ◌<◌, ◌≤◌, ◌∙◌, List, [], length, get_or, slice_get, Some, refl, sym, ap, subst, inl, inr, arith}
+use Rattle.std.proofs.Common.{◌≡◌, ℕ, zero, suc, ◌<◌, ◌∙◌, List, length, get_or, slice_get, Some, refl, sym, ap, subst, inl, inr, arith}
 use Rattle.std.proofs.lemmas.Bool.{cases_lt}
 use Rattle.std.proofs.lemmas.List.{ext_get_or}
 use Rattle.std.proofs.lemmas.Option.{slice_get_within, slice_get_past, same_Some}
 use Rattle.list_laws.proofs.Prefixes.{same_from_places}
 use Rattle.book_base.specs.declared.call.Call.{Call}
 use Rattle.book_base.specs.declared.call.Record.{Record}
-use Rattle.book_base.specs.Book.{Page, page_of, calls_of, answers_of, IsCall, IsAnswered, operation_of, record_of, IsValid}
+use Rattle.book_base.specs.Book.{Page, page_of, calls_of, answers_of, IsCall, IsAnswered, IsValid}
 use Rattle.book_base.specs.BookAt.{IsBookAt}
 use Rattle.book_base.proofs.PageLemmas.{empty}
 use Rattle.book_base.proofs.ViewLemmas.{same_call, answer_stands}
@@ -21,7 +21,7 @@ use Rattle.smaller_book.proofs.LeastCuts.{part_with_numbers}
 use Rattle.smaller_book.proofs.PartsOfParts.{part_of_part}
 use Rattle.smaller_book.proofs.Steps.{evidence_part}
 use Rattle.refutation_text.specs.Said.{StepSaid, At, Keys, Leave}
-use Rattle.refutation_text.specs.Steps.{IsCalled, IsCutOf, HasPlaces, IsStep, Leaves, LeaveAfter}
+use Rattle.refutation_text.specs.Steps.{IsCalled, HasPlaces, IsStep, Leaves, LeaveAfter}
 use Rattle.refutation_text.proofs.StepLaws.{step_evidence, after_names}
 
 -- ---- one part with these places

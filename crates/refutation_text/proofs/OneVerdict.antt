@@ -1,15 +1,13 @@
 -- A refutation is right, or has one first fault.
-use Rattle.std.proofs.Common.{◌≡◌, ℕ, zero, suc, ◌<◌, ◌≤◌, ◌⊎◌, ◌∙◌, List, length, slice_get, Some, refl, sym, ap, subst, inl, inr, arith}
+use Rattle.std.proofs.Common.{◌≡◌, ℕ, zero, suc, ◌<◌, ◌∙◌, List, length, slice_get, refl, sym, ap, subst, inl, inr, arith}
 use Rattle.std.proofs.lemmas.Bool.{cases_lt}
 use Rattle.std.proofs.lemmas.Option.{slice_get_within, same_Some}
-use Rattle.book_base.specs.declared.call.Call.{Call}
 use Rattle.book_base.specs.Book.{Page}
 use Rattle.book_base.specs.Order.{HasLegalOrder}
 use Rattle.seq_objects.specs.declared.kind.Kind.{Kind}
 use Rattle.seq_objects.specs.Objects.{kind_next, kind_spec}
 use Rattle.smaller_book.specs.Part.{IsPart}
 use Rattle.smaller_book.specs.ReadOnly.{IsReadOnly}
-use Rattle.refutations.specs.Closed.{MakeClosed}
 use Rattle.refutations.specs.Impossible.{IsImpossible}
 use Rattle.refutations.proofs.Refuting.{closed_lists_have_no_order, impossible_replies_have_no_order}
 use Rattle.refutations.proofs.Faults.{closed_lists_fail_no_test, first_faults_are_one}
@@ -20,11 +18,11 @@ use Rattle.refutation_text.specs.declared.part_steps.StepFault.TheVariants as re
 use Rattle.refutation_text.specs.declared.verdict.RefutationVerdict.{RefutationVerdict}
 use Rattle.refutation_text.specs.declared.verdict.RefutationVerdict.TheVariants.{Illegal, Faulty}
 use Rattle.refutation_text.specs.Said.{StepSaid, At, Keys, Leave, EndingSaid, Impossible, Closed}
-use Rattle.refutation_text.specs.Steps.{IsCalled, IsStep, Leaves, StepFails, LeaveAfter, IsFirstStepFault}
+use Rattle.refutation_text.specs.Steps.{IsStep, StepFails, LeaveAfter, IsFirstStepFault}
 use Rattle.refutation_text.specs.Verdicts.{IsShown, EndingFails, IsRefutation, step_fault, IsFaultOf, IsVerdictOf}
 use Rattle.refutation_text.specs.Laws.{RefutedBooksHaveNoOrder}
 use Rattle.refutation_text.proofs.StepLaws.{steps_leave}
-use Rattle.refutation_text.proofs.OnePart.{AreSame, one_called, after_part, one_after}
+use Rattle.refutation_text.proofs.OnePart.{one_called, after_part, one_after}
 
 -- ---- right refutations
 

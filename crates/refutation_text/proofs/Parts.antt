@@ -15,7 +15,7 @@ use Rattle.book_text.specs.Grammar.{end_words}
 use Rattle.refutations.specs.declared.entry.Entry.{Entry}
 use Rattle.refutation_text.specs.Said.{StepSaid, LineSaid, StepLine, ImpossibleLine, PlainLine, ItemLine, EndLine}
 use Rattle.refutation_text.specs.Grammar.{IsEntry, IsLine}
-use Rattle.refutation_text.specs.RefutationRules.{BodyDue, InSteps, EndDue, InEntries, BodyRead, after_line, body_wanted, BodyPasses, BodyFails, body_rules, InBody, after_book, RefutationPasses, refutation_wanted, refutation_rules}
+use Rattle.refutation_text.specs.RefutationRules.{BodyDue, InSteps, EndDue, InEntries, BodyRead, after_line, body_wanted, BodyFails, body_rules, InBody, after_book, RefutationPasses, refutation_wanted, refutation_rules}
 use Rattle.refutation_text.specs.Reading.{opening_line, ending_due}
 
 book_right : (due after : BookDue) (words : List (List ℕ)) → BookPasses Second due words after

@@ -93,9 +93,10 @@ pub only_verdict : (bytes : List ℕ) (result : Result RefutationVerdict ReadFau
     → IfErr result (IsFaultOf (IsFirstRefutationFault bytes))
     → (verdict : RefutationVerdict) → IsRefutationVerdict bytes verdict
     → MatchResult result (λ v. v ≡ verdict) (λ e. e ≡ NoMemory)
-only_verdict bytes result found refused =
-    only_answer (IsRefutationVerdict bytes) (IsFirstRefutationFault bytes) result found refused
-    (one_verdict_of bytes) (verdict_or_fault bytes)
+only_verdict bytes result found refused verdict is =
+    only_answer (IsRefutationVerdict bytes) (λ v. v ≡ verdict) (IsFirstRefutationFault bytes) result
+    found refused (λ v h. one_verdict_of bytes v verdict h is)
+    (λ fault first. verdict_or_fault bytes verdict fault is first)
 
 pub first_of_verdict : (bytes : List ℕ) (result : Result RefutationVerdict ReadFault)
     → IfOk result (IsRefutationVerdict bytes)

@@ -1,5 +1,5 @@
 -- The rules of a refutation's text are sharp.
-use Rattle.std.proofs.Common.{◌≡◌, ℕ, List, [], ◌∷◌, ◌++◌, Option, Some, None, refl, sym, ap, subst, ◌∙◌, arith}
+use Rattle.std.proofs.Common.{◌≡◌, ℕ, List, Option, Some, refl, sym, ap, subst, ◌∙◌, arith}
 use Rattle.std.specs.Prelude.{codes}
 use Rattle.book_base.specs.declared.fault.What.{What}
 use Rattle.text_fields.specs.declared.version.Version.TheVariants.{Second}
@@ -8,8 +8,7 @@ use Rattle.text_fields.specs.Faults.{ALine, AreSharp}
 use Rattle.text_fields.proofs.HeadTexts.{plain}
 use Rattle.book_text.specs.BookRules.{book_rules}
 use Rattle.book_text.proofs.SharpBooks.{book_sharp}
-use Rattle.refutation_text.specs.Said.{LineSaid, StepLine, ImpossibleLine, PlainLine, ItemLine, EndLine}
-use Rattle.refutation_text.specs.Grammar.{refutation_words, IsLine}
+use Rattle.refutation_text.specs.Grammar.{refutation_words}
 use Rattle.refutation_text.specs.RefutationRules.{BodyDue, InSteps, EndDue, InEntries, BodyRead, after_line, body_wanted, BodyPasses, BodyFails, RefutationDue, InBook, StepsDue, InBody, after_book, RefutationPasses, RefutationFails, refutation_wanted, refutation_rules}
 use Rattle.refutation_text.proofs.Lines.{one_line, line_solid}
 

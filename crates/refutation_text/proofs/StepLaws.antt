@@ -1,9 +1,8 @@
 -- What the steps of a refutation leave: each part is evidence of the part before.
-use Rattle.std.proofs.Common.{◌≡◌, ℕ, zero, suc, ◌<◌, ◌≤◌, ◌∙◌, min, List, [], length, map, get_or, refl, sym, ap, subst, inl, inr, arith}
+use Rattle.std.proofs.Common.{◌≡◌, ℕ, zero, suc, ◌≤◌, ◌∙◌, min, List, length, get_or, sym, ap, subst, arith}
 use Rattle.std.specs.List.{range_with_len}
 use Rattle.std.proofs.lemmas.List.{length-map}
 use Rattle.std.proofs.lemmas.List.FromFn.{length-range_with_len, length-map-range_with_len}
-use Rattle.book_base.specs.declared.call.Call.{Call}
 use Rattle.book_base.specs.Cut.{IsWithin}
 use Rattle.book_base.specs.Book.{Page, calls_of, answers_of, answered, IsValid}
 use Rattle.book_base.specs.Order.{HasLegalOrder}
@@ -14,7 +13,7 @@ use Rattle.seq_objects.specs.declared.kind.Kind.{Kind}
 use Rattle.seq_objects.specs.declared.kind.Kind.TheVariants as kinds
 use Rattle.seq_objects.specs.Objects.{kind_next, kind_spec}
 use Rattle.smaller_book.specs.Part.{numbers_of, count_below, IsPart}
-use Rattle.smaller_book.specs.Numbers.{picked, composed}
+use Rattle.smaller_book.specs.Numbers.{picked}
 use Rattle.smaller_book.specs.Keys.{KeysMayGo}
 use Rattle.smaller_book.specs.Earliest.{all_numbers}
 use Rattle.smaller_book.specs.ReadOnly.{LacksReadOnlyAlone}

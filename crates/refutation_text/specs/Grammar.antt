@@ -8,7 +8,7 @@ use Rattle.book_text.specs.CallLines.{place_words}
 use Rattle.book_text.specs.Grammar.{end_words}
 use Rattle.certificate_text.specs.Grammar.{IsNamed}
 use Rattle.refutation_text.specs.declared.TheConstants.{STEP_CALLERS}
-use Rattle.refutation_text.specs.Said.{StepSaid, At, Keys, Leave, LineSaid, StepLine, ImpossibleLine, PlainLine, ItemLine, EndLine}
+use Rattle.refutation_text.specs.Said.{At, Keys, Leave, LineSaid, StepLine, ImpossibleLine, PlainLine, ItemLine, EndLine}
 
 -- the title of a refutation, which is the line after the book's lines
 abbrev pub refutation_words : List (List ℕ)

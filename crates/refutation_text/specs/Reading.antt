@@ -1,5 +1,5 @@
 -- The parts of a refutation's text as they are read one after the other.
-use Rattle.std.specs.Prelude.{ℕ, List, [], Option, Some, None}
+use Rattle.std.specs.Prelude.{List, [], Option, Some, None}
 use Rattle.book_base.specs.declared.call.Call.{Call}
 use Rattle.book_base.specs.declared.fault.TextFault.{TextFault}
 use Rattle.book_base.specs.declared.fault.ReadFault.{ReadFault}

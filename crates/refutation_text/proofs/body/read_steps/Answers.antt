@@ -1,4 +1,4 @@
-use Rattle.std.proofs.Common.{◌≡◌, [], ◌∷◌, ◌++◌, List, sym, ap, subst, ◌∙◌, refl}
+use Rattle.std.proofs.Common.{[], ◌∷◌, ◌++◌, List, sym, ap, subst, ◌∙◌, refl}
 use Rattle.std.proofs.lemmas.List.{map_push}
 use Rattle.book_base.specs.declared.fault.What.TheVariants.{Op}
 use Rattle.text_fields.specs.Lines.{words_of}

@@ -1,7 +1,7 @@
-use Rattle.std.proofs.Common.{◌≡◌, ℕ, ◌+◌, ◌<◌, ◌≤◌, get_or, refl, sym, subst, inl, inr, arith}
+use Rattle.std.proofs.Common.{◌≡◌, ℕ, get_or, refl, subst, inl, inr, arith}
 use Rattle.std.proofs.lemmas.Bool.{cases_lt}
 use Rattle.book_base.proofs.ViewLemmas.{same_call}
-use Rattle.smaller_book.specs.Part.{numbers_of, original}
+use Rattle.smaller_book.specs.Part.{numbers_of}
 use Rattle.smaller_book.specs.Numbers.{numbers_in}
 use Rattle.refutation_text.proofs.part_steps.call_in.Goals as goal
 

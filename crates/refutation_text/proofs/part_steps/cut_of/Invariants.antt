@@ -1,4 +1,4 @@
-use Rattle.std.proofs.Common.{◌≡◌, ℕ, ◌<◌, ◌≤◌, min, length, get_or}
+use Rattle.std.proofs.Common.{◌≡◌, ℕ, ◌<◌, min, length, get_or}
 use Rattle.book_base.specs.Book.{answers_of}
 use Rattle.smaller_book.specs.Part.{numbers_of, count_below}
 use Rattle.smaller_book.specs.Numbers.{numbers_in}

@@ -1,4 +1,4 @@
-use Rattle.std.proofs.Common.{ℕ, ◌<◌, length, ap, arith}
+use Rattle.std.proofs.Common.{◌<◌, length, ap, arith}
 use Rattle.std.proofs.lemmas.List.{length-map}
 use Rattle.book_base.proofs.PageLemmas.{caller_from_call}
 use Rattle.smaller_book.proofs.Building.{numbers_in-at}
