@@ -34,13 +34,13 @@ same_takes kind book call =
     shown_alike queue_reading (reading_of kind) (λ reply. refl) (record_of book call)
 
 -- The test for a put of a value decides whether a deal is such a put.
-put_decides : (d : Deal) (v : ℕ) → ((is_put d && (value_by d == v)) ≡ true) ↔ (d ≡ deals.Put v)
+pub put_decides : (d : Deal) (v : ℕ) → ((is_put d && (value_by d == v)) ≡ true) ↔ (d ≡ deals.Put v)
 put_decides (deals.Put w) v =
     (λ e. ap deals.Put (eqb-true w v e), λ same. (let e : w ≡ v = cc in eq-eqb w v e))
 put_decides _ v = (λ e. absurd (false≢true e), λ same. absurd cc)
 
 -- The test for a take of a value decides whether a deal is such a take.
-take_decides : (d : Deal) (v : ℕ) → ((is_take d && (value_by d == v)) ≡ true) ↔ (d ≡ deals.Took v)
+pub take_decides : (d : Deal) (v : ℕ) → ((is_take d && (value_by d == v)) ≡ true) ↔ (d ≡ deals.Took v)
 take_decides (deals.Took w) v =
     (λ e. ap deals.Took (eqb-true w v e), λ same. (let e : w ≡ v = cc in eq-eqb w v e))
 take_decides _ v = (λ e. absurd (false≢true e), λ same. absurd cc)
@@ -50,7 +50,7 @@ neither : {A : Type 0} (d : Deal) (v : ℕ) → (d ≡ deals.Took v → ⊥) →
     → (d ≡ deals.Took v) ⊎ (d ≡ deals.OpenTake) → A
 neither d v took is_open h = elim h [ inl e ↦ absurd (took e) | inr e ↦ absurd (is_open e) ]
 
-may_take_decides : (d : Deal) (v : ℕ) → (((is_take d && (value_by d == v)) || is_open d) ≡ true)
+pub may_take_decides : (d : Deal) (v : ℕ) → (((is_take d && (value_by d == v)) || is_open d) ≡ true)
     ↔ ((d ≡ deals.Took v) ⊎ (d ≡ deals.OpenTake))
 may_take_decides (deals.Took w) v = (
   λ e. elim (or_cases (w == v) false e) [

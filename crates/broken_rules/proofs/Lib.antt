@@ -23,3 +23,8 @@ pub mod Ordering
 pub mod Covering
 pub mod Taking
 pub mod Rising
+pub mod Within
+pub mod Ranking
+pub mod Outnumbered
+pub mod OneEntry
+pub mod EntryRules

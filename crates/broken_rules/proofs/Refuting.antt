@@ -22,10 +22,10 @@ use Rattle.kind_search.proofs.HoldsLast.{register_holds_last}
 use Rattle.broken_rules.specs.declared.rule.BrokenRule.{BrokenRule}
 use Rattle.broken_rules.specs.declared.rule.Rule.{Rule}
 use Rattle.broken_rules.specs.declared.rule.Rule.TheVariants as named
-use Rattle.broken_rules.specs.Deeds.{is_keyed, reading_of, did, took, value_by, value_at, taken_at, is_put, is_take, is_nothing}
+use Rattle.broken_rules.specs.Deeds.{is_keyed, is_cas_register, reading_of, did, took, value_by, value_at, taken_at, is_put, is_take, is_nothing}
 use Rattle.broken_rules.specs.declared.demand.Demand.TheVariants as demands
 use Rattle.broken_rules.specs.Demands.{AllMeet}
-use Rattle.broken_rules.specs.Rules.{holds_values, is_queue, is_stack, is_pqueue, is_counter, is_register, Breaks, WhatBreaksIsIllegal}
+use Rattle.broken_rules.specs.Rules.{holds_values, is_queue, is_stack, is_pqueue, is_counter, is_map, is_register, Breaks, WhatBreaksIsIllegal}
 use Rattle.broken_rules.proofs.Replies.{never_replied}
 use Rattle.broken_rules.proofs.Acts.{put_of, take_is, nothing_is}
 use Rattle.broken_rules.proofs.Holding.{taken_unput, taken_twice, found_nothing}
@@ -34,10 +34,12 @@ use Rattle.broken_rules.proofs.Stacks.{taken_from_under}
 use Rattle.broken_rules.proofs.Least.{pqueue_is_container, lesser_left}
 use Rattle.broken_rules.proofs.Counts.{counted_unseen, counted_down, counted_twice}
 use Rattle.broken_rules.proofs.Writes.{read_unwritten, read_overwritten}
-use Rattle.broken_rules.proofs.Setting.{set_unwritten, set_overwritten}
+use Rattle.broken_rules.proofs.Setting.{set_unwritten, set_overwritten, set_swapped}
 use Rattle.broken_rules.proofs.KeyedObjects.{set_finds_what_is_put, set_keeps_what_is_put, map_finds_what_is_put, map_keeps_what_is_put}
 use Rattle.broken_rules.proofs.Keys.{found_unput}
 use Rattle.broken_rules.proofs.Missing.{key_missed}
+use Rattle.broken_rules.proofs.EntryRules.{value_unput, value_overwritten}
+use Rattle.broken_rules.proofs.Outnumbered.{taken_too_often, left_behind}
 
 -- ---- the objects of the kinds
 
@@ -83,6 +85,14 @@ only_pqueue _ is = absurd (false≢true is)
 only_counter : (kind : Kind) → is_counter kind ≡ true → kind ≡ kinds.Counter
 only_counter kinds.Counter is = refl
 only_counter _ is = absurd (false≢true is)
+
+only_map : (kind : Kind) → is_map kind ≡ true → kind ≡ kinds.Map
+only_map kinds.Map is = refl
+only_map _ is = absurd (false≢true is)
+
+only_cas : (kind : Kind) → is_cas_register kind ≡ true → kind ≡ kinds.CasRegister
+only_cas kinds.CasRegister is = refl
+only_cas _ is = absurd (false≢true is)
 
 a_register : (kind : Kind) → is_register kind ≡ true
     → (kind ≡ kinds.Register) ⊎ (kind ≡ kinds.CasRegister)
@@ -323,6 +333,42 @@ module _ (book : List Page) (small : IsSmall book) (first second : Call) where
         map_finds_what_is_put map_keeps_what_is_put (value_by d) first second
         (put_or_take d here.fit) here.related.1 here.related.0 here.takes)
   ]
+  refuted named.TakenTooOften kind breaks =
+      let holds = containers kind breaks.kept in
+      taken_too_often (reading_of kind) (kind_spec kind) book holds.0 holds.1 (did kind book)
+      (did_by_reading kind book breaks.kept) (value_at kind book first) second breaks.related.1
+  refuted named.LeftBehind kind breaks =
+      let holds = containers kind breaks.kept in
+      let e : Deal = took kind book second in
+      let parts = and_parts (is_put (did kind book first)) (is_nothing e) breaks.fit in
+      left_behind (reading_of kind) (kind_spec kind) book holds.0 holds.1 (did kind book)
+      (did_by_reading kind book breaks.kept) (value_at kind book first) second
+      (sym (took_by_reading kind book breaks.kept second) ∙ nothing_is e parts.1)
+      breaks.related.1
+  refuted named.ValueUnput kind breaks =
+      let is : kind ≡ kinds.Map = only_map kind breaks.kept in
+      let here = moved kind kinds.Map book
+      (record { rule = named.ValueUnput; first = first; second = second }) is breaks in
+      subst (λ (k : Kind). ¬ HasLegalOrder (kind_spec k) book) (sym is)
+      (value_unput book first here.related.1 here.puts)
+  refuted named.ValueOverwritten kind breaks =
+      let is : kind ≡ kinds.Map = only_map kind breaks.kept in
+      let here = moved kind kinds.Map book
+      (record { rule = named.ValueOverwritten; first = first; second = second }) is breaks in
+      subst (λ (k : Kind). ¬ HasLegalOrder (kind_spec k) book) (sym is)
+      (value_overwritten book first second here.related.0 here.related.1.0 here.related.1.1
+      here.puts)
+  refuted named.SwappedTwice kind breaks =
+      let is : kind ≡ kinds.CasRegister = only_cas kind breaks.kept in
+      let here = moved kind kinds.CasRegister book
+      (record { rule = named.SwappedTwice; first = first; second = second }) is breaks in
+      let d : Deal = did kinds.CasRegister book first in
+      let e : Deal = took kinds.CasRegister book second in
+      let two = two_parts d e here.fit in
+      let f : Deal = did kinds.CasRegister book second in
+      subst (λ (k : Kind). ¬ HasLegalOrder (kind_spec k) book) (sym is)
+      (set_swapped book (value_by d) (value_by f) (value_by e) first second here.related.0 two.0
+      here.related.1.0 (put_of f here.related.1.1) two.1 here.puts)
 
 pub what_breaks_is_illegal : WhatBreaksIsIllegal
 what_breaks_is_illegal kind book broken small breaks =

@@ -65,6 +65,11 @@ all_listed named.CountedTwice = (10, refl)
 all_listed named.CountedDown = (11, refl)
 all_listed named.ReadOverwritten = (12, refl)
 all_listed named.KeyMissed = (13, refl)
+all_listed named.TakenTooOften = (14, refl)
+all_listed named.LeftBehind = (15, refl)
+all_listed named.ValueUnput = (16, refl)
+all_listed named.ValueOverwritten = (17, refl)
+all_listed named.SwappedTwice = (18, refl)
 
 -- the two calls that break a rule of one call are the same call
 pub of_one_call : (rule : Rule) (kind : Kind) (book : List Page) (first second : Call)
@@ -75,4 +80,6 @@ of_one_call named.TakenUnput kind book first second is related = related
 of_one_call named.CountedUnseen kind book first second is related = related.0
 of_one_call named.ReadUnwritten kind book first second is related = related
 of_one_call named.FoundUnput kind book first second is related = related
+of_one_call named.TakenTooOften kind book first second is related = related.0
+of_one_call named.ValueUnput kind book first second is related = related.0
 of_one_call _ kind book first second is related = absurd (false≢true is)

@@ -1,7 +1,7 @@
 -- The rules of registers with compare-and-set: the value that is read, or that a compare-and-set
 -- finds, was written last.
 use Rattle.std.proofs.Common.{◌≡◌, ◌≢◌, ◌⊎◌, ◌∙◌, ℕ, suc, ◌==◌, ◌%◌, ◌^◌, ◌<◌, ◌≤◌, false, List, [], ◌∷◌, length, take, get_or, unwrap_or, Option, Some, None, if◌then◌else◌, refl, sym, ap, inl, inr, slice_get, arith}
-use Rattle.std.proofs.lemmas.Bool.{cases_Bool, cases_eq, cond-true, cond-false, cond_both, and_parts, eqb-true, ltb-true, true≢false}
+use Rattle.std.proofs.lemmas.Bool.{cases_Bool, cases_eq, cases_order, cond-true, cond-false, cond_both, and_parts, eqb-true, ltb-true, true≢false}
 use Rattle.std.proofs.lemmas.Option.{same_Some, none-some, slice_get-get_or, slice_get_within}
 use Rattle.list_laws.proofs.Options.{cases_Option, some_from_is_some_and}
 use Rattle.book_base.specs.declared.call.Call.{Call}
@@ -313,6 +313,39 @@ module _ (book : List Page) (order : List Place) (legal : IsLegalOrder spec book
       step.1.2 ∙ ap (λ (op : ℕ). (next here op).1) (sym step.1.1) in
       (r.0, r.1, (found.0, stands, step.0, took_shows book reader here o v r.0 r.1 reply takes))
 
+  -- A value that a call wrote over isn't held before another call where no write of it comes in
+  -- between.
+  passed : (v w q m : ℕ) (writer : Call) (s : Record) → StandsAt order q writer
+      → record_of book writer ≡ Some s → set_by book writer ≡ deals.Put v → q < m
+      → m < length (steps_of book order) → held_at m ≡ w
+      → ((j : ℕ) (call : Call) → StandsAt order j call → IsCall book call
+      → set_by book call ≡ deals.Put w → (j < q) ⊎ (m < j)) → ⊥
+  passed v w q m writer s stands known puts lt inside holds beside =
+      let made : IsCall book writer = legal.calls q writer stands in
+      elim (cases_eq v w) [
+        | inl same ↦ elim (beside q writer stands made (puts ∙ ap deals.Put same)) [
+          | inl before ↦ absurd (omega (arith, before))
+          | inr late ↦ absurd (omega (arith, late, lt))
+        ]
+        | inr differ ↦
+            let step = own_step q writer s stands known in
+            let here : List ℕ = list_after_run next (0 ∷ []) (take q (steps_of book order)) in
+            let word : ℕ = unwrap_or (operation_of book writer) 0 in
+            let reply : s.reply ≡ (next here word).1 =
+            step.1.2 ∙ ap (λ (op : ℕ). (next here op).1) (sym step.1.1) in
+            let left : held_in (next here word).0 ≡ v =
+            put_leaves book writer here (cas_register_operation word) v s (written_is_small word)
+            known reply puts in
+            let now : held_at (suc q) ≡ v
+            = ap held_in (step.1.3 ∙ ap (λ (op : ℕ). (next here op).0) (sym step.1.1)) ∙ left in
+            stays w (suc q) m (omega (arith, inside))
+            (λ j call standing own writes. elim (beside j call standing own writes) [
+              | inl before ↦ inl (omega (arith, before))
+              | inr late ↦ inr (omega (arith, late))
+            ])
+            (λ same. differ (sym now ∙ same)) (omega (arith, lt)) holds
+      ]
+
 -- A value that is read, or that a compare-and-set finds, and that isn't 0, is written before: not
 -- each of its writes comes after.
 unwritten : (book : List Page) (v : ℕ) (reader : Call) → v ≢ 0
@@ -338,41 +371,50 @@ overwritten : (book : List Page) (v w : ℕ) (writer reader : Call)
 overwritten book v w writer reader puts takes precedes outside h =
     let order = h.0 in
     let legal = h.1 in
-    let steps = steps_of book order in
     let read = reads_at book order legal reader w takes in
     let m = read.2 in
     let q = preceding_comes_first spec book writer reader precedes order legal m.0 m.1 in
-    let made : IsCall book writer = legal.calls q.0 writer q.2 in
     let beside : (j : ℕ) (call : Call) → StandsAt order j call → IsCall book call
     → set_by book call ≡ deals.Put w → (j < q.0) ⊎ (m.0 < j) =
     λ j call standing own writes. elim (outside call own writes) [
       | inl before ↦ inl (legal.precedence j q.0 call writer standing q.2 before)
       | inr late ↦ inr (legal.precedence m.0 j reader call m.1 standing late)
     ] in
-    elim (cases_eq v w) [
-      | inl same ↦ elim (beside q.0 writer q.2 made
-          (puts ∙ ap deals.Put same)) [
-            | inl before ↦ absurd (omega (arith, before))
-            | inr late ↦ absurd (omega (arith, late, q.1))
-          ]
-      | inr differ ↦
-          let s = preceding_is_answered book writer reader read.0 read.1 precedes in
-          let step = own_step book order legal q.0 writer s.0 q.2 s.1 in
-          let here : List ℕ = list_after_run next (0 ∷ []) (take q.0 steps) in
-          let word : ℕ = unwrap_or (operation_of book writer) 0 in
-          let reply : s.0.reply ≡ (next here word).1 =
-          step.1.2 ∙ ap (λ (op : ℕ). (next here op).1) (sym step.1.1) in
-          let left : held_in (next here word).0 ≡ v =
-          put_leaves book writer here (cas_register_operation word) v s.0 (written_is_small word)
-          s.1 reply puts in
-          let now : held_at book order legal (suc q.0) ≡ v
-          = ap held_in (step.1.3 ∙ ap (λ (op : ℕ). (next here op).0) (sym step.1.1)) ∙ left in
-          stays book order legal w (suc q.0) m.0 (omega (arith, m.2))
-          (λ j call standing own writes. elim (beside j call standing own writes) [
-            | inl before ↦ inl (omega (arith, before))
-            | inr late ↦ inr (omega (arith, late))
-          ])
-          (λ same. differ (sym now ∙ same)) (omega (arith, q.1)) m.3
+    let s = preceding_is_answered book writer reader read.0 read.1 precedes in
+    passed book order legal v w q.0 m.0 writer s.0 q.2 s.1 puts q.1 m.2 m.3 beside
+
+-- Of two compare-and-sets that find the same value and write a value the later one finds what was
+-- written after the earlier one: not each write of this value comes before both or after both.
+swapped : (book : List Page) (v w x : ℕ) (one other : Call) → one ≢ other
+    → set_by book one ≡ deals.Put v → expected_by book one ≡ deals.Took x
+    → set_by book other ≡ deals.Put w → expected_by book other ≡ deals.Took x
+    → ((call : Call) → IsCall book call → set_by book call ≡ deals.Put x
+    → (Precedes book call one × Precedes book call other)
+    ⊎ (Precedes book one call × Precedes book other call)) → ¬ HasLegalOrder spec book
+swapped book v w x one other apart puts takes puts_too takes_too beside h =
+    let order = h.0 in
+    let legal = h.1 in
+    let a = reads_at book order legal one x takes in
+    let b = reads_at book order legal other x takes_too in
+    let i : ℕ = a.2.0 in
+    let k : ℕ = b.2.0 in
+    elim (cases_order i k) [
+      | inl same ↦
+          let place : a.2.1.0 ≡ b.2.1.0 =
+          same_Some a.2.1.0 b.2.1.0 (sym a.2.1.1 ∙ (ap (slice_get order) same ∙ b.2.1.1)) in
+          apart (sym a.2.1.2 ∙ (ap call_at place ∙ b.2.1.2))
+      | inr differ ↦ elim differ [
+        | inl lt ↦ passed book order legal v x i k one a.0 a.2.1 a.1 puts lt b.2.2 b.2.3
+            (λ j call standing own writes. elim (beside call own writes) [
+              | inl before ↦ inl (legal.precedence j i call one standing a.2.1 before.0)
+              | inr late ↦ inr (legal.precedence k j other call b.2.1 standing late.1)
+            ])
+        | inr gt ↦ passed book order legal w x k i other b.0 b.2.1 b.1 puts_too gt a.2.2 a.2.3
+            (λ j call standing own writes. elim (beside call own writes) [
+              | inl before ↦ inl (legal.precedence j k call other standing b.2.1 before.1)
+              | inr late ↦ inr (legal.precedence i j one call a.2.1 standing late.0)
+            ])
+      ]
     ]
 
 pub set_unwritten : (book : List Page) (v : ℕ) (reader : Call) → v ≢ 0
@@ -391,3 +433,14 @@ pub set_overwritten : (book : List Page) (v w : ℕ) (writer reader : Call)
 unfolding kind_next
 set_overwritten book v w writer reader puts takes precedes outside =
     overwritten book v w writer reader puts takes precedes outside
+
+pub set_swapped : (book : List Page) (v w x : ℕ) (one other : Call) → one ≢ other
+    → set_by book one ≡ deals.Put v → expected_by book one ≡ deals.Took x
+    → set_by book other ≡ deals.Put w → expected_by book other ≡ deals.Took x
+    → ((call : Call) → IsCall book call → set_by book call ≡ deals.Put x
+    → (Precedes book call one × Precedes book call other)
+    ⊎ (Precedes book one call × Precedes book other call))
+    → ¬ HasLegalOrder (kind_spec kinds.CasRegister) book
+unfolding kind_next
+set_swapped book v w x one other apart puts takes puts_too takes_too beside =
+    swapped book v w x one other apart puts takes puts_too takes_too beside

@@ -8,6 +8,7 @@ use Rattle.seq_objects.specs.declared.kind.Kind.{Kind}
 use Rattle.broken_rules.specs.declared.demand.Demand.{Demand}
 use Rattle.broken_rules.specs.declared.demand.Demand.TheVariants as demands
 use Rattle.broken_rules.specs.Deeds.{did, absence_by, value_at, taken_at}
+use Rattle.broken_rules.specs.Entries.{shown_at, PutsEntry}
 
 -- A call of a book puts the value `value` in.
 abbrev pub Puts : Kind → List Page → ℕ → Call → Type 0
@@ -57,6 +58,20 @@ Meets kind book demands.TakesFollow first second call =
 Meets kind book demands.RemovalsOutside first second call =
     Removes kind book (value_at kind book first) call → Precedes book call first
     ⊎ Precedes book second call
+-- another call than the first one that puts in the entry which the first one shows comes after the
+-- first one
+Meets kind book demands.EntryPutsFollow first second call =
+    PutsEntry book (shown_at book first) call → (call ≡ first) ⊎ Precedes book first call
+-- another call than the second one that puts in the entry which the second one shows comes before
+-- the first call, or after the second one
+Meets kind book demands.EntryPutsOutside first second call =
+    PutsEntry book (shown_at book second) call
+    → (call ≡ second) ⊎ (Precedes book call first ⊎ Precedes book second call)
+-- a call that puts in the value that the second call takes comes before both calls, or after both
+Meets kind book demands.OtherPutsBeside first second call =
+    Puts kind book (taken_at kind book second) call
+    → (Precedes book call first × Precedes book call second)
+    ⊎ (Precedes book first call × Precedes book second call)
 -- the demand `Nothing` asks nothing of a call
 Meets kind book demands.Nothing first second call = Unit {0}
 

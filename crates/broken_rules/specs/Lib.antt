@@ -1,9 +1,12 @@
 pub mod Deeds
 pub mod Demands
+pub mod Tallies
+pub mod Entries
 pub mod Rules
 pub mod Texts
 pub mod Runs
 pub mod CounterRuns
 pub mod RegisterRuns
 pub mod SetRuns
+pub mod MapRuns
 pub mod Removals

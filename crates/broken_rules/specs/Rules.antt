@@ -1,10 +1,11 @@
 -- The rules that objects keep, and how two calls of a book break them.
-use Rattle.std.specs.Prelude.{◌≡◌, ◌≢◌, ℕ, ◌≤◌, ◌==◌, ◌&&◌, ◌||◌, nat_lt, not, Bool, true, false, List, [], ◌∷◌, sum, IsSomeAnd, unwrap_or}
+use Rattle.std.specs.Prelude.{◌≡◌, ◌≢◌, ℕ, ◌<◌, ◌≤◌, ◌==◌, ◌&&◌, ◌||◌, nat_lt, not, Bool, true, false, List, [], ◌∷◌, sum, IsSomeAnd, unwrap_or}
 use Rattle.book_base.specs.declared.call.Call.{Call}
 use Rattle.book_base.specs.Book.{Page, operation_of, record_of, IsCall, IsSmall, Precedes}
 use Rattle.book_base.specs.Order.{HasLegalOrder}
 use Rattle.book_base.specs.Reaching.{MayReply}
 use Rattle.legal_orders.specs.Deals.{Deal}
+use Rattle.legal_orders.specs.Deals as deals
 use Rattle.seq_objects.specs.declared.kind.Kind.{Kind}
 use Rattle.seq_objects.specs.declared.kind.Kind.TheVariants as kinds
 use Rattle.seq_objects.specs.Objects.{kind_next, kind_spec}
@@ -15,8 +16,12 @@ use Rattle.broken_rules.specs.declared.rule.Relation.TheVariants as relations
 use Rattle.broken_rules.specs.declared.rule.Rule.{Rule}
 use Rattle.broken_rules.specs.declared.rule.Rule.TheVariants as rules
 use Rattle.broken_rules.specs.declared.rule.BrokenRule.{BrokenRule}
-use Rattle.broken_rules.specs.Deeds.{is_keyed, did, took, value_by, value_at, is_put, is_take, is_nothing}
+use Rattle.broken_rules.specs.Deeds.{is_keyed, is_cas_register, did, took, value_by, value_at, taken_at, is_put, is_take, is_nothing}
 use Rattle.broken_rules.specs.Demands.{Missed, AllMeet}
+use Rattle.broken_rules.specs.declared.tally.Tally.{Tally}
+use Rattle.broken_rules.specs.declared.tally.Tally.TheVariants as tallies
+use Rattle.broken_rules.specs.Tallies.{tally_of}
+use Rattle.broken_rules.specs.Entries.{shown_at, ShowsEntry, ExcludesEntry}
 
 -- Whether a kind's objects hold what is put in until it is taken out.
 abbrev pub holds_values : Kind → Bool
@@ -51,6 +56,11 @@ is_register kinds.Register = true
 is_register kinds.CasRegister = true
 is_register _ = false
 
+-- Whether a kind's objects are maps.
+abbrev pub is_map : Kind → Bool
+is_map kinds.Map = true
+is_map _ = false
+
 -- Whether the objects of a kind keep a rule.
 abbrev pub keeps : Kind → Rule → Bool
 keeps kind rules.NeverReplied = true
@@ -67,6 +77,11 @@ keeps kind rules.ReadUnwritten = is_register kind
 keeps kind rules.ReadOverwritten = is_register kind
 keeps kind rules.FoundUnput = is_keyed kind
 keeps kind rules.KeyMissed = is_keyed kind
+keeps kind rules.TakenTooOften = holds_values kind
+keeps kind rules.LeftBehind = holds_values kind
+keeps kind rules.ValueUnput = is_map kind
+keeps kind rules.ValueOverwritten = is_map kind
+keeps kind rules.SwappedTwice = is_cas_register kind
 
 -- Whether two calls may break a rule, of which the first one did `first` and the second one took
 -- `second`.
@@ -102,6 +117,15 @@ fits rules.ReadOverwritten first second = is_put first && is_take second
 fits rules.FoundUnput first second = is_take first
 -- the first call puts its key in, or finds it
 fits rules.KeyMissed first second = is_put first || is_take first
+-- the one call takes a value
+fits rules.TakenTooOften first second = is_take first
+-- the first call puts a value in, and the second one finds nothing
+fits rules.LeftBehind first second = is_put first && is_nothing second
+-- the one call, or the second one, finds its key
+fits rules.ValueUnput first second = is_take first
+fits rules.ValueOverwritten first second = is_take second
+-- the first call writes a value, and the second one finds a value
+fits rules.SwappedTwice first second = is_put first && is_take second
 
 -- Whether a rule is broken by one call, which then stands as both of its calls.
 abbrev pub is_of_one_call : Rule → Bool
@@ -110,6 +134,8 @@ is_of_one_call rules.TakenUnput = true
 is_of_one_call rules.CountedUnseen = true
 is_of_one_call rules.ReadUnwritten = true
 is_of_one_call rules.FoundUnput = true
+is_of_one_call rules.TakenTooOften = true
+is_of_one_call rules.ValueUnput = true
 is_of_one_call _ = false
 
 -- What a rule asks of the calls that put values in, as a demand about the rule's two calls.
@@ -121,6 +147,9 @@ puts_demand rules.TakenFromUnder = demands.OtherPutsOutside
 puts_demand rules.ReadUnwritten = demands.OwnPutsFollow
 puts_demand rules.FoundUnput = demands.OwnPutsFollow
 puts_demand rules.ReadOverwritten = demands.OtherPutsOutside
+puts_demand rules.ValueUnput = demands.EntryPutsFollow
+puts_demand rules.ValueOverwritten = demands.EntryPutsOutside
+puts_demand rules.SwappedTwice = demands.OtherPutsBeside
 puts_demand _ = demands.Nothing
 
 -- What a rule asks of the calls that take values, as a demand about the rule's two calls.
@@ -148,6 +177,11 @@ relation_of rules.ReadUnwritten = relations.Same
 relation_of rules.ReadOverwritten = relations.Before
 relation_of rules.FoundUnput = relations.Same
 relation_of rules.KeyMissed = relations.MissedAfter
+relation_of rules.TakenTooOften = relations.TakenMore
+relation_of rules.LeftBehind = relations.LeftOver
+relation_of rules.ValueUnput = relations.ShowsEntry
+relation_of rules.ValueOverwritten = relations.Excluded
+relation_of rules.SwappedTwice = relations.BothSwap
 
 -- A call is answered, and its view holds at most `most` calls, the call itself among them.
 abbrev pub SeesAtMost : List Page → Call → ℕ → Type 0
@@ -157,6 +191,13 @@ SeesAtMost book call most = IsSomeAnd (record_of book call) (λ r. sum r.view �
 abbrev pub HasImpossibleReply : Kind → List Page → Call → Type 0
 HasImpossibleReply kind book call = IsSomeAnd (record_of book call)
     (λ r. ¬ MayReply (kind_next kind) (unwrap_or (operation_of book call) 0) r.reply)
+
+-- For the value of the call `valued` and the call `last`, more calls of a book are counted by one
+-- tally than by another one.
+abbrev pub CountsMore : Kind → List Page → Tally → Tally → Call → Call → Type 0
+CountsMore kind book more fewer valued last =
+    tally_of (did kind book) book fewer (value_at kind book valued) last
+    < tally_of (did kind book) book more (value_at kind book valued) last
 
 -- Two calls of a book are related as a relation of rules says.
 abbrev pub Related : Kind → List Page → Relation → Call → Call → Type 0
@@ -178,6 +219,25 @@ Related kind book relations.TakenByAnother first second =
 -- the first call precedes the second one, which missed the key of the first one
 Related kind book relations.MissedAfter first second =
     Precedes book first second × Missed kind book (value_at kind book first) second
+-- the two calls are the same call, by whose reply more calls have taken its value than may have put
+-- it in
+Related kind book relations.TakenMore first second =
+    (first ≡ second) × CountsMore kind book tallies.TakenBy tallies.PutBy first second
+-- the first call precedes the second one, before which more calls put the first one's value in than
+-- may have taken it by the second one's reply
+Related kind book relations.LeftOver first second = Precedes book first second
+    × CountsMore kind book tallies.PutBefore tallies.TakableBy first second
+-- the two calls are the same call, which shows an entry
+Related kind book relations.ShowsEntry first second =
+    (first ≡ second) × ShowsEntry book first
+-- the first call precedes the second one, and the entry that the second one shows isn't there after
+-- the first one
+Related kind book relations.Excluded first second = Precedes book first second
+    × (ShowsEntry book second × ExcludesEntry book (shown_at book second) first)
+-- the two calls are different calls, which find the same value, and the second one writes a value
+Related kind book relations.BothSwap first second = (first ≢ second)
+    × ((took kind book first ≡ deals.Took (taken_at kind book second))
+    × (is_put (did kind book second) ≡ true))
 -- the relation `Any` asks nothing
 Related kind book relations.Any first second = Unit {0}
 
@@ -209,4 +269,5 @@ all_rules =
     rules.NeverReplied ∷ rules.TakenUnput ∷ rules.CountedUnseen ∷ rules.ReadUnwritten
     ∷ rules.FoundUnput ∷ rules.TakenTwice ∷ rules.PassedOver ∷ rules.TakenFromUnder
     ∷ rules.LesserLeft ∷ rules.FoundNothing ∷ rules.CountedTwice ∷ rules.CountedDown
-    ∷ rules.ReadOverwritten ∷ rules.KeyMissed ∷ []
+    ∷ rules.ReadOverwritten ∷ rules.KeyMissed ∷ rules.TakenTooOften ∷ rules.LeftBehind
+    ∷ rules.ValueUnput ∷ rules.ValueOverwritten ∷ rules.SwappedTwice ∷ []

@@ -140,8 +140,8 @@ pub(crate) fn is_keyed(kind: Kind) -> bool
     matches!(kind, Kind::IntSet | Kind::Map)
 }
 
-// Whether a kind's objects are registers with compare-and-set.
-fn is_cas_register(kind: Kind) -> bool
+/// Whether a kind's objects are registers with compare-and-set.
+pub(crate) fn is_cas_register(kind: Kind) -> bool
     ensures { result ≡ deeds.is_cas_register kind }
 {
     matches!(kind, Kind::CasRegister)

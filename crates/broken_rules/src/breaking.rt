@@ -1,14 +1,20 @@
 //! Whether a book breaks a rule by two of its calls.
 
-ghost use Rattle.std.specs.Prelude.{◌≡◌, ◌≤◌, ◌↔◌, sum, IsTrue};
+ghost use Rattle.std.specs.Prelude.{◌≡◌, ◌≢◌, ◌≤◌, ◌↔◌, true, sum, IsTrue};
 ghost use Rattle.book_base.specs.Book.{IsCall, Precedes};
-ghost use Rattle.broken_rules.specs.Deeds.{value_at};
+ghost use Rattle.broken_rules.specs.declared.tally.Tally.TheVariants as tallies;
+ghost use Rattle.legal_orders.specs.Deals as deals;
+ghost use Rattle.broken_rules.specs.Deeds.{did, took, value_at, taken_at, is_put};
 ghost use Rattle.broken_rules.specs.Demands.{Missed};
-ghost use Rattle.broken_rules.specs.Rules.{HasImpossibleReply, SeesAtMost, Related, Breaks};
+ghost use Rattle.broken_rules.specs.Entries as entries;
+ghost use Rattle.broken_rules.specs.Entries.{ShowsEntry, ExcludesEntry};
+ghost use Rattle.broken_rules.specs.Rules.{HasImpossibleReply, SeesAtMost, CountsMore, Related, Breaks};
 
 use crate::act::{act_of, taking_of};
 use crate::demand::{Demand, all_meet, is_same, misses_key_of};
+use crate::entry::{excludes_entry, shown_at, shows_entry};
 use crate::rule::{BrokenRule, Relation};
+use crate::tally::{Tally, tally_of};
 use book_base::{Book, Call, Cut, SeqObject};
 use seq_objects::Kind;
 
@@ -50,6 +56,11 @@ fn are_related(kind: Kind, book: &Book, relation: Relation, first: Call, second:
         Relation::Before => book.precedes(first, second),
         Relation::TakenByAnother => !all_meet(kind, book, Demand::OnlyTake, first, second),
         Relation::MissedAfter => is_missed_after(kind, book, first, second),
+        Relation::TakenMore => is_taken_more(kind, book, first, second),
+        Relation::LeftOver => is_left_over(kind, book, first, second),
+        Relation::ShowsEntry => is_shown_alone(book, first, second),
+        Relation::Excluded => is_excluded(book, first, second),
+        Relation::BothSwap => both_swap(kind, book, first, second),
         Relation::Any => true,
     }
 }
@@ -66,6 +77,116 @@ fn is_missed_after(kind: Kind, book: &Book, first: Call, second: Call) -> bool
     } else {
         false
     }
+}
+
+// Whether two calls are the same call, by whose reply more calls have taken its value than may have
+// put it in.
+fn is_taken_more(kind: Kind, book: &Book, first: Call, second: Call) -> bool
+    requires first { IsCall book.now first }
+    requires second { IsCall book.now second }
+    ensures { IsTrue result ↔ ((first ≡ second)
+        × CountsMore kind book.now tallies.TakenBy tallies.PutBy first second) }
+{
+    if is_same(first, second) {
+        counts_more(kind, book, Tally::TakenBy, Tally::PutBy, first, second)
+    } else {
+        false
+    }
+}
+
+// Whether a call precedes another one, before which more calls put the first one's value in than
+// may have taken it by the second one's reply.
+fn is_left_over(kind: Kind, book: &Book, first: Call, second: Call) -> bool
+    requires first { IsCall book.now first }
+    requires second { IsCall book.now second }
+    ensures { IsTrue result ↔ (Precedes book.now first second
+        × CountsMore kind book.now tallies.PutBefore tallies.TakableBy first second) }
+{
+    if book.precedes(first, second) {
+        counts_more(
+            kind,
+            book,
+            Tally::PutBefore,
+            Tally::TakableBy,
+            first,
+            second,
+        )
+    } else {
+        false
+    }
+}
+
+// Whether two calls are different calls, which find the same value, and the second one writes a
+// value.
+fn both_swap(kind: Kind, book: &Book, first: Call, second: Call) -> bool
+    requires first { IsCall book.now first }
+    requires second { IsCall book.now second }
+    ensures { IsTrue result ↔ ((first ≢ second)
+        × ((took kind book.now first ≡ deals.Took (taken_at kind book.now second))
+        × (is_put (did kind book.now second) ≡ true))) }
+{
+    if is_same(first, second) {
+        return false;
+    }
+    if finds_value(kind, book, first, second) {
+        act_of(kind, book, second).is_put()
+    } else {
+        false
+    }
+}
+
+// Whether a call finds the value that the call `taker` takes.
+fn finds_value(kind: Kind, book: &Book, call: Call, taker: Call) -> bool
+    requires call { IsCall book.now call }
+    requires taker { IsCall book.now taker }
+    ensures { IsTrue result
+        ↔ (took kind book.now call ≡ deals.Took (taken_at kind book.now taker)) }
+{
+    let value = taking_of(kind, book, taker).value();
+    taking_of(kind, book, call).took(value)
+}
+
+// Whether two calls are the same call, which shows an entry of a map.
+fn is_shown_alone(book: &Book, first: Call, second: Call) -> bool
+    requires first { IsCall book.now first }
+    requires second { IsCall book.now second }
+    ensures { IsTrue result ↔ ((first ≡ second) × ShowsEntry book.now first) }
+{
+    if is_same(first, second) {
+        shows_entry(book, first)
+    } else {
+        false
+    }
+}
+
+// Whether a call precedes another one, which shows an entry that isn't there after the first one.
+fn is_excluded(book: &Book, first: Call, second: Call) -> bool
+    requires first { IsCall book.now first }
+    requires second { IsCall book.now second }
+    ensures { IsTrue result ↔ (Precedes book.now first second × (ShowsEntry book.now second
+        × ExcludesEntry book.now (entries.shown_at book.now second) first)) }
+{
+    if !book.precedes(first, second) {
+        return false;
+    }
+    if shows_entry(book, second) {
+        excludes_entry(book, shown_at(book, second), first)
+    } else {
+        false
+    }
+}
+
+// Whether more calls are counted by one tally than by another one, for the value of the call
+// `valued` and the call `last`.
+fn counts_more(kind: Kind, book: &Book, more: Tally, fewer: Tally, valued: Call, last: Call) -> bool
+    requires valued { IsCall book.now valued }
+    requires last { IsCall book.now last }
+    ensures { IsTrue result ↔ CountsMore kind book.now more fewer valued last }
+{
+    let value = act_of(kind, book, valued).value();
+    let lesser = tally_of(kind, book, fewer, value, last);
+    let greater = tally_of(kind, book, more, value, last);
+    lesser < greater
 }
 
 // Whether two calls are the same call, whose reply the object gives to its operation at no list.

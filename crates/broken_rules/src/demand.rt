@@ -4,9 +4,12 @@
 ghost use Rattle.std.specs.Prelude.{◌≡◌, ◌↔◌, ◌⊎◌, ℕ, ◌<◌, length, IsTrue};
 ghost use Rattle.book_base.specs.Book.{calls_of, IsCall, Precedes};
 ghost use Rattle.broken_rules.specs.Deeds.{value_at, taken_at};
+ghost use Rattle.broken_rules.specs.Entries as entries;
+ghost use Rattle.broken_rules.specs.Entries.{PutsEntry};
 ghost use Rattle.broken_rules.specs.Demands.{Puts, Took, MayTake, Removes, Missed, Meets, AllMeet};
 
 use crate::act::{absence_of, act_of, taking_of};
+use crate::entry::{puts_entry, shown_at};
 use book_base::{Book, Call};
 use seq_objects::Kind;
 
@@ -30,6 +33,14 @@ pub(crate) enum Demand {
     /// The calls that may take out the first call's key come before the first call, or after the
     /// second one.
     RemovalsOutside,
+    /// The puts of the entry that the first call shows come after the first call, but for the first
+    /// call itself.
+    EntryPutsFollow,
+    /// The puts of the entry that the second call shows come before the first call, or after the
+    /// second one, but for the second call itself.
+    EntryPutsOutside,
+    /// The puts of the value that the second call takes come before both calls, or after both.
+    OtherPutsBeside,
     /// The demand asks nothing.
     Nothing,
 }
@@ -86,6 +97,9 @@ fn meets(kind: Kind, book: &Book, demand: Demand, first: Call, second: Call, cal
         Demand::OnlyTake => take_is_only(kind, book, second, call),
         Demand::TakesFollow => take_follows(kind, book, first, second, call),
         Demand::RemovalsOutside => removal_is_outside(kind, book, first, second, call),
+        Demand::EntryPutsFollow => entry_put_follows(book, first, call),
+        Demand::EntryPutsOutside => entry_put_is_outside(book, first, second, call),
+        Demand::OtherPutsBeside => put_is_beside(kind, book, first, second, call),
         Demand::Nothing => true,
     }
 }
@@ -119,6 +133,53 @@ fn put_is_outside(kind: Kind, book: &Book, first: Call, second: Call, call: Call
         is_outside(book, first, second, call)
     } else {
         true
+    }
+}
+
+// Whether the call `call`, if it puts in the value that the call `second` takes, comes before the
+// calls `first` and `second` or after both.
+fn put_is_beside(kind: Kind, book: &Book, first: Call, second: Call, call: Call) -> bool
+    requires first { IsCall book.now first }
+    requires second { IsCall book.now second }
+    requires call { IsCall book.now call }
+    ensures { IsTrue result ↔ (Puts kind book.now (taken_at kind book.now second) call
+        → (Precedes book.now call first × Precedes book.now call second)
+        ⊎ (Precedes book.now first call × Precedes book.now second call)) }
+{
+    if !puts_value(kind, book, second, call) {
+        true
+    } else if precedes_both(book, call, first, second) {
+        true
+    } else {
+        follows_both(book, call, first, second)
+    }
+}
+
+// Whether the call `call` comes before two calls.
+fn precedes_both(book: &Book, call: Call, first: Call, second: Call) -> bool
+    requires first { IsCall book.now first }
+    requires second { IsCall book.now second }
+    requires call { IsCall book.now call }
+    ensures { IsTrue result ↔ (Precedes book.now call first × Precedes book.now call second) }
+{
+    if book.precedes(call, first) {
+        book.precedes(call, second)
+    } else {
+        false
+    }
+}
+
+// Whether the call `call` comes after two calls.
+fn follows_both(book: &Book, call: Call, first: Call, second: Call) -> bool
+    requires first { IsCall book.now first }
+    requires second { IsCall book.now second }
+    requires call { IsCall book.now call }
+    ensures { IsTrue result ↔ (Precedes book.now first call × Precedes book.now second call) }
+{
+    if book.precedes(first, call) {
+        book.precedes(second, call)
+    } else {
+        false
     }
 }
 
@@ -195,6 +256,41 @@ fn removal_is_outside(kind: Kind, book: &Book, first: Call, second: Call, call: 
         is_outside(book, first, second, call)
     } else {
         true
+    }
+}
+
+// Whether the call `call`, if it puts in the entry that the call `first` shows, is the call `first`
+// or comes after it.
+fn entry_put_follows(book: &Book, first: Call, call: Call) -> bool
+    requires first { IsCall book.now first }
+    requires call { IsCall book.now call }
+    ensures { IsTrue result ↔ (PutsEntry book.now (entries.shown_at book.now first) call
+        → (call ≡ first) ⊎ Precedes book.now first call) }
+{
+    if !puts_entry(book, shown_at(book, first), call) {
+        true
+    } else if is_same(call, first) {
+        true
+    } else {
+        book.precedes(first, call)
+    }
+}
+
+// Whether the call `call`, if it puts in the entry that the call `second` shows, is the call
+// `second`, or comes before the call `first` or after the call `second`.
+fn entry_put_is_outside(book: &Book, first: Call, second: Call, call: Call) -> bool
+    requires first { IsCall book.now first }
+    requires second { IsCall book.now second }
+    requires call { IsCall book.now call }
+    ensures { IsTrue result ↔ (PutsEntry book.now (entries.shown_at book.now second) call
+        → (call ≡ second) ⊎ (Precedes book.now call first ⊎ Precedes book.now second call)) }
+{
+    if !puts_entry(book, shown_at(book, second), call) {
+        true
+    } else if is_same(call, second) {
+        true
+    } else {
+        is_outside(book, first, second, call)
     }
 }
 

@@ -5,11 +5,13 @@
 mod act;
 mod breaking;
 mod demand;
+mod entry;
 pub mod laws;
 mod line;
 pub mod object_laws;
 mod rule;
 mod search;
+mod tally;
 
 pub use line::broken_line;
 pub use rule::{BrokenRule, Rule};

@@ -8,6 +8,7 @@ ghost use Rattle.broken_rules.specs.Runs.{AreDone};
 ghost use Rattle.broken_rules.specs.CounterRuns.{IncrementsAreCounted};
 ghost use Rattle.broken_rules.specs.RegisterRuns.{ReadsGiveTheLastWrite, ReadsGiveZeroAtFirst};
 ghost use Rattle.broken_rules.specs.SetRuns.{HasTells, AddTells, RemoveTells};
+ghost use Rattle.broken_rules.specs.MapRuns.{KeysAreHeldOnce};
 ghost use Rattle.broken_rules.specs.Removals.{TakesTakeWhatWasPut, DequeuesGiveTheOldest, PopsGiveTheNewest, pqueue_reading, MinsGiveTheLeast, ComesOutAtMostAsOften};
 
 /// A counter replies to each increment how many increments came before it, modulo 2^32.
@@ -35,6 +36,11 @@ pub fn sets_tell_what_stands()
     ensures add { AddTells }
     // The reply to `remove` says whether an add of the value stands before it.
     ensures remove { RemoveTells }
+{}
+
+/// A map holds each key once: at most one item of its list has a given key.
+pub fn maps_hold_each_key_once()
+    ensures { KeysAreHeldOnce }
 {}
 
 /// A queue gives the values in the order in which they were put in.

@@ -3,9 +3,11 @@
 ghost use Rattle.std.specs.Prelude.{◌≡◌};
 ghost use Rattle.broken_rules.specs.Deeds.{deal_of_act};
 ghost use Rattle.broken_rules.specs.Rules as rules;
+ghost use Rattle.broken_rules.specs.Texts as texts;
 
-use crate::act::{Act, is_keyed};
+use crate::act::{Act, is_cas_register, is_keyed};
 use crate::demand::Demand;
+use crate::tally::Tally;
 use book_base::Call;
 use seq_objects::Kind;
 
@@ -59,6 +61,24 @@ pub enum Rule {
     /// the second call, which doesn't find this key, and each call that may take the key out comes
     /// before the first call or after the second one.
     KeyMissed,
+    /// A value is taken at most as often as it was put in: the first call takes a value, and more
+    /// calls took it by the first call's reply than may have put it in by then.
+    TakenTooOften,
+    /// A take finds what is left: the second call finds nothing, the first call precedes it and
+    /// puts a value in, and more calls that put this value in end before the second call begins
+    /// than may have taken it by the second call's reply.
+    LeftBehind,
+    /// A value that a map gives for a key was put in before: the call shows a key's value, and each
+    /// other call that puts this value in for the key comes after it.
+    ValueUnput,
+    /// A map holds the value that was put in last for a key: the first call precedes the second
+    /// one, which shows a key's value. After the first call this value isn't there, and each other
+    /// call that puts it in for the key comes before the first call or after the second one.
+    ValueOverwritten,
+    /// A value is replaced once after each write of it: two compare-and-sets are answered `yes`,
+    /// which find the same value and write others, and each write of this value comes before both
+    /// or after both.
+    SwappedTwice,
 }
 
 /// A rule that a book breaks, and the two calls by which it breaks the rule.
@@ -86,6 +106,19 @@ pub(crate) enum Relation {
     TakenByAnother,
     /// The first call precedes the second one, which missed the key of the first one.
     MissedAfter,
+    /// The two are the same call, by whose reply more calls have taken its value than may have put
+    /// it in.
+    TakenMore,
+    /// The first call precedes the second one, before which more calls put the first one's value in
+    /// than may have taken it by the second one's reply.
+    LeftOver,
+    /// The two are the same call, which shows an entry of a map.
+    ShowsEntry,
+    /// The first call precedes the second one, and the entry that the second one shows isn't there
+    /// after the first one.
+    Excluded,
+    /// The two are different calls, which find the same value, and the second one writes a value.
+    BothSwap,
     /// The relation asks nothing.
     Any,
 }
@@ -110,6 +143,11 @@ impl Rule {
             Rule::ReadOverwritten => is_register(kind),
             Rule::FoundUnput => is_keyed(kind),
             Rule::KeyMissed => is_keyed(kind),
+            Rule::TakenTooOften => holds_values(kind),
+            Rule::LeftBehind => holds_values(kind),
+            Rule::ValueUnput => is_map(kind),
+            Rule::ValueOverwritten => is_map(kind),
+            Rule::SwappedTwice => is_cas_register(kind),
         }
     }
 
@@ -141,6 +179,11 @@ impl Rule {
             Rule::ReadOverwritten => first.is_put() && second.is_take(),
             Rule::FoundUnput => first.is_take(),
             Rule::KeyMissed => first.is_put() || first.is_take(),
+            Rule::TakenTooOften => first.is_take(),
+            Rule::LeftBehind => first.is_put() && second.is_nothing(),
+            Rule::ValueUnput => first.is_take(),
+            Rule::ValueOverwritten => second.is_take(),
+            Rule::SwappedTwice => first.is_put() && second.is_take(),
         }
     }
 
@@ -155,6 +198,8 @@ impl Rule {
                 | Rule::CountedUnseen
                 | Rule::ReadUnwritten
                 | Rule::FoundUnput
+                | Rule::TakenTooOften
+                | Rule::ValueUnput
         )
     }
 
@@ -167,13 +212,18 @@ impl Rule {
             Rule::TakenTwice => Demand::OnlyPut,
             Rule::PassedOver => Demand::OtherPutsFollow,
             Rule::TakenFromUnder | Rule::ReadOverwritten => Demand::OtherPutsOutside,
+            Rule::ValueUnput => Demand::EntryPutsFollow,
+            Rule::ValueOverwritten => Demand::EntryPutsOutside,
+            Rule::SwappedTwice => Demand::OtherPutsBeside,
             Rule::NeverReplied
             | Rule::FoundNothing
             | Rule::LesserLeft
             | Rule::CountedUnseen
             | Rule::CountedTwice
             | Rule::CountedDown
-            | Rule::KeyMissed => Demand::Nothing,
+            | Rule::KeyMissed
+            | Rule::TakenTooOften
+            | Rule::LeftBehind => Demand::Nothing,
         }
     }
 
@@ -194,7 +244,12 @@ impl Rule {
             | Rule::CountedDown
             | Rule::ReadUnwritten
             | Rule::ReadOverwritten
-            | Rule::FoundUnput => Demand::Nothing,
+            | Rule::FoundUnput
+            | Rule::TakenTooOften
+            | Rule::LeftBehind
+            | Rule::ValueUnput
+            | Rule::ValueOverwritten
+            | Rule::SwappedTwice => Demand::Nothing,
         }
     }
 
@@ -208,6 +263,11 @@ impl Rule {
             Rule::TakenTwice => Relation::TakenByAnother,
             Rule::PassedOver => Relation::Any,
             Rule::KeyMissed => Relation::MissedAfter,
+            Rule::TakenTooOften => Relation::TakenMore,
+            Rule::LeftBehind => Relation::LeftOver,
+            Rule::ValueUnput => Relation::ShowsEntry,
+            Rule::ValueOverwritten => Relation::Excluded,
+            Rule::SwappedTwice => Relation::BothSwap,
             Rule::CountedUnseen => Relation::Unseen,
             Rule::CountedTwice => Relation::Apart,
             Rule::FoundNothing
@@ -219,11 +279,40 @@ impl Rule {
     }
 }
 
+impl Rule {
+    /// The tally whose count is the greater one where two calls break a rule of counts.
+    pub(crate) fn more(self) -> Tally
+        ensures { result ≡ texts.more_of self }
+    {
+        match self {
+            Rule::LeftBehind => Tally::PutBefore,
+            _ => Tally::TakenBy,
+        }
+    }
+
+    /// The tally whose count is the lesser one where two calls break a rule of counts.
+    pub(crate) fn fewer(self) -> Tally
+        ensures { result ≡ texts.fewer_of self }
+    {
+        match self {
+            Rule::LeftBehind => Tally::TakableBy,
+            _ => Tally::PutBy,
+        }
+    }
+}
+
 // Whether a kind's objects are registers, with compare-and-set or without.
 fn is_register(kind: Kind) -> bool
     ensures { result ≡ rules.is_register kind }
 {
     matches!(kind, Kind::Register | Kind::CasRegister)
+}
+
+// Whether a kind's objects are maps.
+fn is_map(kind: Kind) -> bool
+    ensures { result ≡ rules.is_map kind }
+{
+    matches!(kind, Kind::Map)
 }
 
 // Whether a kind's objects hold what is put in until it is taken out.

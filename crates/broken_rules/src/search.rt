@@ -15,7 +15,7 @@ use book_base::{Book, Call};
 use seq_objects::Kind;
 
 /// The rules, in the order in which they are tried.
-const RULES: [Rule; 14] = [
+const RULES: [Rule; 19] = [
     Rule::NeverReplied,
     Rule::TakenUnput,
     Rule::CountedUnseen,
@@ -30,6 +30,11 @@ const RULES: [Rule; 14] = [
     Rule::CountedDown,
     Rule::ReadOverwritten,
     Rule::KeyMissed,
+    Rule::TakenTooOften,
+    Rule::LeftBehind,
+    Rule::ValueUnput,
+    Rule::ValueOverwritten,
+    Rule::SwappedTwice,
 ];
 
 /// A rule that a book breaks, with the two calls by which it breaks the rule; `None` where it

@@ -41,6 +41,31 @@ returns-in-MissedAfter c =
     subst (λ (r : Relation). IsTrue c.is_missed_after.result ↔ Related c.args.kind c.args.book.now r
     c.args.first c.args.second) (sym c.in-MissedAfter.is) c.is_missed_after.ensures
 
+pub returns-in-TakenMore : goal.returns-in-TakenMore
+returns-in-TakenMore c =
+    subst (λ (r : Relation). IsTrue c.is_taken_more.result ↔ Related c.args.kind c.args.book.now r
+    c.args.first c.args.second) (sym c.in-TakenMore.is) c.is_taken_more.ensures
+
+pub returns-in-LeftOver : goal.returns-in-LeftOver
+returns-in-LeftOver c =
+    subst (λ (r : Relation). IsTrue c.is_left_over.result ↔ Related c.args.kind c.args.book.now r
+    c.args.first c.args.second) (sym c.in-LeftOver.is) c.is_left_over.ensures
+
+pub returns-in-ShowsEntry : goal.returns-in-ShowsEntry
+returns-in-ShowsEntry c =
+    subst (λ (r : Relation). IsTrue c.is_shown_alone.result ↔ Related c.args.kind c.args.book.now r
+    c.args.first c.args.second) (sym c.in-ShowsEntry.is) c.is_shown_alone.ensures
+
+pub returns-in-Excluded : goal.returns-in-Excluded
+returns-in-Excluded c =
+    subst (λ (r : Relation). IsTrue c.is_excluded.result ↔ Related c.args.kind c.args.book.now r
+    c.args.first c.args.second) (sym c.in-Excluded.is) c.is_excluded.ensures
+
+pub returns-in-BothSwap : goal.returns-in-BothSwap
+returns-in-BothSwap c =
+    subst (λ (r : Relation). IsTrue c.both_swap.result ↔ Related c.args.kind c.args.book.now r
+    c.args.first c.args.second) (sym c.in-BothSwap.is) c.both_swap.ensures
+
 pub returns-in-Any : goal.returns-in-Any
 returns-in-Any c =
     subst (λ (r : Relation). IsTrue true ↔ Related c.args.kind c.args.book.now r c.args.first

@@ -40,6 +40,23 @@ returns-in-RemovalsOutside c =
     c.args.first c.args.second c.args.call) (sym c.in-RemovalsOutside.is)
     c.removal_is_outside.ensures
 
+pub returns-in-EntryPutsFollow : goal.returns-in-EntryPutsFollow
+returns-in-EntryPutsFollow c =
+    subst (λ (d : Demand). IsTrue c.entry_put_follows.result ↔ Meets c.args.kind c.args.book.now d
+    c.args.first c.args.second c.args.call) (sym c.in-EntryPutsFollow.is)
+    c.entry_put_follows.ensures
+
+pub returns-in-EntryPutsOutside : goal.returns-in-EntryPutsOutside
+returns-in-EntryPutsOutside c =
+    subst (λ (d : Demand). IsTrue c.entry_put_is_outside.result ↔ Meets c.args.kind
+    c.args.book.now d c.args.first c.args.second c.args.call) (sym c.in-EntryPutsOutside.is)
+    c.entry_put_is_outside.ensures
+
+pub returns-in-OtherPutsBeside : goal.returns-in-OtherPutsBeside
+returns-in-OtherPutsBeside c =
+    subst (λ (d : Demand). IsTrue c.put_is_beside.result ↔ Meets c.args.kind c.args.book.now d
+    c.args.first c.args.second c.args.call) (sym c.in-OtherPutsBeside.is) c.put_is_beside.ensures
+
 pub returns-in-Nothing : goal.returns-in-Nothing
 returns-in-Nothing c =
     subst (λ (d : Demand). IsTrue true ↔ Meets c.args.kind c.args.book.now d c.args.first
