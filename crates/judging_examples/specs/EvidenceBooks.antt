@@ -37,11 +37,17 @@ misread =
     ∷ caller_page (operation read 0 ∷ []) (answer (reply_value 6) (1 ∷ 1 ∷ []) ∷ [])
     ∷ []
 
--- The read of `misread` without the write.
+-- Caller 0 writes 5 to a register, and caller 1 reads 5 afterwards.
+abbrev pub read_of_write : List Page
+read_of_write =
+    caller_page (operation write 5 ∷ []) (answer reply_done (1 ∷ 0 ∷ []) ∷ [])
+    ∷ caller_page (operation read 0 ∷ []) (answer (reply_value 5) (1 ∷ 1 ∷ []) ∷ []) ∷ []
+
+-- The read of `read_of_write` without the write.
 abbrev pub read_alone : List Page
 read_alone =
     caller_page [] []
-    ∷ caller_page (operation read 0 ∷ []) (answer (reply_value 6) (0 ∷ 1 ∷ []) ∷ []) ∷ []
+    ∷ caller_page (operation read 0 ∷ []) (answer (reply_value 5) (0 ∷ 1 ∷ []) ∷ []) ∷ []
 
 -- The calls of `misread` without the answer of the write.
 abbrev pub read_beside_write : List Page

@@ -7,22 +7,22 @@ ghost use Rattle.smaller_book.specs.Earliest.{IsEarliest};
 ghost use Rattle.smaller_book.specs.Evidence.{IsEvidence};
 ghost use Rattle.smaller_book.specs.Minimal.{IsMinimal, IsMoment, IsClosedCut};
 ghost use Rattle.judging_examples.specs.EvidenceBooks.{three_increments, last_increment, two_zeros};
-ghost use Rattle.judging_examples.specs.EvidenceBooks.{misread, read_alone, read_beside_write};
+ghost use Rattle.judging_examples.specs.EvidenceBooks.{misread, read_beside_write, read_of_write, read_alone};
 ghost use Rattle.judging_examples.specs.EvidenceBooks.{one_miscount, unanswered_increment, miscount_and_more, two_miscounts};
 ghost use Rattle.judging_examples.specs.EvidenceBooks.{needless_read, needless_put, later_read, later_take};
 ghost use Rattle.judging_examples.specs.SmallerBooks.{two_puts};
 
-/// Parts to which no steps lead from a book without a legal order: one lacks increments and one a
-/// write that the view of an answered call held, and one lacks an answer but not its call.
+/// Parts to which no steps lead: one lacks increments and one a write that the view of an answered
+/// call held, and one lacks an answer but not its call.
 pub fn parts_by_no_rule()
     // Of three overlapping increments that reply 0, 0 and 1, the one that replies 1 alone is no
     // evidence.
     ensures increment { (names : List (List ℕ))
         → ¬ IsEvidence kinds.Counter three_increments names last_increment }
-    // Of a write to a register with compare-and-set and a read after it, the read alone is no
-    // evidence.
+    // Of a write of 5 to a register with compare-and-set and a read of 5 after it, the read alone
+    // is no evidence.
     ensures read { (names : List (List ℕ))
-        → ¬ IsEvidence kinds.CasRegister misread names read_alone }
+        → ¬ IsEvidence kinds.CasRegister read_of_write names read_alone }
     // A lone call without its answer is no evidence.
     ensures answer { (names : List (List ℕ))
         → ¬ IsEvidence kinds.Counter one_miscount names unanswered_increment }

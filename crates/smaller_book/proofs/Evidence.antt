@@ -1,5 +1,5 @@
 -- What evidence tells of a book, and which calls it keeps.
-use Rattle.std.proofs.Common.{◌≡◌, ℕ, ◌<◌, ◌∙◌, Bool, true, false, List, [], ◌∷◌, length, get_or, unwrap_or, Option, Some, None, refl, sym, ap, subst, inl, inr, arith}
+use Rattle.std.proofs.Common.{◌≡◌, ℕ, ◌<◌, ◌≤◌, ◌∙◌, Bool, true, false, List, [], ◌∷◌, length, get_or, unwrap_or, Option, Some, None, refl, sym, ap, subst, inl, inr, arith}
 use Rattle.std.specs.Prelude.{option_map, if◌then◌else◌}
 use Rattle.std.specs.List.{range_with_len}
 use Rattle.std.proofs.lemmas.Bool.{true≢false}
@@ -11,7 +11,7 @@ use Rattle.book_base.specs.declared.call.Call.{Call}
 use Rattle.book_base.specs.declared.call.Record.{Record}
 use Rattle.book_base.specs.SeqSpec.{spec_from}
 use Rattle.book_base.specs.Cut.{Holds}
-use Rattle.book_base.specs.Book.{Page, calls_of, IsCall, IsAnswered, operation_of, record_of}
+use Rattle.book_base.specs.Book.{Page, calls_of, answers_of, IsCall, IsAnswered, operation_of, record_of, Precedes}
 use Rattle.book_base.specs.Order.{HasLegalOrder}
 use Rattle.book_base.specs.Reaching.{Leaves}
 use Rattle.book_base.proofs.ViewLemmas.{same_call, answer_stands, record_from_part}
@@ -24,12 +24,13 @@ use Rattle.seq_objects.specs.Objects.{kind_next, kind_spec}
 use Rattle.smaller_book.specs.Part.{numbers_of, count_below, original, IsNamed, IsPart}
 use Rattle.smaller_book.specs.Numbers.{picked}
 use Rattle.smaller_book.specs.ReadOnly.{IsReadOnly}
+use Rattle.smaller_book.specs.Unseen.{Sets, IsHiddenFrom}
 use Rattle.smaller_book.specs.Earliest.{all_numbers}
 use Rattle.smaller_book.specs.Keys.{value_shown, key_by_kind, key_of_step, key_of_call, is_among, CarriesOverWithoutSome}
 use Rattle.smaller_book.specs.Evidence.{IsStep, AreSteps, EvidenceIsAPart, EvidenceCarriesOver, EvidenceTells, EvidenceKeepsTheRest}
 use Rattle.smaller_book.proofs.Counts.{counted_from_below, find_number}
-use Rattle.smaller_book.proofs.Following.{record_was}
-use Rattle.smaller_book.proofs.ReadOnly.{has_one_without_read_only}
+use Rattle.smaller_book.proofs.Following.{some_that, record_was, preceded_in_book}
+use Rattle.smaller_book.proofs.Unseen.{has_one_without_unseen}
 use Rattle.smaller_book.proofs.LeastCuts.{numbers_of-all, original-all, carried_to_cut}
 use Rattle.smaller_book.proofs.CarryingOver.{carries_from_all, carries_twice}
 use Rattle.smaller_book.proofs.KeyRows.{unnamed_goes}
@@ -53,8 +54,7 @@ step_carries kind book names part step =
       | inr other ↦ elim other [
         | inl lacks ↦
             carries_from_all kind book part
-            (has_one_without_read_only (kind_next kind) book names part lacks.is_part
-            lacks.read_only)
+            (has_one_without_unseen (kind_next kind) book names part lacks.is_part lacks.unseen)
         | inr lacks ↦ (
           lacks.keys,
           has_one_without_keys kind lacks.keys book part lacks.may_go
@@ -110,6 +110,24 @@ all_named book call inside =
     ) in
     subst P (sym (numbers_of-all book call.caller)) there
 
+-- A call of a part has the operation that it had in the book.
+word_was : (book : List Page) (names : List (List ℕ)) (part : List Page) → IsPart book names part
+    → (call : Call) → IsCall part call
+    → unwrap_or (operation_of part call) 0 ≡ unwrap_or (operation_of book (original names call)) 0
+word_was book names part is call inside =
+    ap (λ (o : Option ℕ). unwrap_or o 0) (is.operations call inside)
+
+-- A call of a part that sets a list set it in the book.
+was_set : (next : List ℕ → ℕ → List ℕ × ℕ) (book : List Page) (names : List (List ℕ))
+    (part : List Page) → IsPart book names part → (call : Call) (after : List ℕ) → IsCall part call
+    → Sets next part call after → Sets next book (original names call) after
+was_set next book names part is call after inside sets before may =
+    let word = word_was book names part is call inside in
+    ap (λ (op : ℕ). (next before op).0) (sym word)
+    ∙ sets before (λ (r : Record) known.
+    let was = record_was book names part is call r known in
+    was.2.reply ∙ (may was.0 was.1 ∙ ap (λ (op : ℕ). (next before op).1) (sym word)))
+
 -- A read-only call of a part was a read-only call of the book.
 was_read_only : (next : List ℕ → ℕ → List ℕ × ℕ) (book : List Page) (names : List (List ℕ))
     (part : List Page) → IsPart book names part → (call : Call) → IsCall part call
@@ -117,14 +135,82 @@ was_read_only : (next : List ℕ → ℕ → List ℕ × ℕ) (book : List Page)
 was_read_only next book names part is call inside (_, leaves) = (
   original_is_call book names part is call inside,
   λ reply may.
-      let word : unwrap_or (operation_of part call) 0
-      ≡ unwrap_or (operation_of book (original names call)) 0 =
-      ap (λ (o : Option ℕ). unwrap_or o 0) (is.operations call inside) in
-      subst (λ (op : ℕ). Leaves next op reply) word
+      subst (λ (op : ℕ). Leaves next op reply) (word_was book names part is call inside)
       (leaves reply (λ (r : Record) known.
       let was = record_was book names part is call r known in
       was.2.reply ∙ may was.0 was.1)),
 )
+
+-- An answered call of a part that was read-only in the book is read-only in the part.
+stays_read_only : (next : List ℕ → ℕ → List ℕ × ℕ) (book : List Page) (names : List (List ℕ))
+    (part : List Page) → IsPart book names part → (call : Call) (small : Record) → IsCall part call
+    → record_of part call ≡ Some small → IsReadOnly next book (original names call)
+    → IsReadOnly next part call
+stays_read_only next book names part is call small inside known (_, leaves) = (
+  inside,
+  λ reply may.
+      let was = record_was book names part is call small known in
+      subst (λ (op : ℕ). Leaves next op reply) (sym (word_was book names part is call inside))
+      (leaves reply (λ (r : Record) there.
+      ap (λ (x : Record). x.reply) (same_Some r was.0 (sym there ∙ was.1))
+      ∙ (sym was.2.reply ∙ may small known))),
+)
+
+-- A call that precedes an answered one is answered.
+preceding_record : (part : List Page) (before seer : Call) → IsAnswered part seer
+    → Precedes part before seer → (r : Record) × (record_of part before ≡ Some r)
+preceding_record part before seer answered precedes =
+    elim precedes [
+      | inl known ↦
+          let found = some_that (record_of part before)
+          (λ (r : Record). get_or r.view seer.caller 0 ≤ seer.number) known in
+          (found.0, found.1)
+      | inr own ↦
+          let there : seer.number < answers_of part before.caller =
+          subst (λ (i : ℕ). seer.number < answers_of part i) (sym own.0) answered in
+          answer_stands part before (omega (arith, own.1, there))
+    ]
+
+-- What a call of a part sets, and an answered call of it can't tell, it set in the book, where the
+-- other call couldn't tell either.
+was_hidden : (next : List ℕ → ℕ → List ℕ × ℕ) (book : List Page) (names : List (List ℕ))
+    (part : List Page) → IsPart book names part → (seer setting : Call) → IsAnswered part seer
+    → IsCall part setting → IsHiddenFrom next part seer setting
+    → IsHiddenFrom next book (original names seer) (original names setting)
+was_hidden next book names part is seer setting answered inside (after, sets, cannot) =
+    let here : IsCall part seer = omega (arith, answered, is.answers seer.caller) in
+    let word = word_was book names part is seer here in (
+      after,
+      was_set next book names part is setting after inside sets,
+      elim cannot [
+        | inl blind ↦ inl (subst
+            (λ (op : ℕ). (before other : List ℕ) → next before op ≡ next other op) word blind)
+        | inr rest ↦ elim rest [
+          | inl earlier ↦
+              inr (inl (preceded_in_book book names part is seer setting inside earlier))
+          | inr last ↦ elim last [
+            | inl (between, changes, later, before) ↦
+                let known = preceding_record part between seer answered before in
+                let there : IsCall part between = omega (
+                  arith,
+                  is.answers between.caller,
+                  slice_get_within _ between.number known.0 known.1,
+                ) in
+                inr (inr (inl (
+                  original names between,
+                  λ only. changes (stays_read_only next book names part is between known.0 there
+                      known.1 only),
+                  preceded_in_book book names part is setting between there later,
+                  preceded_in_book book names part is between seer here before,
+                )))
+            | inr differs ↦ inr (inr (inr (λ may. differs (λ (r : Record) known.
+                let was = record_was book names part is seer r known in
+                was.2.reply ∙ (may was.0 was.1
+                ∙ ap (λ (op : ℕ). (next after op).1) (sym word))))))
+          ]
+        ]
+      ],
+    )
 
 shown_none : (is_put : Bool) (value : ℕ) (reply : Option ℕ)
     → (if is_put then Some value else value_shown reply) ≡ None
@@ -180,19 +266,25 @@ key_was_none kind book names part is call inside none =
     (sym (is.operations call inside)) none in
     fewer_keys kind (unwrap_or (operation_of part call) 0) small whole same here
 
--- A step keeps each call that is neither read-only nor about a key and that is held by the view of
--- an answered call which it keeps.
+-- A step keeps each call that is neither read-only nor about a key, is held by the view of an
+-- answered call which it keeps, and isn't hidden from this call.
 step_keeps : (kind : Kind) (book : List Page) (names : List (List ℕ)) (part : List Page)
     → IsStep kind book names part → (call other : Call) (small r : Record)
     → record_of part call ≡ Some small → record_of book (original names call) ≡ Some r
     → Holds r.view other → ¬ IsReadOnly (kind_next kind) book other
+    → ¬ IsHiddenFrom (kind_next kind) book (original names call) other
     → key_of_call kind book other ≡ None → IsNamed names other
-step_keeps kind book names part step call other small r there known held writes keyless =
+step_keeps kind book names part step call other small r there known held writes seen_by keyless =
     let is : IsPart book names part = step_part kind book names part step in
     let inside : IsCall book other = omega (
       arith,
       held,
       below_calls book r.view (step.valid.within (original names call) r known) other.caller,
+    ) in
+    let here : IsCall part call = omega (
+      arith,
+      is.answers call.caller,
+      slice_get_within _ call.number small there,
     ) in
     let named = find_number (numbers_of names other.caller) other.number in
     elim named [
@@ -203,11 +295,6 @@ step_keeps kind book names part step call other small r there known held writes 
             | inl back ↦
                 let at = book_at_some_cut book part step.valid back.at_some_cut in
                 let was = record_from_part book back.at_some_cut.cut part at call small there in
-                let here : IsCall part call = omega (
-                  arith,
-                  is.answers call.caller,
-                  slice_get_within _ call.number small there,
-                ) in
                 let same : original names call ≡ call =
                 ap (λ (ns : List (List ℕ)). original ns call) back.named
                 ∙ original-all part call here in
@@ -220,7 +307,16 @@ step_keeps kind book names part step call other small r there known held writes 
                 absurd (unnamed (subst (λ (ns : List (List ℕ)). IsNamed ns other) (sym back.named)
                 (all_named part other stays)))
             | inr by_calls ↦ elim by_calls [
-              | inl lacks ↦ absurd (writes (lacks.read_only other inside unnamed))
+              | inl lacks ↦ absurd (elim (lacks.unseen other inside unnamed) [
+                | inl only ↦ writes only
+                | inr unseen ↦ seen_by (
+                  unseen.after,
+                  unseen.sets,
+                  unseen.unseen (original names call)
+                      (original_is_call book names part is call here)
+                      (call.number, omega (arith, is.calls call.caller, here), refl),
+                )
+              ])
               | inr lacks ↦
                   let goes : is_among lacks.keys (key_of_call kind book other) ≡ true =
                   unnamed_goes kind lacks.keys book other inside
@@ -234,10 +330,11 @@ steps_keep : (kind : Kind) (book : List Page) (steps : List (List (List ℕ)))
     (names : List (List ℕ)) (part : List Page) → AreSteps kind book steps names part
     → (call other : Call) (r : Record) → IsAnswered part call
     → record_of book (original names call) ≡ Some r → Holds r.view other
-    → ¬ IsReadOnly (kind_next kind) book other → key_of_call kind book other ≡ None
-    → IsNamed names other
+    → ¬ IsReadOnly (kind_next kind) book other
+    → ¬ IsHiddenFrom (kind_next kind) book (original names call) other
+    → key_of_call kind book other ≡ None → IsNamed names other
 steps_keep kind book [] names part (valid, same, named) call other r answered known held writes
-    keyless =
+    seen_by keyless =
     let inside : IsCall book other = omega (
       arith,
       held,
@@ -245,7 +342,7 @@ steps_keep kind book [] names part (valid, same, named) call other r answered kn
     ) in
     subst (λ (ns : List (List ℕ)). IsNamed ns other) (sym named) (all_named book other inside)
 steps_keep kind book (first ∷ later) names part (mid, rest, step, on, named) call other r answered
-    known held writes keyless =
+    known held writes seen_by keyless =
     let outer : IsPart book first mid = step_part kind book first mid step in
     let inner : IsPart mid rest part = steps_part kind mid later rest part on in
     let i : ℕ = other.caller in
@@ -263,6 +360,7 @@ steps_keep kind book (first ∷ later) names part (mid, rest, step, on, named) c
     subst (λ (x : Record). Holds x.view other) (sym one) held in
     let stays : IsNamed first other =
     step_keeps kind book first mid step moved other middle.0 whole.0 middle.1 whole.1 seen writes
+    (subst (λ (seer : Call). ¬ IsHiddenFrom (kind_next kind) book seer other) same seen_by)
     keyless in
     let next : Call = record { caller = i; number = stays.0 } in
     let was : original first next ≡ other =
@@ -276,6 +374,10 @@ steps_keep kind book (first ∷ later) names part (mid, rest, step, on, named) c
     steps_keep kind mid later rest part on call next middle.0 answered middle.1 held_there
     (λ leaves. writes (subst (IsReadOnly (kind_next kind) book) was
     (was_read_only (kind_next kind) book first mid outer next in_mid leaves)))
+    (λ hidden. seen_by (subst (λ (seer : Call). IsHiddenFrom (kind_next kind) book seer other)
+    (sym same) (subst (IsHiddenFrom (kind_next kind) book (original first moved)) was
+    (was_hidden (kind_next kind) book first mid outer moved next
+    (slice_get_within _ moved.number middle.0 middle.1) in_mid hidden))))
     (key_was_none kind book first mid outer next in_mid
     (subst (λ (c : Call). key_of_call kind book c ≡ None) (sym was) keyless)) in
     let row : numbers_of names i ≡ picked (numbers_of first i) (numbers_of rest i) =
@@ -293,8 +395,8 @@ steps_keep kind book (first ∷ later) names part (mid, rest, step, on, named) c
     ) in
     subst P (sym row) found
 
--- Evidence keeps each call that is neither read-only nor about a key and that is held by the view
--- of an answered call which it keeps.
+-- Evidence keeps each call that is neither read-only nor about a key, is held by the view of an
+-- answered call which it keeps, and isn't hidden from this call.
 pub evidence_keeps_the_rest : EvidenceKeepsTheRest
 evidence_keeps_the_rest kind book names part evidence =
     steps_keep kind book evidence.steps names part evidence.lead

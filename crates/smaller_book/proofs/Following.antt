@@ -11,7 +11,7 @@ use Rattle.book_base.specs.declared.call.Record.{Record}
 use Rattle.book_base.specs.declared.call.Place.{Place}
 use Rattle.book_base.specs.SeqSpec.{spec_from}
 use Rattle.book_base.specs.Cut.{Holds}
-use Rattle.book_base.specs.Book.{Page, answers_of, IsCall, IsAnswered, operation_of, record_of, Precedes}
+use Rattle.book_base.specs.Book.{Page, calls_of, answers_of, IsCall, IsAnswered, operation_of, record_of, Precedes}
 use Rattle.book_base.specs.Order.{call_at, step_at, HasLegalOrder}
 use Rattle.book_base.specs.Next.{raised, MayStandNext, HoldsAnswered, Continues, list_after}
 use Rattle.book_base.specs.Pruning.{HasOneOpen}
@@ -153,6 +153,28 @@ precedes_in_book book names part is place k stays a answered =
     ] in
     inl (subst (λ o. IsSomeAnd o (λ (r : Record). get_or r.view place.caller 0 ≤ place.number))
     (sym whole.1) below)
+
+-- What precedes another call in a part preceded it in the book.
+pub preceded_in_book : (book : List Page) (names : List (List ℕ)) (part : List Page)
+    → IsPart book names part → (a b : Call) → IsCall part b → Precedes part a b
+    → Precedes book (original names a) (original names b)
+preceded_in_book book names part is a b inside before =
+    let number : ℕ = get_or (numbers_of names b.caller) b.number 0 in
+    elim before [
+      | inl answered ↦ precedes_in_book book names part is
+          (record { caller = b.caller; number = number; reply = 0 }) b.number
+          (record { inside = omega (arith, is.calls b.caller, inside); same = refl }) a answered
+      | inr own ↦
+          let there : b.number < calls_of part a.caller =
+          subst (λ (i : ℕ). b.number < calls_of part i) (sym own.0) inside in
+          inr (
+            own.0,
+            subst (λ (i : ℕ). get_or (numbers_of names a.caller) a.number 0
+                < get_or (numbers_of names i) b.number 0) own.0
+                (is.rising a.caller a.number b.number own.1
+                (omega (arith, is.calls a.caller, there))),
+          )
+    ]
 
 -- A place that may stand next in the book and whose call is in the part may stand next in the part,
 -- after a cut that follows the book's and is exact for its caller, and at a list at which the
@@ -336,31 +358,33 @@ abbrev pub AgreesAt : List Page → (List ℕ → ℕ → List ℕ × ℕ) → L
 AgreesAt book next whole call = (r : Record) → record_of book call ≡ Some r
     → r.reply ≡ (next whole (word_at book call)).1
 
--- A relation of two lists of the object, one with all calls of the book and one with the calls of
--- the part, which each call of the book keeps.
-pub record IsFollowed (R : List ℕ → List ℕ → Type 0) (next : List ℕ → ℕ → List ℕ × ℕ)
+-- A relation of a cut of the book and two lists of the object, one with all calls of the cut, one
+-- with those that the part has, which each call of the book keeps.
+pub record IsFollowedFrom (R : List ℕ → List ℕ → List ℕ → Type 0) (next : List ℕ → ℕ → List ℕ × ℕ)
     (book : List Page) (names : List (List ℕ)) : Type 0 where
   -- a call that the part lacks keeps it, changing the first list alone
-  pub lacks : (whole few : List ℕ) (call : Call) → R whole few → IsCall book call
-      → ¬ IsNamed names call → AgreesAt book next whole call
-      → R (next whole (word_at book call)).0 few
+  pub lacks : (cut whole few : List ℕ) (place : Place) → place.caller < length cut
+      → R cut whole few → MayStandNext book next cut whole place → ¬ IsNamed names (call_at place)
+      → R (raised cut place.caller) (list_after book next whole place) few
   -- a call that the part has keeps it, made on both lists, with the same reply where it is
   -- answered; or the call is unanswered and the book has one open, and the call keeps it, changing
   -- the first list alone
-  pub has : (whole few : List ℕ) (call : Call) → R whole few → IsCall book call → IsNamed names call
-      → AgreesAt book next whole call
-      → ((IsAnswered book call
-      → (next few (word_at book call)).1 ≡ (next whole (word_at book call)).1)
-      × R (next whole (word_at book call)).0 (next few (word_at book call)).0)
-      ⊎ (HasOneOpen book × (IsAnswered book call → ⊥) × R (next whole (word_at book call)).0 few)
+  pub has : (cut whole few : List ℕ) (place : Place) → place.caller < length cut
+      → R cut whole few → MayStandNext book next cut whole place → IsNamed names (call_at place)
+      → ((IsAnswered book (call_at place)
+      → (next few (step_at book place).0).1 ≡ (next whole (step_at book place).0).1)
+      × R (raised cut place.caller) (list_after book next whole place)
+      (next few (step_at book place).0).0)
+      ⊎ (HasOneOpen book × (IsAnswered book (call_at place) → ⊥)
+      × R (raised cut place.caller) (list_after book next whole place) few)
 
 -- Where places continue an order of the book from a cut and a list, some places continue one of the
 -- part from a cut that follows and a related list.
-continues_in_part : (R : List ℕ → List ℕ → Type 0) (book : List Page) (names : List (List ℕ))
-    (part : List Page) (next : List ℕ → ℕ → List ℕ × ℕ) (cut small whole few : List ℕ)
-    (order : List Place)
-    → IsPart book names part → IsFollowed R next book names → length book ≤ length cut
-    → Follows book names cut small → R whole few → Continues book next cut whole order
+continues_in_part : (R : List ℕ → List ℕ → List ℕ → Type 0) (book : List Page)
+    (names : List (List ℕ)) (part : List Page) (next : List ℕ → ℕ → List ℕ × ℕ)
+    (cut small whole few : List ℕ) (order : List Place)
+    → IsPart book names part → IsFollowedFrom R next book names → length book ≤ length cut
+    → Follows book names cut small → R cut whole few → Continues book next cut whole order
     → (rest : List Place) × Continues part next small few rest
 continues_in_part R book names part next cut small whole few [] is lists wide follows related
     holds = ([], answered_in_part book names part cut small is follows holds)
@@ -370,14 +394,12 @@ continues_in_part R book names part next cut small whole few
     let inside : i < length cut = within_cut book cut (call_at place) wide may.may_come.is_call in
     let wider : length book ≤ length (raised cut i) =
     omega (arith, length-set cut i (get_or cut i 0 + 1)) in
-    let agrees : AgreesAt book next whole (call_at place) =
-    λ r known. may.recorded r known ∙ sym may.reply in
     elim (follows.counts i) [
       | inr passed ↦ ([], all_held book names part next cut small whole place is follows passed may)
       | inl exact ↦ elim (find_number (numbers_of names i) place.number) [
         | inl found ↦
             let stays : Stays names place found.0 = record { inside = found.1; same = found.2 } in
-            elim (lists.has whole few (call_at place) related may.may_come.is_call found agrees) [
+            elim (lists.has cut whole few place inside related may found) [
               | inl alike ↦
                   let rest = continues_in_part R book names part next (raised cut i)
                   (raised small i) (list_after book next whole place)
@@ -407,8 +429,8 @@ continues_in_part R book names part next cut small whole few
             continues_in_part R book names part next (raised cut i) small
             (list_after book next whole place) few order is lists wider
             (follows_without book names cut small place follows exact none may.may_come.next inside)
-            (lists.lacks whole few (call_at place) related may.may_come.is_call
-            (λ named. none named.0 named.1 named.2) agrees) later
+            (lists.lacks cut whole few place inside related may
+            (λ named. none named.0 named.1 named.2)) later
       ]
     ]
 
@@ -416,12 +438,14 @@ pub no_call_below : (xs : List ℕ) → count_below xs 0 ≡ 0
 no_call_below [] = refl
 no_call_below (x ∷ xs) = cond-false (ltb x 0) (1 + count_below xs 0) 0 (le-ltb x 0 (omega arith))
 
--- Where the book has a legal order from a list, the part has one from each related list.
-pub has_one_in_part : (R : List ℕ → List ℕ → Type 0) (next : List ℕ → ℕ → List ℕ × ℕ)
-    (book : List Page) (names : List (List ℕ)) (part : List Page) (whole few : List ℕ)
-    → IsPart book names part → IsFollowed R next book names → R whole few
+-- Where the book has a legal order from a list, the part has one from each list that is related to
+-- it at the cut without a call.
+pub has_one_in_part_from : (R : List ℕ → List ℕ → List ℕ → Type 0)
+    (next : List ℕ → ℕ → List ℕ × ℕ) (book : List Page) (names : List (List ℕ)) (part : List Page)
+    (whole few : List ℕ) → IsPart book names part → IsFollowedFrom R next book names
+    → R (replicate (length book) 0) whole few
     → HasLegalOrder (spec_from whole next) book → HasLegalOrder (spec_from few next) part
-has_one_in_part R next book names part whole few is lists related (order, legal) =
+has_one_in_part_from R next book names part whole few is lists related (order, legal) =
     let start : List ℕ = replicate (length book) 0 in
     let wide : length book ≤ length start =
     omega (arith, length-replicate {A = ℕ} (length book) 0) in
@@ -438,3 +462,37 @@ has_one_in_part R next book names part whole few is lists related (order, legal)
       legal_order_from_continues part (spec_from few next) start rest.0
           (omega (arith, is.callers, wide)) zeros rest.1,
     )
+
+-- A relation of two lists of the object, one with all calls of the book and one with the calls of
+-- the part, which each call of the book keeps.
+pub record IsFollowed (R : List ℕ → List ℕ → Type 0) (next : List ℕ → ℕ → List ℕ × ℕ)
+    (book : List Page) (names : List (List ℕ)) : Type 0 where
+  -- a call that the part lacks keeps it, changing the first list alone
+  pub lacks : (whole few : List ℕ) (call : Call) → R whole few → IsCall book call
+      → ¬ IsNamed names call → AgreesAt book next whole call
+      → R (next whole (word_at book call)).0 few
+  -- a call that the part has keeps it, made on both lists, with the same reply where it is
+  -- answered; or the call is unanswered and the book has one open, and the call keeps it, changing
+  -- the first list alone
+  pub has : (whole few : List ℕ) (call : Call) → R whole few → IsCall book call → IsNamed names call
+      → AgreesAt book next whole call
+      → ((IsAnswered book call
+      → (next few (word_at book call)).1 ≡ (next whole (word_at book call)).1)
+      × R (next whole (word_at book call)).0 (next few (word_at book call)).0)
+      ⊎ (HasOneOpen book × (IsAnswered book call → ⊥) × R (next whole (word_at book call)).0 few)
+
+-- Where the book has a legal order from a list, the part has one from each related list.
+pub has_one_in_part : (R : List ℕ → List ℕ → Type 0) (next : List ℕ → ℕ → List ℕ × ℕ)
+    (book : List Page) (names : List (List ℕ)) (part : List Page) (whole few : List ℕ)
+    → IsPart book names part → IsFollowed R next book names → R whole few
+    → HasLegalOrder (spec_from whole next) book → HasLegalOrder (spec_from few next) part
+has_one_in_part R next book names part whole few is lists related legal =
+    has_one_in_part_from (λ cut first second. R first second) next book names part whole few is
+    (record {
+      lacks = λ cut first second place inside kept may unnamed.
+          lists.lacks first second (call_at place) kept may.may_come.is_call unnamed
+          (λ r known. may.recorded r known ∙ sym may.reply);
+      has = λ cut first second place inside kept may named.
+          lists.has first second (call_at place) kept may.may_come.is_call named
+          (λ r known. may.recorded r known ∙ sym may.reply);
+    }) related legal

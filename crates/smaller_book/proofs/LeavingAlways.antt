@@ -1,6 +1,6 @@
 -- Operations that change no list: each operation of each kind that changes a list does so with one
 -- of four replies.
-use Rattle.std.proofs.Common.{◌≡◌, ℕ, ◌==◌, ◌^◌, ◌<◌, List, [], ◌∷◌, ◌++◌, length, Option, Some, None, true, false, refl, sym, ap, arith}
+use Rattle.std.proofs.Common.{◌≡◌, ℕ, List, [], length, Option, Some, None, true, refl, sym, ap, arith}
 use Rattle.std.proofs.lemmas.Bool.{true≢false}
 use Rattle.book_base.specs.Reaching.{Leaves}
 use Rattle.seq_objects.specs.declared.kind.Kind.{Kind}

@@ -1,6 +1,7 @@
 pub mod Counts
 pub mod Following
 pub mod ReadOnly
+pub mod Unseen
 pub mod LeavingAlways
 pub mod Restoring
 pub mod Slices
@@ -21,4 +22,5 @@ pub mod Evidence
 pub mod KeyRemoval
 pub mod LoneCalls
 pub mod Moments
+pub mod RegisterValues
 pub mod Sizes

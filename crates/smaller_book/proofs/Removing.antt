@@ -1,5 +1,5 @@
 -- A book without one of its calls.
-use Rattle.std.proofs.Common.{◌≡◌, ◌≢◌, ℕ, zero, suc, ◌+◌, ◌-◌, ◌<◌, ◌≤◌, ◌∙◌, nat_eq, List, [], ◌∷◌, length, map, sum, get_or, unwrap_or, Some, refl, sym, ap, subst, inl, inr, zero-add, arith}
+use Rattle.std.proofs.Common.{◌≡◌, ◌≢◌, ℕ, zero, suc, ◌+◌, ◌-◌, ◌<◌, ◌≤◌, ◌∙◌, nat_eq, List, [], ◌∷◌, length, map, sum, get_or, Some, refl, sym, ap, subst, inl, inr, zero-add, arith}
 use Rattle.std.specs.List.{range_with_len}
 use Rattle.std.proofs.lemmas.Bool.{cases_lt, cases_eq, cond-true, cond-false, eq-eqb, ne_eqb}
 use Rattle.std.proofs.lemmas.List.{get_or_append_left, get_or-append_right, get_or_past, length-append, length-map}
@@ -8,16 +8,12 @@ use Rattle.std.proofs.lemmas.List.Sums.{sum_by-cons}
 use Rattle.std.proofs.lemmas.Option.{slice_get_within, slice_get-get_or}
 use Rattle.list_laws.proofs.Totals.{sum-within}
 use Rattle.book_base.specs.declared.call.Call.{Call}
-use Rattle.book_base.specs.declared.call.Record.{Record}
-use Rattle.book_base.specs.Reaching.{Leaves}
-use Rattle.smaller_book.proofs.Following.{some_that}
-use Rattle.book_base.specs.Book.{Page, page_of, calls_of, IsCall, IsAnswered, operation_of, record_of, announced, IsValid}
+use Rattle.book_base.specs.Book.{Page, page_of, calls_of, IsCall, operation_of, announced}
 use Rattle.book_base.proofs.PageLemmas.{caller_from_call}
 use Rattle.book_base.proofs.GrowthLemmas.{announced_at}
 use Rattle.legal_orders.proofs.LegalOrder.{same_call}
-use Rattle.smaller_book.specs.Part.{size_of, numbers_of, AreRising, original, IsPart}
+use Rattle.smaller_book.specs.Part.{size_of, numbers_of, AreRising, original, IsNamed, IsPart}
 use Rattle.smaller_book.specs.Numbers.{AreNumbersOf}
-use Rattle.smaller_book.specs.ReadOnly.{IsReadOnly, LacksReadOnlyAlone}
 use Rattle.smaller_book.specs.Minimal.{numbers_except, row_but, all_but}
 use Rattle.smaller_book.proofs.LeastCuts.{range-rising}
 use Rattle.smaller_book.proofs.Building.{length-rising}
@@ -159,33 +155,33 @@ all_but_are_numbers book call inside = record {
       (λ i past k room. absurd (omega arith));
 }
 
--- A book without one read-only call lacks read-only calls alone.
-pub lacks_one_alone : (next : List ℕ → ℕ → List ℕ × ℕ) (book : List Page) (call : Call)
-    → IsCall book call → IsReadOnly next book call
-    → LacksReadOnlyAlone next book (all_but book call)
-lacks_one_alone next book call inside leaves other there lacking =
+-- What holds of a call holds of each call that the book without this one call lacks.
+pub lacks_one : (P : Call → Type 0) (book : List Page) (call : Call) → IsCall book call → P call
+    → (other : Call) → IsCall book other → ¬ IsNamed (all_but book call) other → P other
+lacks_one P book call inside claim other there lacking =
     elim (cases_eq other.caller call.caller) [
       | inl e ↦ elim (cases_eq other.number call.number) [
-        | inl same ↦ subst (IsReadOnly next book) (sym (same_call other call e same)) leaves
+        | inl same ↦ subst P (sym (same_call other call e same)) claim
         | inr apart ↦
             let xs : List ℕ = numbers_except (calls_of book call.caller) call.number in
             let found = has-numbers_except (calls_of book call.caller) call.number other.number
             inside (subst (λ (i : ℕ). other.number < calls_of book i) e there) apart in
             let own : numbers_of (all_but book call) other.caller ≡ xs =
             ap (numbers_of (all_but book call)) e ∙ numbers_of-own book call inside in
-            let P : List ℕ → Type 0 =
+            let Has : List ℕ → Type 0 =
             λ l. (k : ℕ) × (k < length l) × (get_or l k 0 ≡ other.number) in
-            absurd (lacking (subst P (sym own) found))
+            absurd (lacking (subst Has (sym own) found))
       ]
       | inr apart ↦
           let n : ℕ = calls_of book other.caller in
-          let P : List ℕ → Type 0 = λ l. (k : ℕ) × (k < length l) × (get_or l k 0 ≡ other.number) in
-          let found : P (range_with_len 0 n) = (
+          let Has : List ℕ → Type 0 =
+          λ l. (k : ℕ) × (k < length l) × (get_or l k 0 ≡ other.number) in
+          let found : Has (range_with_len 0 n) = (
             other.number,
             omega (arith, length-range_with_len 0 n, there),
             get_or-range_with_len 0 n other.number 0 there ∙ zero-add other.number,
           ) in
-          absurd (lacking (subst P (sym (numbers_of-other book call other.caller apart
+          absurd (lacking (subst Has (sym (numbers_of-other book call other.caller apart
           (caller_from_call book other.caller other.number there))) found))
     ]
 

@@ -1,6 +1,6 @@
 -- From a legal order of a part that lacks only unanswered read-only calls to one of the book: such
 -- a call may stand right before the next call of its caller.
-use Rattle.std.proofs.Common.{◌≡◌, ◌≢◌, ℕ, zero, suc, ◌+◌, ◌-◌, ◌<◌, ◌≤◌, ◌∙◌, List, [], ◌∷◌, length, get_or, set, replicate, unwrap_or, Some, refl, sym, ap, subst, inl, inr, arith}
+use Rattle.std.proofs.Common.{◌≡◌, ℕ, zero, suc, ◌+◌, ◌-◌, ◌<◌, ◌≤◌, ◌∙◌, List, [], ◌∷◌, length, get_or, set, replicate, unwrap_or, Some, refl, sym, ap, subst, inl, inr, arith}
 use Rattle.std.specs.Option.{IsSomeAnd}
 use Rattle.std.proofs.lemmas.Bool.{cases_lt, cases_eq}
 use Rattle.std.proofs.lemmas.List.{length-replicate, length-set, set-get_or, set-set, get_or-set_same, get_or-set_other}
@@ -13,7 +13,7 @@ use Rattle.book_base.specs.SeqSpec.{spec_from}
 use Rattle.book_base.specs.Cut.{Holds}
 use Rattle.book_base.specs.Book.{Page, IsCall, IsAnswered, record_of, IsValid, Precedes}
 use Rattle.book_base.specs.Order.{call_at, step_at}
-use Rattle.book_base.specs.Next.{raised, MayStandNext, HoldsAnswered, Continues, list_after}
+use Rattle.book_base.specs.Next.{raised, MayStandNext, Continues, list_after}
 use Rattle.legal_orders.proofs.LegalOrder.{raised_same, raised_other, raised_more, same_call, answer_stands, within_cut, legal_order_from_continues, continues_from_legal_order}
 use Rattle.smaller_book.specs.Part.{numbers_of, count_below, original, IsNamed, IsPart, KeepsAnswers}
 use Rattle.smaller_book.specs.ReadOnly.{LacksOpenReadOnlyAlone, HasOneExactlyWithoutOpenReadOnly}

@@ -1,4 +1,4 @@
--- Numbers of calls, without read-only ones.
+-- Numbers of calls, without some that may go.
 use Rattle.std.proofs.Common.{◌≡◌, ℕ, ◌+◌, ◌<◌, ◌≤◌, ◌∙◌, Bool, true, false, not, IsTrue, List, [], ◌∷◌, ◌++◌, append-nil, length, get_or, if◌then◌else◌, refl, sym, ap, subst, inl, inr, arith}
 use Rattle.std.specs.Prelude.{Vec}
 use Rattle.std.proofs.lemmas.Bool.{cases_lt, cases_eq}
@@ -7,22 +7,23 @@ use Rattle.book_base.specs.Book.{Page, calls_of}
 use Rattle.book_base.proofs.PageLemmas.{caller_from_call}
 use Rattle.smaller_book.specs.Part.{numbers_of, AreRising}
 use Rattle.smaller_book.specs.Numbers.{numbers_in, AreNumbersOf}
-use Rattle.smaller_book.specs.ReadOnly.{IsReadOnly, LacksReadOnlyAlone, LacksReadOnlyOf}
+use Rattle.smaller_book.specs.Unseen.{MayGo, LacksUnseenAlone, LacksCallsOf}
+use Rattle.smaller_book.proofs.Unseen.{unseen_by_named}
 
--- The empty list of numbers lacks only read-only calls below 0, since no call is below 0.
+-- The empty list of numbers lacks only calls that may go below 0, since no call is below 0.
 pub lacks_none : (next : List ℕ → ℕ → List ℕ × ℕ) (book : List Page) (i : ℕ)
-    → LacksReadOnlyOf next book i 0 []
+    → LacksCallsOf next book i 0 []
 lacks_none next book i = record {
   rising = λ j k less inside. absurd (omega arith);
   inside = λ k inside. absurd (omega arith);
   lacks = λ number less. absurd (omega arith);
 }
 
--- Where numbers lack only read-only calls below n, the numbers with n at their end lack only
--- read-only calls below n + 1.
+-- Where numbers lack only calls that may go below n, the numbers with n at their end lack only
+-- calls that may go below n + 1.
 pub lacks_kept : (next : List ℕ → ℕ → List ℕ × ℕ) (book : List Page) (i n : ℕ) (numbers : List ℕ)
-    → LacksReadOnlyOf next book i n numbers
-    → LacksReadOnlyOf next book i (n + 1) (numbers ++ n ∷ [])
+    → LacksCallsOf next book i n numbers
+    → LacksCallsOf next book i (n + 1) (numbers ++ n ∷ [])
 lacks_kept next book i n numbers so_far =
     let more : List ℕ = numbers ++ n ∷ [] in
     let long : length more ≡ length numbers + 1 = length_push numbers n in
@@ -66,41 +67,41 @@ lacks_kept next book i n numbers so_far =
       ];
     }
 
--- Where numbers lack only read-only calls below n, and call n is read-only, they lack only
--- read-only calls below n + 1.
+-- Where numbers lack only calls that may go below n, and call n may go, they lack only
+-- calls that may go below n + 1.
 pub lacks_left : (next : List ℕ → ℕ → List ℕ × ℕ) (book : List Page) (i n : ℕ) (numbers : List ℕ)
-    → LacksReadOnlyOf next book i n numbers
-    → IsReadOnly next book (record { caller = i; number = n })
-    → LacksReadOnlyOf next book i (n + 1) numbers
+    → LacksCallsOf next book i n numbers
+    → MayGo next book (record { caller = i; number = n })
+    → LacksCallsOf next book i (n + 1) numbers
 lacks_left next book i n numbers so_far leaves = record {
   rising = so_far.rising;
   inside = λ k inside. omega (arith, so_far.inside k inside);
   lacks = λ (number : ℕ) (less : number < n + 1). elim (cases_eq number n) [
     | inl e ↦ inr
-        (subst (λ (k : ℕ). IsReadOnly next book (record { caller = i; number = k })) (sym e) leaves)
+        (subst (λ (k : ℕ). MayGo next book (record { caller = i; number = k })) (sym e) leaves)
     | inr other ↦ so_far.lacks number (omega (arith, less, other))
   ];
 }
 
--- Where numbers lack only read-only calls below n, and n is added unless a test is true that is
--- true only if call n is read-only, they lack only read-only calls below n + 1.
+-- Where numbers lack only calls that may go below n, and n is added unless a test is true that is
+-- true only if call n may go, they lack only calls that may go below n + 1.
 pub lacks_by : (next : List ℕ → ℕ → List ℕ × ℕ) (book : List Page) (i n : ℕ) (numbers more : List ℕ)
-    (out : Bool) → LacksReadOnlyOf next book i n numbers
+    (out : Bool) → LacksCallsOf next book i n numbers
     → more ≡ numbers ++ (if not out then n ∷ [] else [])
-    → (IsTrue out → IsReadOnly next book (record { caller = i; number = n }))
-    → LacksReadOnlyOf next book i (n + 1) more
+    → (IsTrue out → MayGo next book (record { caller = i; number = n }))
+    → LacksCallsOf next book i (n + 1) more
 lacks_by next book i n numbers more true so_far same leaves =
-    subst (LacksReadOnlyOf next book i (n + 1)) (sym (same ∙ append-nil numbers))
+    subst (LacksCallsOf next book i (n + 1)) (sym (same ∙ append-nil numbers))
     (lacks_left next book i n numbers so_far (leaves refl))
 lacks_by next book i n numbers more false so_far same leaves =
-    subst (LacksReadOnlyOf next book i (n + 1)) (sym same) (lacks_kept next book i n numbers so_far)
+    subst (LacksCallsOf next book i (n + 1)) (sym same) (lacks_kept next book i n numbers so_far)
 
--- Rows of numbers, one for each caller, that lack only read-only calls are rising numbers of calls
--- of the book.
+-- Rows of numbers, one for each caller, that lack only calls that may go are rising numbers of the
+-- book's calls.
 pub rows_are_numbers : (next : List ℕ → ℕ → List ℕ × ℕ) (book : List Page) (names : List (List ℕ))
     → length names ≡ length book
     → ((i : ℕ) → i < length book
-    → LacksReadOnlyOf next book i (calls_of book i) (numbers_of names i)) → AreNumbersOf book names
+    → LacksCallsOf next book i (calls_of book i) (numbers_of names i)) → AreNumbersOf book names
 rows_are_numbers next book names wide rows =
     let none : (i : ℕ) → length book ≤ i → numbers_of names i ≡ [] =
     λ i past. get_or_past names i [] (omega (arith, past, wide)) in
@@ -118,52 +119,52 @@ rows_are_numbers next book names wide rows =
       ];
     }
 
--- Where each caller's row of numbers lacks only read-only calls of the caller, all rows together
--- lack only read-only calls of the book.
-pub rows_lack_read_only : (next : List ℕ → ℕ → List ℕ × ℕ) (book : List Page)
+-- Where each caller's row of numbers lacks only calls that may go, all rows together lack only
+-- read-only and unseen calls of the book.
+pub rows_lack_unseen : (next : List ℕ → ℕ → List ℕ × ℕ) (book : List Page)
     (names : List (List ℕ))
     → ((i : ℕ) → i < length book
-    → LacksReadOnlyOf next book i (calls_of book i) (numbers_of names i))
-    → LacksReadOnlyAlone next book names
-rows_lack_read_only next book names rows call inside unnamed =
+    → LacksCallsOf next book i (calls_of book i) (numbers_of names i))
+    → LacksUnseenAlone next book names
+rows_lack_unseen next book names rows call inside unnamed =
     elim ((rows call.caller (caller_from_call book call.caller call.number inside)).lacks
     call.number inside) [
       | inl found ↦ absurd (unnamed found)
-      | inr leaves ↦ leaves
+      | inr goes ↦ unseen_by_named next book names call unnamed goes
     ]
 
--- There are n rows of numbers, and each lacks only read-only calls of its caller.
+-- There are n rows of numbers, and each lacks only calls of its caller that may go.
 abbrev pub RowsLack : (List ℕ → ℕ → List ℕ × ℕ) → List Page → ℕ → List (List ℕ) → Type 0
 RowsLack next book n names =
     (length names ≡ n)
-    × ((i : ℕ) → i < n → LacksReadOnlyOf next book i (calls_of book i) (numbers_of names i))
+    × ((i : ℕ) → i < n → LacksCallsOf next book i (calls_of book i) (numbers_of names i))
 
 rows_push : (next : List ℕ → ℕ → List ℕ × ℕ) (book : List Page) (n : ℕ) (names : List (List ℕ))
     (row : List ℕ) → RowsLack next book n names
-    → LacksReadOnlyOf next book n (calls_of book n) row
+    → LacksCallsOf next book n (calls_of book n) row
     → RowsLack next book (n + 1) (names ++ row ∷ [])
 rows_push next book n names row (long, rows) last = (
   omega (arith, length_push names row, long),
   λ (i : ℕ) (less : i < n + 1). elim (cases_lt i n) [
     | inl before ↦
-        let P : List ℕ → Type 0 = λ xs. LacksReadOnlyOf next book i (calls_of book i) xs in
+        let P : List ℕ → Type 0 = λ xs. LacksCallsOf next book i (calls_of book i) xs in
         subst P (sym (get_or_append_left names (row ∷ []) [] i (omega (arith, before, long))))
         (rows i before)
     | inr most ↦
         let at : i ≡ n = omega arith in
         let P : ℕ → Type 0 =
-        λ j. LacksReadOnlyOf next book j (calls_of book j) (numbers_of (names ++ row ∷ []) j) in
-        let here : P n = subst (λ (xs : List ℕ). LacksReadOnlyOf next book n (calls_of book n) xs)
+        λ j. LacksCallsOf next book j (calls_of book j) (numbers_of (names ++ row ∷ []) j) in
+        let here : P n = subst (λ (xs : List ℕ). LacksCallsOf next book n (calls_of book n) xs)
         (sym (get_or_push names row [] n long)) last in
         subst P (sym at) here
   ],
 )
 
--- Where n rows of numbers lack only read-only calls and one more row lacks only such calls of the
+-- Where n rows of numbers lack only calls that may go and one more row lacks only such calls of the
 -- next caller, the n + 1 rows do.
 pub rows_more : {A : Type 0} (next : List ℕ → ℕ → List ℕ × ℕ) (book : List Page) (n : ℕ)
     (rows new : List (Vec ℕ A)) (row : Vec ℕ A) → RowsLack next book n (numbers_in rows)
-    → new ≡ rows ++ row ∷ [] → LacksReadOnlyOf next book n (calls_of book n) row.items
+    → new ≡ rows ++ row ∷ [] → LacksCallsOf next book n (calls_of book n) row.items
     → RowsLack next book (n + 1) (numbers_in new)
 rows_more {A} next book n rows new row before same last =
     let items : Vec ℕ A → List ℕ = λ v. v.items in

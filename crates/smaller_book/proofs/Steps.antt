@@ -13,7 +13,7 @@ use Rattle.seq_objects.specs.declared.kind.Kind.{Kind}
 use Rattle.smaller_book.specs.Part.{numbers_of, IsPart}
 use Rattle.smaller_book.specs.Numbers.{numbers_in, composed}
 use Rattle.smaller_book.specs.Earliest.{all_numbers, IsAtSomeCut}
-use Rattle.smaller_book.specs.Evidence.{IsCutBack, LacksReadOnlyCalls, LacksKeys, IsStep, AreSteps, IsEvidence}
+use Rattle.smaller_book.specs.Evidence.{IsCutBack, LacksUnseenCalls, LacksKeys, IsStep, AreSteps, IsEvidence}
 use Rattle.smaller_book.specs.Minimal.{IsSmaller, IsShrunk}
 use Rattle.smaller_book.proofs.LeastCuts.{part_with_numbers, part_from_book_at}
 use Rattle.smaller_book.proofs.Removing.{original_is_call}
@@ -176,11 +176,11 @@ cut_evidence kind book part valid at =
     (record { valid = valid; rule = inl (record { at_some_cut = at; named = refl }) })
     (book_at_is_valid book at.cut part valid (book_at_some_cut book part valid at))
 
--- The valid part that a valid book has without some read-only calls is evidence of it.
-pub read_only_evidence : (kind : Kind) (book : List Page) (names : List (List ℕ))
-    (part : List Page) → IsValid book → IsValid part → LacksReadOnlyCalls kind book names part
+-- The valid part that a valid book has without some read-only and unseen calls is evidence of it.
+pub unseen_evidence : (kind : Kind) (book : List Page) (names : List (List ℕ))
+    (part : List Page) → IsValid book → IsValid part → LacksUnseenCalls kind book names part
     → IsEvidence kind book names part
-read_only_evidence kind book names part valid still lacks =
+unseen_evidence kind book names part valid still lacks =
     step_evidence kind book names part (record { valid = valid; rule = inr (inl lacks) }) still
 
 -- The valid part that a valid book has without all calls of some keys is evidence of it.

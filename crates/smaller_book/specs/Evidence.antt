@@ -10,7 +10,8 @@ use Rattle.seq_objects.specs.declared.kind.Kind.{Kind}
 use Rattle.seq_objects.specs.Objects.{kind_next, kind_spec}
 use Rattle.smaller_book.specs.Part.{original, IsNamed, IsPart, KeepsAnswers}
 use Rattle.smaller_book.specs.Numbers.{composed}
-use Rattle.smaller_book.specs.ReadOnly.{IsReadOnly, LacksReadOnlyAlone}
+use Rattle.smaller_book.specs.ReadOnly.{IsReadOnly}
+use Rattle.smaller_book.specs.Unseen.{IsHiddenFrom, LacksUnseenAlone}
 use Rattle.smaller_book.specs.Earliest.{all_numbers, IsAtSomeCut}
 use Rattle.smaller_book.specs.Keys.{key_of_call, all_without, KeysMayGo, CarriesOverWithoutSome}
 
@@ -20,13 +21,13 @@ pub record IsCutBack (book : List Page) (names : List (List ℕ)) (part : List P
   pub named : names ≡ all_numbers part
 
 -- The part has the calls of the book with these numbers, answered where the book has them answered,
--- and each call of the book that it lacks is read-only.
-pub record LacksReadOnlyCalls (kind : Kind) (book : List Page) (names : List (List ℕ))
+-- and each call of the book that it lacks is read-only or unseen.
+pub record LacksUnseenCalls (kind : Kind) (book : List Page) (names : List (List ℕ))
     (part : List Page) : Type 0 where
   pub wide : length names ≡ length book
   pub is_part : IsPart book names part
   pub answers : KeepsAnswers book names part
-  pub read_only : LacksReadOnlyAlone (kind_next kind) book names
+  pub unseen : LacksUnseenAlone (kind_next kind) book names
 
 -- Calls of keys may be left out of the book. The part has all calls of the book but those that are
 -- about some keys, answered where the book has them answered.
@@ -42,7 +43,7 @@ pub record LacksKeys (kind : Kind) (book : List Page) (names : List (List ℕ))
 pub record IsStep (kind : Kind) (book : List Page) (names : List (List ℕ))
     (part : List Page) : Type 0 where
   pub valid : IsValid book
-  pub rule : IsCutBack book names part ⊎ LacksReadOnlyCalls kind book names part
+  pub rule : IsCutBack book names part ⊎ LacksUnseenCalls kind book names part
       ⊎ LacksKeys kind book names part
 
 -- Steps lead from a book to a part, each with the numbers of the calls that stay in it. With no
@@ -82,10 +83,12 @@ EvidenceTells = (kind : Kind) (book : List Page) (names : List (List ℕ)) (part
 
 -- A part that is evidence of a book lacks no call that matters to an answer which it keeps: take a
 -- call of the part that is answered there, and the view that this call has in the book. Each call
--- that this view holds, and that is neither read-only nor about a key, is in the part.
+-- that this view holds, and that is neither read-only nor about a key, is in the part, unless it
+-- sets a list and the answered call can't tell.
 abbrev pub EvidenceKeepsTheRest : Type 0
 EvidenceKeepsTheRest = (kind : Kind) (book : List Page) (names : List (List ℕ)) (part : List Page)
     → IsEvidence kind book names part → (call other : Call) (r : Record) → IsAnswered part call
     → record_of book (original names call) ≡ Some r → Holds r.view other
-    → ¬ IsReadOnly (kind_next kind) book other → key_of_call kind book other ≡ None
-    → IsNamed names other
+    → ¬ IsReadOnly (kind_next kind) book other
+    → ¬ IsHiddenFrom (kind_next kind) book (original names call) other
+    → key_of_call kind book other ≡ None → IsNamed names other

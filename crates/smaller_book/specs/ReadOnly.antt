@@ -1,12 +1,12 @@
 -- The rule of read-only calls: they may be left out of a book.
-use Rattle.std.specs.Prelude.{◌≡◌, ℕ, ◌<◌, ◌⊎◌, ◌↔◌, List, length, slice_index, unwrap_or, Some}
+use Rattle.std.specs.Prelude.{◌≡◌, ℕ, ◌↔◌, List, unwrap_or, Some}
 use Rattle.book_base.specs.declared.call.Call.{Call}
 use Rattle.book_base.specs.declared.call.Record.{Record}
 use Rattle.book_base.specs.SeqSpec.{spec_from}
 use Rattle.book_base.specs.Book.{Page, IsCall, IsAnswered, operation_of, record_of, IsValid}
 use Rattle.book_base.specs.Order.{HasLegalOrder}
 use Rattle.book_base.specs.Reaching.{Leaves}
-use Rattle.smaller_book.specs.Part.{AreRising, IsNamed, IsPart, KeepsAnswers, CarriesOver}
+use Rattle.smaller_book.specs.Part.{IsNamed, IsPart, KeepsAnswers, CarriesOver}
 
 -- A call may have this reply: the reply is the recorded one where the call is answered, and any
 -- where it isn't.
@@ -29,16 +29,6 @@ IsReadOnly next book call =
 abbrev pub LacksReadOnlyAlone : (List ℕ → ℕ → List ℕ × ℕ) → List Page → List (List ℕ) → Type 0
 LacksReadOnlyAlone next book names = (call : Call) → IsCall book call → ¬ IsNamed names call
     → IsReadOnly next book call
-
--- The `numbers` rise and are less than `below`; each call of caller `i` whose number is less than
--- `below` and isn't among them is read-only.
-pub record LacksReadOnlyOf (next : List ℕ → ℕ → List ℕ × ℕ) (book : List Page) (i below : ℕ)
-    (numbers : List ℕ) : Type 0 where
-  pub rising : AreRising numbers
-  pub inside : (k : ℕ) → k < length numbers → slice_index numbers k < below
-  pub lacks : (number : ℕ) → number < below
-      → ((k : ℕ) × (k < length numbers) × (slice_index numbers k ≡ number))
-      ⊎ IsReadOnly next book (record { caller = i; number = number })
 
 -- Where a part lacks only read-only calls of the book, a legal order of the book gives one of the
 -- part, whichever list the object begins with.

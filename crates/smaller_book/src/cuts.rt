@@ -71,6 +71,7 @@ fn least_cut(alloc: Global, kind: Kind, book: &Book, cut: Cut) -> Result<Cut, No
 /// most n calls, for the least n with which there is no legal order. No book is answered where the
 /// book at this cut has no fewer calls.
 pub fn without_later(alloc: Global, kind: Kind, book: &Book) -> Result<Option<Smaller>, NoMemory>
+    // The book has no legal order.
     requires { ¬ HasLegalOrder (kind_spec kind) book.now }
     ensures { IfOk result (λ found. IfSome found (λ smaller.
         IsSmaller kind book.now (numbers_in smaller.numbers.items) smaller.book)) }
@@ -84,6 +85,7 @@ pub fn without_later(alloc: Global, kind: Kind, book: &Book) -> Result<Option<Sm
 /// each view holds at most one unanswered call of each caller. No book is answered where the book
 /// at this cut has no fewer calls, or where the whole book has at most `FEW_CALLS` calls.
 pub fn without_open(alloc: Global, kind: Kind, book: &Book) -> Result<Option<Smaller>, NoMemory>
+    // The book has no legal order.
     requires { ¬ HasLegalOrder (kind_spec kind) book.now }
     ensures { IfOk result (λ found. IfSome found (λ smaller.
         IsSmaller kind book.now (numbers_in smaller.numbers.items) smaller.book)) }

@@ -51,8 +51,8 @@ pub fn keys_may_go(kind: Kind, book: &Book) -> bool
     }
 }
 
-// The reply to a call, where it is answered.
-fn reply_of(book: &Book, call: Call) -> Option<u64>
+/// The reply to a call, where it is answered.
+pub fn reply_of(book: &Book, call: Call) -> Option<u64>
     requires { IsCall book.now call }
     ensures { result ≡ option_map (λ r. r.reply) (record_of book.now call) }
 {

@@ -1,6 +1,7 @@
 //! Laws of parts of a book. Each is the contract of a function with nothing in it.
 
 ghost use Rattle.smaller_book.specs.ReadOnly.{HasOneWithoutReadOnly, HasOneExactlyWithoutOpenReadOnly};
+ghost use Rattle.smaller_book.specs.Unseen.{HasOneWithoutUnseen};
 ghost use Rattle.smaller_book.specs.Keys.{HasOneWithoutKeys};
 ghost use Rattle.smaller_book.specs.Evidence.{EvidenceIsAPart, EvidenceCarriesOver, EvidenceTells, EvidenceKeepsTheRest};
 ghost use Rattle.smaller_book.specs.Minimal.{MinimalAtMoments, ClosedCutsAreMoments, FewCallsAtCuts, SeveralOpenAtCuts};
@@ -12,6 +13,15 @@ pub fn read_only_calls_may_be_left_out()
     // Where a part lacks only unanswered read-only calls, the book has a legal order exactly where
     // the part has one.
     ensures unanswered { HasOneExactlyWithoutOpenReadOnly }
+{}
+
+/// Calls that set the object's list, whatever the list was before, may be left out, many at once,
+/// where no call that stays can tell: each one is blind, precedes the call that goes, comes after
+/// one that overwrites what the call sets, or has a reply that the object doesn't give at the list
+/// that was set. Where a book has a legal order, each part that lacks only such calls and read-only
+/// ones has one.
+pub fn unseen_calls_may_be_left_out()
+    ensures { HasOneWithoutUnseen }
 {}
 
 /// All calls of some keys may be left out; of a queue, a stack or a priority queue where each view
@@ -39,7 +49,8 @@ pub fn evidence_is_a_part()
     // Each part that is evidence of a book is the part of it that has the calls with these numbers.
     ensures part { EvidenceIsAPart }
     // Each call that is held by the view of an answered call of the part, and that is neither
-    // read-only nor about a key, is in the part.
+    // read-only nor about a key, is in the part, unless it sets a list and the answered call can't
+    // tell.
     ensures rest { EvidenceKeepsTheRest }
 {}
 

@@ -10,18 +10,24 @@ mod keys;
 pub mod laws;
 mod numbered;
 mod open_cuts;
+mod read_only;
 mod read_only_calls;
 mod removal;
 mod shrinking;
 mod thinning;
+mod unseen_calls;
 
 pub use composing::{numbers_of_all, numbers_through};
-pub use cuts::earliest;
+pub use cuts::{earliest, without_later, without_open};
 pub use judging::calls_of_all;
-pub use keys::key_of;
+pub use keyless::without_halves;
+pub use keys::{key_of, keys_of};
 pub use numbered::{count_below, part};
-pub use removal::{Smaller, all_numbers_but, is_read_only, push_if};
+pub use read_only::is_read_only;
+pub use read_only_calls::{without_singles, without_slices};
+pub use removal::{Smaller, all_numbers_but, push_if};
 pub use shrinking::shrink;
+pub use unseen_calls::Going;
 
 /// A book has few calls where it has at most this many. Then it is tried at each earlier cut, also
 /// at one at which a view holds several unanswered calls of one caller.

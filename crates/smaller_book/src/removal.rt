@@ -1,17 +1,19 @@
-//! Read-only calls, taken out of a book.
-ghost use Rattle.std.specs.Prelude.{◌≡◌, ℕ, ◌+◌, ◌-◌, ◌<◌, ◌≤◌, ◌++◌, [], ◌∷◌, ◌↔◌, length, if◌then◌else◌, IfOk, IfSome, IfNone, OnOk, IsTrue};
+//! Single calls, taken out of a book.
+ghost use Rattle.std.specs.Prelude.{◌≡◌, ℕ, ◌+◌, ◌-◌, ◌<◌, ◌≤◌, ◌++◌, [], ◌∷◌, length, if◌then◌else◌, IfOk, IfSome, IfNone, OnOk, IsTrue};
 ghost use Rattle.std.specs.List.{range_with_len};
 ghost use Rattle.book_base.specs.declared.call.Call.{Call};
 ghost use Rattle.book_base.specs.Book.{calls_of, IsCall};
 ghost use Rattle.seq_objects.specs.Objects.{kind_next};
 ghost use Rattle.smaller_book.specs.Numbers.{numbers_in};
-ghost use Rattle.smaller_book.specs.ReadOnly.{LeavesAlways, IsReadOnly};
+ghost use Rattle.smaller_book.specs.ReadOnly.{IsReadOnly};
+ghost use Rattle.smaller_book.specs.Unseen.{MayGo};
 ghost use Rattle.smaller_book.specs.Minimal.{numbers_except, row_but, all_but, IsNeeded, IsSmaller};
 
 use crate::judging::is_illegal;
 use crate::numbered::part;
-use book_base::{Book, Call, NoMemory, OpWord, SeqObject};
-use seq_objects::{DONE, Kind, NONE, YES, wrapping_value_reply};
+use crate::unseen_calls::may_go;
+use book_base::{Book, Call, NoMemory};
+use seq_objects::Kind;
 use std::alloc::Global;
 
 /// A smaller book, with the numbers that its calls have in the book from which it was made: a list
@@ -22,9 +24,9 @@ pub struct Smaller {
     pub numbers: Vec<Vec<u64>>,
 }
 
-/// Leaves out the first read-only call, of the caller `from` or a later one, whose removal leaves a
-/// book without a legal order. The answer is that book with the call's caller; or no book, where
-/// the removal of any one read-only call of these callers leaves a book with a legal order.
+/// Leaves out the first call that may go, of the caller `from` or a later one, whose removal leaves
+/// a book without a legal order. The answer is that book with the call's caller; or no book, where
+/// the removal of any one of these calls leaves a book with a legal order.
 pub fn without_one(
     alloc: Global,
     kind: Kind,
@@ -47,8 +49,8 @@ pub fn without_one(
     Ok(None)
 }
 
-// The book without one read-only call of a caller, the first whose removal leaves a book without a
-// legal order. No book is answered where the caller has no such call.
+// The book without one call of a caller that may go, the first whose removal leaves a book without
+// a legal order. No book is answered where the caller has no such call.
 fn without_one_of(
     alloc: Global,
     kind: Kind,
@@ -63,7 +65,7 @@ fn without_one_of(
         → IsNeeded kind book.now (record { caller = caller; number = number }))) }
 {
     for number in 0..book.calls(caller) {
-        let found = without_if_read_only(alloc, kind, book, Call { caller, number })?;
+        let found = without_if_it_may_go(alloc, kind, book, Call { caller, number })?;
         match found {
             Some(smaller) => return Ok(Some(smaller)),
             None => {}
@@ -72,9 +74,8 @@ fn without_one_of(
     Ok(None)
 }
 
-// The book without this call, where the call is read-only and the book has no legal order without
-// it.
-fn without_if_read_only(
+// The book without this call, where the call may go and the book has no legal order without it.
+fn without_if_it_may_go(
     alloc: Global,
     kind: Kind,
     book: &Book,
@@ -86,21 +87,22 @@ fn without_if_read_only(
     ensures none { IfOk result (λ found. IfNone found
         (IsReadOnly (kind_next kind) book.now call → IsNeeded kind book.now call)) }
 {
-    if is_read_only(kind, book, call) {
+    if may_go(kind, book, call) {
         without(alloc, kind, book, call)
     } else {
         Ok(None)
     }
 }
 
-/// The book without this read-only call, if that smaller book has no legal order.
+/// The book without this call, which may go, if that smaller book has no legal order.
 pub fn without(
     alloc: Global,
     kind: Kind,
     book: &Book,
     call: Call,
 ) -> Result<Option<Smaller>, NoMemory>
-    requires { IsReadOnly (kind_next kind) book.now call }
+    requires call { IsCall book.now call }
+    requires goes { MayGo (kind_next kind) book.now call }
     ensures smaller { IfOk result (λ found. IfSome found (λ smaller.
         IsSmaller kind book.now (numbers_in smaller.numbers.items) smaller.book)) }
     ensures none { IfOk result (λ found. IfNone found
@@ -118,35 +120,6 @@ pub fn without(
     } else {
         Ok(None)
     }
-}
-
-/// Whether a call is read-only: its operation doesn't change any list at which it has the recorded
-/// reply, or no list at all where the call is unanswered.
-pub fn is_read_only(kind: Kind, book: &Book, call: Call) -> bool
-    // The call is one of the book.
-    requires { IsCall book.now call }
-    ensures { IsTrue result ↔ IsReadOnly (kind_next kind) book.now call }
-{
-    let _callers = book.callers();
-    let op = book.op(call);
-    if call.number < book.answers(call.caller) {
-        let record = book.record(call);
-        kind.leaves(op, record.reply)
-    } else {
-        leaves_always(kind, op)
-    }
-}
-
-// Whether an operation changes no list. Each operation of each kind that changes a list does so
-// with one of these replies.
-#[tactic(auto, using(crate::proofs::LeavingAlways::leaves_always))]
-fn leaves_always(kind: Kind, op: OpWord) -> bool
-    ensures { IsTrue result ↔ LeavesAlways (kind_next kind) op }
-{
-    kind.leaves(op, DONE)
-        && kind.leaves(op, NONE)
-        && kind.leaves(op, YES)
-        && kind.leaves(op, wrapping_value_reply(0))
 }
 
 /// For each caller of a book the numbers of its calls, with `call` left out.

@@ -1,4 +1,4 @@
-//! From a book without a legal order a part without one, which no rule makes smaller.
+//! From a book without a legal order a minimal part without one.
 ghost use Rattle.std.specs.Prelude.{◌≡◌, ◌<◌, ℕ, Some, IfOk, IfSome, IfNone};
 ghost use Rattle.book_base.specs.declared.call.Call.{Call};
 ghost use Rattle.book_base.specs.Book.{IsCall};
@@ -22,29 +22,31 @@ use book_base::{Book, NoMemory};
 use seq_objects::Kind;
 use std::alloc::Global;
 
-/// A part of a book that has no legal order: the part has none either, and no rule makes it
-/// smaller. No part is answered where the book has a legal order.
+/// A part of a book that has no legal order: the part has none either, and is minimal. No part is
+/// answered where the book has a legal order.
 ///
-/// The rules are three: the book at an earlier cut, the book without a read-only call of the
-/// object, answered or not, and the book without all calls of one key. A key is a value of a queue,
-/// a stack, a priority queue or a register, or the argument of an operation of a set or a map.
-/// Calls of a queue, a stack or a priority queue go by keys only where each view holds at most one
-/// unanswered call of each caller. Where more than `FEW_CALLS` calls are left, and each view holds
-/// at most one unanswered call of each caller, only such earlier cuts are tried at which each view
-/// of the book still holds at most one. The calls are numbered anew with new views, and the numbers
-/// that they had come with the book.
+/// The rules are three: the book at an earlier cut, the book without a call that may go, and the
+/// book without all calls of one key. Read-only calls may go, answered or not, and calls that set
+/// the value of a register, with or without compare-and-set, where no other call can tell. A key is
+/// a value of a queue, a stack, a priority queue or a register, or the argument of an operation of
+/// a set or a map. Calls of a queue, a stack or a priority queue go by keys only where each view
+/// holds at most one unanswered call of each caller. Where more than `FEW_CALLS` calls are left,
+/// and each view holds at most one unanswered call of each caller, only such earlier cuts are tried
+/// at which each view of the book still holds at most one. The calls are numbered anew with new
+/// views, and the numbers that they had come with the book.
 pub fn shrink(alloc: Global, kind: Kind, book: &Book) -> Result<Option<Smaller>, NoMemory>
     // Where no book is answered, the book has a legal order.
     ensures none { IfOk result (λ found. IfNone found (HasLegalOrder (kind_spec kind) book.now)) }
     // The smaller book is evidence of the book, and has its calls with the answered numbers: steps
-    // lead to it from the book, each back to an earlier cut, to a book without some read-only
-    // calls, or to one without all calls of some keys.
+    // lead to it from the book, each back to an earlier cut, to a book without some read-only and
+    // unseen calls, or to one without all calls of some keys.
     ensures evidence { IfOk result (λ found. IfSome found (λ smaller.
         IsEvidence kind book.now (numbers_in smaller.numbers.items) smaller.book)) }
     // The smaller book has no legal order.
     ensures illegal { IfOk result
         (λ found. IfSome found (λ smaller. ¬ HasLegalOrder (kind_spec kind) smaller.book)) }
-    // No rule makes the smaller book smaller still and keeps it without a legal order.
+    // The smaller book has a legal order at each earlier cut at which it is tried, without any one
+    // read-only call, and without all calls of any one key.
     ensures minimal { IfOk result (λ found. IfSome found (λ smaller.
         IsMinimal kind smaller.book)) }
 {
@@ -116,7 +118,7 @@ fn next_smaller(alloc: Global, kind: Kind, book: &Book) -> Result<Option<Smaller
     }
 }
 
-// The book without the calls of a key that isn't needed, or else without a read-only call that
+// The book without the calls of a key that isn't needed, or else without a call that may go and
 // isn't needed. No book is answered where each key and each read-only call is needed.
 fn without_calls(alloc: Global, kind: Kind, book: &Book) -> Result<Option<Smaller>, NoMemory>
     ensures smaller { IfOk result (λ found. IfSome found (λ smaller.

@@ -10,12 +10,13 @@ use crate::cuts::{without_later, without_open};
 use crate::keyless::without_halves;
 use crate::read_only_calls::{without_singles, without_slices};
 use crate::removal::Smaller;
+use crate::unseen_calls::Going;
 use book_base::{Book, NoMemory};
 use seq_objects::Kind;
 use std::alloc::Global;
 
 /// A smaller book without a legal order: the latest records go, and then the calls of keys and the
-/// read-only calls that can be left out, many at once and then single ones (after Zeller and
+/// calls that may go and can be left out, many at once and then single ones (after Zeller and
 /// Hildebrandt 2002). No book is answered where nothing can be left out.
 ///
 /// No answered call becomes unanswered while a view holds a later call of its caller: a search for
@@ -55,8 +56,8 @@ fn without_halves_too(
     }
 }
 
-// The smaller book found before, or else the book, without the read-only calls that can be left out
-// slice after slice; where none can, what was found before.
+// The smaller book found before, or else the book, without the calls that may go and can be left
+// out, slice after slice; where none can, what was found before.
 fn without_slices_too(
     alloc: Global,
     kind: Kind,
@@ -69,15 +70,15 @@ fn without_slices_too(
         IsSmaller kind book.now (numbers_in smaller.numbers.items) smaller.book)) }
 {
     match found {
-        None => without_slices(alloc, kind, book),
-        Some(smaller) => match without_slices(alloc, kind, &smaller.book)? {
+        None => without_slices(alloc, kind, Going::Unseen, book),
+        Some(smaller) => match without_slices(alloc, kind, Going::Unseen, &smaller.book)? {
             None => Ok(Some(smaller)),
             Some(next) => Ok(Some(smaller_still(alloc, kind, book, smaller, next)?)),
         },
     }
 }
 
-// The smaller book found before, or else the book, without the single read-only calls that can be
+// The smaller book found before, or else the book, without the single calls that may go and can be
 // left out; where none can, what was found before.
 fn without_singles_too(
     alloc: Global,
@@ -91,8 +92,8 @@ fn without_singles_too(
         IsSmaller kind book.now (numbers_in smaller.numbers.items) smaller.book)) }
 {
     match found {
-        None => without_singles(alloc, kind, book),
-        Some(smaller) => match without_singles(alloc, kind, &smaller.book)? {
+        None => without_singles(alloc, kind, Going::Unseen, book),
+        Some(smaller) => match without_singles(alloc, kind, Going::Unseen, &smaller.book)? {
             None => Ok(Some(smaller)),
             Some(next) => Ok(Some(smaller_still(alloc, kind, book, smaller, next)?)),
         },

@@ -1,4 +1,4 @@
-use Rattle.std.proofs.Common.{◌≡◌, ℕ, zero, suc, ◌<◌, [], ◌∷◌, refl, sym, arith}
+use Rattle.std.proofs.Common.{◌≡◌, ℕ, zero, suc, ◌<◌, [], ◌∷◌, refl, sym, inl, arith}
 use Rattle.std.proofs.lemmas.Option.{same_Some}
 use Rattle.book_base.specs.Book.{calls_of}
 use Rattle.seq_objects.specs.declared.kind.Kind.TheVariants as kinds
@@ -10,7 +10,7 @@ use Rattle.smaller_book.specs.Part.{IsNamed}
 use Rattle.smaller_book.specs.ReadOnly.{IsReadOnly}
 use Rattle.smaller_book.specs.Keys.{keys_from_to}
 use Rattle.smaller_book.proofs.LoneCalls.{first_call}
-use Rattle.smaller_book.proofs.Steps.{read_only_evidence, keys_evidence, evidence_part}
+use Rattle.smaller_book.proofs.Steps.{unseen_evidence, keys_evidence, evidence_part}
 use Rattle.judging_examples.specs.EvidenceBooks.{needless_read, needless_put, later_read, later_take}
 use Rattle.judging_examples.proofs.EvidenceBooks.{second_alone, two_are_valid, later_is_valid, later_is_part, later_keeps_answers, two_have_one_open, read_leaves, take_stays}
 use Rattle.judging_examples.proofs.evidence.parts_by_fewer_calls.Goals as goal
@@ -26,13 +26,14 @@ lacks_first (suc i) k less unnamed = absurd (omega (arith, less))
 pub returns-clause-read : goal.returns-clause-read
 returns-clause-read c =
     let asks : ℕ = operation read 0 in
-    read_only_evidence kinds.Register needless_read second_alone later_read
+    unseen_evidence kinds.Register needless_read second_alone later_read
     (two_are_valid asks asks (reply_value 0) (reply_value 6)) (later_is_valid asks (reply_value 6))
     (record {
       wide = refl;
       is_part = later_is_part asks asks (reply_value 0) (reply_value 6);
       answers = later_keeps_answers asks asks (reply_value 0) (reply_value 6);
-      read_only = λ call inside unnamed. lacks_first call.caller call.number inside unnamed;
+      unseen = λ call inside unnamed.
+          inl (lacks_first call.caller call.number inside unnamed);
     })
 
 pub returns-clause-take : goal.returns-clause-take

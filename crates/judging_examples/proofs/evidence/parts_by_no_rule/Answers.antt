@@ -1,27 +1,30 @@
-use Rattle.std.proofs.Common.{◌≡◌, ℕ, zero, suc, ◌+◌, ◌<◌, ◌∙◌, List, [], ◌∷◌, length, get_or, Some, None, refl, sym, ap, subst, inl, inr, arith}
+use Rattle.std.proofs.Common.{◌≡◌, ℕ, zero, suc, ◌+◌, ◌<◌, ◌≤◌, ◌∙◌, List, [], ◌∷◌, length, get_or, Some, None, refl, sym, ap, subst, inl, inr, arith}
 use Rattle.std.proofs.lemmas.Option.{same_Some, none-some, slice_get_within}
 use Rattle.book_base.specs.declared.call.Call.{Call}
 use Rattle.book_base.specs.declared.call.Record.{Record}
 use Rattle.book_base.specs.Cut.{Holds}
-use Rattle.book_base.specs.Book.{Page, page_of, calls_of, answers_of, IsCall, IsAnswered, record_of, IsValid}
+use Rattle.book_base.specs.Book.{Page, page_of, calls_of, answers_of, IsCall, IsAnswered, record_of, IsValid, Precedes}
 use Rattle.book_base.specs.BookAt.{IsBookAt}
 use Rattle.book_base.proofs.PageLemmas.{caller_from_call, caller_from_answer}
 use Rattle.legal_orders.proofs.BookAt.{record_of-part}
 use Rattle.judging_examples.specs.Books.{answer}
+use Rattle.judging_examples.specs.Runs.{operation}
 use Rattle.seq_objects.specs.declared.kind.Kind.{Kind}
 use Rattle.seq_objects.specs.declared.kind.Kind.TheVariants as kinds
-use Rattle.seq_objects.specs.Words.{is_known_word, entry_of, entries}
+use Rattle.seq_objects.specs.Words.{is_known_word, entry_of, entries, inc, read}
 use Rattle.seq_objects.specs.Replies.{reply_done, reply_value}
 use Rattle.seq_objects.specs.Objects.{kind_next}
 use Rattle.smaller_book.specs.Part.{original, IsPart, KeepsAnswers}
 use Rattle.smaller_book.specs.ReadOnly.{IsReadOnly}
+use Rattle.smaller_book.specs.Unseen.{IsHiddenFrom}
 use Rattle.smaller_book.specs.Keys.{key_of_call}
 use Rattle.smaller_book.specs.Evidence.{IsStep, AreSteps}
-use Rattle.judging_examples.specs.EvidenceBooks.{three_increments, last_increment, misread, read_alone, one_miscount, unanswered_increment}
-use Rattle.smaller_book.proofs.Following.{record_was}
+use Rattle.judging_examples.specs.EvidenceBooks.{three_increments, last_increment, read_of_write, read_alone, one_miscount, unanswered_increment}
+use Rattle.smaller_book.proofs.Following.{some_that, record_was}
 use Rattle.smaller_book.proofs.Evidence.{evidence_keeps_the_rest}
 use Rattle.smaller_book.proofs.Removing.{original_is_call}
 use Rattle.smaller_book.proofs.Steps.{book_at_some_cut, step_part, evidence_part}
+use Rattle.judging_examples.proofs.EvidenceBooks.{increments_views}
 use Rattle.judging_examples.proofs.evidence.parts_by_no_rule.Goals as goal
 
 -- The first call of caller 0.
@@ -47,6 +50,51 @@ increment_has_no_key : key_of_call kinds.Counter three_increments first_call ≡
 unfolding is_known_word entry_of entries
 increment_has_no_key = refl
 
+-- No call precedes the one that replies 1.
+none_precedes : (between : Call)
+    → ¬ Precedes three_increments between (record { caller = 2; number = 0 })
+none_precedes between before =
+    elim before [
+      | inl there ↦
+          let found = some_that (record_of three_increments between)
+          (λ (r : Record). get_or r.view 2 0 ≤ 0) there in
+          let holds : get_or found.0.view 2 0 ≡ 1 =
+          increments_views (λ i k v. get_or v 2 0 ≡ 1) refl refl refl between.caller between.number
+          found.0 found.1 in
+          omega (arith, found.2, holds)
+      | inr own ↦ omega (arith, own.1)
+    ]
+
+-- The increment that replies 1 tells that the first one has set the count 1.
+increment_is_seen : (number : ℕ) (r : Record)
+    → record_of three_increments (record { caller = 2; number = number }) ≡ Some r
+    → ¬ IsHiddenFrom (kind_next kinds.Counter) three_increments
+    (record { caller = 2; number = number }) first_call
+unfolding kind_next
+increment_is_seen zero r e (after, sets, cannot) =
+    let one : ◌≡◌ {A = List ℕ} (1 ∷ []) after =
+    sets (0 ∷ []) (λ s known. sym (ap (λ (x : Record). x.reply) (same_Some _ s known))) in
+    elim cannot [
+      | inl blind ↦
+          let same : ◌≡◌ {A = List ℕ} (1 ∷ []) (2 ∷ []) =
+          ap (λ (x : List ℕ × ℕ). x.0) (blind (0 ∷ []) (1 ∷ [])) in
+          let apart : ◌≡◌ {A = ℕ} 1 2 = ap (λ (xs : List ℕ). get_or xs 0 0) same in
+          omega (arith, apart)
+      | inr rest ↦ elim rest [
+        | inl earlier ↦ elim earlier [
+          | inl seen ↦ let low : 1 ≤ 0 = seen in omega (arith, low)
+          | inr own ↦ omega (arith, own.0)
+        ]
+        | inr last ↦ elim last [
+          | inl (between, changes, later, before) ↦ none_precedes between before
+          | inr differs ↦ differs (λ s known.
+              sym (ap (λ (x : Record). x.reply) (same_Some _ s known))
+              ∙ ap (λ (list : List ℕ). (kind_next kinds.Counter list (operation inc 0)).1) one)
+        ]
+      ]
+    ]
+increment_is_seen (suc number) r e hidden = absurd (none-some r e)
+
 pub returns-clause-increment : goal.returns-clause-increment
 returns-clause-increment c names evidence =
     let call : Call = record { caller = 2; number = 0 } in
@@ -55,15 +103,16 @@ returns-clause-increment c names evidence =
     let was = record_was three_increments names last_increment is call small refl in
     let named = evidence_keeps_the_rest kinds.Counter three_increments names last_increment evidence
     call first_call was.0 (omega arith) was.1 (last_view _ was.0 was.1) increment_changes
-    increment_has_no_key in
+    (increment_is_seen _ was.0 was.1) increment_has_no_key in
     omega (arith, is.calls 0, named.1)
 
 read_view : (number : ℕ) (r : Record)
-    → record_of misread (record { caller = 1; number = number }) ≡ Some r → Holds r.view first_call
+    → record_of read_of_write (record { caller = 1; number = number }) ≡ Some r
+    → Holds r.view first_call
 read_view zero r e = subst (λ (s : Record). Holds s.view first_call) (same_Some _ r e) (omega arith)
 read_view (suc number) r e = absurd (none-some r e)
 
-write_changes : ¬ IsReadOnly (kind_next kinds.CasRegister) misread first_call
+write_changes : ¬ IsReadOnly (kind_next kinds.CasRegister) read_of_write first_call
 unfolding kind_next
 write_changes leaves =
     let same : ◌≡◌ {A = List ℕ} (5 ∷ []) (0 ∷ []) =
@@ -72,19 +121,76 @@ write_changes leaves =
     let apart : ◌≡◌ {A = ℕ} 5 0 = ap (λ (xs : List ℕ). get_or xs 0 0) same in
     omega (arith, apart)
 
-write_has_no_key : key_of_call kinds.CasRegister misread first_call ≡ None
+write_has_no_key : key_of_call kinds.CasRegister read_of_write first_call ≡ None
 unfolding is_known_word entry_of entries
 write_has_no_key = refl
+
+-- No call stands between the write and the read.
+none_between : (i k : ℕ)
+    → Precedes read_of_write (record { caller = i; number = k })
+    (record { caller = 1; number = 0 })
+    → ¬ Precedes read_of_write first_call (record { caller = i; number = k })
+none_between zero zero before later = elim later [
+  | inl seen ↦ let low : 1 ≤ 0 = seen in omega (arith, low)
+  | inr own ↦ omega (arith, own.1)
+]
+none_between zero (suc k) before later = elim before [
+  | inl there ↦ absurd there
+  | inr own ↦ omega (arith, own.0)
+]
+none_between (suc zero) zero before later = elim before [
+  | inl seen ↦ let low : 1 ≤ 0 = seen in omega (arith, low)
+  | inr own ↦ omega (arith, own.1)
+]
+none_between (suc zero) (suc k) before later = elim before [
+  | inl there ↦ absurd there
+  | inr own ↦ omega (arith, own.1)
+]
+none_between (suc (suc i)) k before later = elim before [
+  | inl there ↦ absurd there
+  | inr own ↦ omega (arith, own.0)
+]
+
+-- The read tells that 5 was written.
+write_is_seen : (number : ℕ) (r : Record)
+    → record_of read_of_write (record { caller = 1; number = number }) ≡ Some r
+    → ¬ IsHiddenFrom (kind_next kinds.CasRegister) read_of_write
+    (record { caller = 1; number = number }) first_call
+unfolding kind_next
+write_is_seen zero r e (after, sets, cannot) =
+    let five : ◌≡◌ {A = List ℕ} (5 ∷ []) after =
+    sets (0 ∷ []) (λ s known. sym (ap (λ (x : Record). x.reply) (same_Some _ s known))) in
+    elim cannot [
+      | inl blind ↦
+          let same : ◌≡◌ {A = List ℕ} (0 ∷ []) (1 ∷ []) =
+          ap (λ (x : List ℕ × ℕ). x.0) (blind (0 ∷ []) (1 ∷ [])) in
+          let apart : ◌≡◌ {A = ℕ} 0 1 = ap (λ (xs : List ℕ). get_or xs 0 0) same in
+          omega (arith, apart)
+      | inr rest ↦ elim rest [
+        | inl earlier ↦ elim earlier [
+          | inl seen ↦ let low : 1 ≤ 0 = seen in omega (arith, low)
+          | inr own ↦ omega (arith, own.0)
+        ]
+        | inr last ↦ elim last [
+          | inl (between, changes, later, before) ↦
+              none_between between.caller between.number before later
+          | inr differs ↦ differs (λ s known.
+              sym (ap (λ (x : Record). x.reply) (same_Some _ s known))
+              ∙ ap (λ (list : List ℕ). (kind_next kinds.CasRegister list (operation read 0)).1) five)
+        ]
+      ]
+    ]
+write_is_seen (suc number) r e hidden = absurd (none-some r e)
 
 pub returns-clause-read : goal.returns-clause-read
 returns-clause-read c names evidence =
     let call : Call = record { caller = 1; number = 0 } in
-    let is = evidence_part kinds.CasRegister misread names read_alone evidence in
-    let small : Record = answer (reply_value 6) (0 ∷ 1 ∷ []) in
-    let was = record_was misread names read_alone is call small refl in
-    let named = evidence_keeps_the_rest kinds.CasRegister misread names read_alone evidence
+    let is = evidence_part kinds.CasRegister read_of_write names read_alone evidence in
+    let small : Record = answer (reply_value 5) (0 ∷ 1 ∷ []) in
+    let was = record_was read_of_write names read_alone is call small refl in
+    let named = evidence_keeps_the_rest kinds.CasRegister read_of_write names read_alone evidence
     call first_call was.0 (omega arith) was.1 (read_view _ was.0 was.1) write_changes
-    write_has_no_key in
+    (write_is_seen _ was.0 was.1) write_has_no_key in
     omega (arith, is.calls 0, named.1)
 
 -- Each call of the book is answered.

@@ -1,7 +1,7 @@
 use Rattle.std.proofs.Common.{◌≡◌, ◌∙◌, length, arith}
 use Rattle.seq_objects.specs.Objects.{kind_next}
 use Rattle.smaller_book.specs.Numbers.{numbers_in}
-use Rattle.smaller_book.proofs.Slices.{rows_more, rows_are_numbers, rows_lack_read_only}
+use Rattle.smaller_book.proofs.Slices.{rows_more, rows_are_numbers, rows_lack_unseen}
 use Rattle.smaller_book.proofs.read_only_calls.numbers_without_slice.Goals as goal
 
 pub loop-caller-preserved : goal.loop-caller-preserved
@@ -25,5 +25,5 @@ returns-clause-lacks c =
     let inv = c.loop-caller.invariant in
     let all : c.loop-caller.caller ≡ length book =
     omega (arith, c.callers-caller-end.ensures.count) in
-    rows_lack_read_only (kind_next c.args.kind) book (numbers_in c.loop-caller.rows.items)
+    rows_lack_unseen (kind_next c.args.kind) book (numbers_in c.loop-caller.rows.items)
     (λ i inside. inv.1 i (omega (arith, inside, all)))

@@ -2,7 +2,7 @@ use Rattle.std.proofs.Common.{sym, subst}
 use Rattle.smaller_book.specs.Part.{IsPart, KeepsAnswers}
 use Rattle.smaller_book.specs.Numbers.{numbers_in, AreNumbersOf}
 use Rattle.smaller_book.proofs.Removing.{size-less_at}
-use Rattle.smaller_book.proofs.Steps.{read_only_evidence}
+use Rattle.smaller_book.proofs.Steps.{unseen_evidence}
 use Rattle.smaller_book.proofs.read_only_calls.without_slice.Goals as goal
 
 pub part-requires : goal.part-requires
@@ -21,14 +21,14 @@ returns-then-branch c =
     c.in_ok-smaller.ensures.part in
     let fewer = c.has_fewer.ensures c.if-not-has_fewer.false in
     record {
-      evidence = read_only_evidence kind book (numbers_in c.in_ok-numbers.numbers.items) small
+      evidence = unseen_evidence kind book (numbers_in c.in_ok-numbers.numbers.items) small
           c.callers-callers.ensures.valid c.callers-of_part.ensures.valid
           (record {
             wide = c.in_ok-numbers.ensures.numbers.wide;
             is_part = is;
             answers = subst (λ rows. KeepsAnswers book (numbers_in rows) small)
                 c.deref.ensures.value c.in_ok-smaller.ensures.answers;
-            read_only = c.in_ok-numbers.ensures.lacks;
+            unseen = c.in_ok-numbers.ensures.lacks;
           });
       illegal = c.in_ok-is_illegal.ensures.illegal c.if-branch.true;
       fewer = size-less_at book (numbers_in c.in_ok-numbers.numbers.items) small fewer.0 is fewer.1;

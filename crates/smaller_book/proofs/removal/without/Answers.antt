@@ -3,19 +3,21 @@ use Rattle.book_base.specs.Book.{Page, IsCall}
 use Rattle.seq_objects.specs.Objects.{kind_next}
 use Rattle.smaller_book.specs.Part.{IsPart, KeepsAnswers}
 use Rattle.smaller_book.specs.Numbers.{numbers_in, AreNumbersOf}
+use Rattle.smaller_book.specs.Unseen.{MayGo}
 use Rattle.smaller_book.specs.Evidence.{IsEvidence}
 use Rattle.smaller_book.specs.Minimal.{all_but}
-use Rattle.smaller_book.proofs.Removing.{all_but_are_numbers, lacks_one_alone, size-less}
-use Rattle.smaller_book.proofs.Steps.{read_only_evidence}
+use Rattle.smaller_book.proofs.Removing.{all_but_are_numbers, lacks_one, size-less}
+use Rattle.smaller_book.proofs.Steps.{unseen_evidence}
+use Rattle.smaller_book.proofs.Unseen.{unseen_by_named}
 use Rattle.smaller_book.proofs.removal.without.Goals as goal
 
 pub all_numbers_but-requires : goal.all_numbers_but-requires
-all_numbers_but-requires c = c.requires.0
+all_numbers_but-requires c = c.requires.call
 
 pub part-requires : goal.part-requires
 part-requires c =
     let book = c.args.book.now in
-    let inside : IsCall book c.args.call = c.requires.0 in
+    let inside : IsCall book c.args.call = c.requires.call in
     subst (λ rows. AreNumbersOf book (numbers_in rows)) (sym c.deref.ensures.value)
     (subst (AreNumbersOf book) (sym c.in_ok-numbers.ensures)
     (all_but_are_numbers book c.args.call inside))
@@ -25,7 +27,7 @@ returns-then-branch-clause-smaller c =
     let book = c.args.book.now in
     let call = c.args.call in
     let small : List Page = c.in_ok-smaller.smaller in
-    let inside : IsCall book call = c.requires.0 in
+    let inside : IsCall book call = c.requires.call in
     let is : IsPart book (numbers_in c.in_ok-numbers.numbers.items) small =
     subst (λ rows. IsPart book (numbers_in rows) small) c.deref.ensures.value
     c.in_ok-smaller.ensures.part in
@@ -38,13 +40,16 @@ returns-then-branch-clause-smaller c =
     record {
       evidence = subst (λ names. IsEvidence c.args.kind book names small)
           (sym c.in_ok-numbers.ensures)
-          (read_only_evidence c.args.kind book (all_but book call) small
+          (unseen_evidence c.args.kind book (all_but book call) small
           c.callers-callers.ensures.valid c.callers-of_part.ensures.valid
           (record {
             wide = (all_but_are_numbers book call inside).wide;
             is_part = but;
             answers = answers;
-            read_only = lacks_one_alone (kind_next c.args.kind) book call inside c.requires;
+            unseen = λ other there unnamed.
+                unseen_by_named (kind_next c.args.kind) book (all_but book call) other unnamed
+                (lacks_one (MayGo (kind_next c.args.kind) book) book call inside c.requires.goes
+                other there unnamed);
           }));
       illegal = c.in_ok-is_illegal.ensures.illegal c.if-branch.true;
       fewer = size-less book call small inside but;

@@ -2,7 +2,7 @@ use Rattle.std.proofs.Common.{arith}
 use Rattle.book_base.specs.Book.{IsAnswered}
 use Rattle.seq_objects.specs.Objects.{kind_next}
 use Rattle.smaller_book.proofs.ReadOnly.{answered_read_only, unanswered_read_only}
-use Rattle.smaller_book.proofs.removal.is_read_only.Goals as goal
+use Rattle.smaller_book.proofs.read_only.is_read_only.Goals as goal
 
 pub returns-then-call-answers : goal.returns-then-call-answers
 returns-then-call-answers c =
