@@ -101,8 +101,8 @@ SELFCHECK_EXPORT uint32_t selfcheck_smaller(const uint8_t *text, size_t length, 
     size_t room, size_t *written, struct selfcheck_refusal *refusal);
 
 /* Writes into the buffer why the book has no legal order that such a text gives, and the length of that into `written`:
- * which rule of its kind it breaks, and by which calls, in one line; or, where it breaks none, a longest legal prefix and the
- * calls that may come next after it. ILLEGAL where it has no legal order; DONE where no rule is broken and it has a legal
+ * which rule of its kind it breaks, and by which calls, in one line; or, where it breaks none, its longest legal prefixes, at
+ * most eight, and the calls that may come next after each. ILLEGAL where it has no legal order; DONE where no rule is broken and it has a legal
  * order, or has too many legal prefixes to try, which one line says; REFUSED, NO_MEMORY or NO_ROOM; but for ILLEGAL and DONE
  * the buffer is as it was. All pairs of calls are tried: it is made for small books, as selfcheck_smaller writes. */
 SELFCHECK_EXPORT uint32_t selfcheck_explain(const uint8_t *text, size_t length, uint8_t *buffer,

@@ -197,8 +197,8 @@ def smaller(book):
 def explain(book):
     """Why the book has no legal order that the text gives: which rule of its kind it breaks, and by which calls, in one line.
 
-    Of a book that breaks no rule it is a longest legal prefix, a line for each of its calls, and the calls that may come next
-    after it, with the reply that the object gives each. None where no rule is broken and the book has a legal order, or has too
+    Of a book that breaks no rule it is its longest legal prefixes, at most eight: of each a line for each of its calls, and
+    the calls that may come next after it, with the reply that the object gives each. None where no rule is broken and the book has a legal order, or has too
     many legal prefixes to try. All pairs of calls are tried, so that this is made for what `smaller` gives. Reads and raises as
     `smaller` does.
     """

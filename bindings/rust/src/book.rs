@@ -86,8 +86,8 @@ impl<K: Kind> Book<K> {
     }
 
     /// Why the book has no legal order: which rule of its kind it breaks, and by which calls, in one line; or, where it
-    /// breaks none, a longest legal prefix, a line for each of its calls, and the calls that may come next after it, with
-    /// the reply that the object gives each. `None` where no rule is broken and the book has a legal order, or has too many
+    /// breaks none, its longest legal prefixes, at most eight: of each a line for each of its calls, and the calls that may
+    /// come next after it, with the reply that the object gives each. `None` where no rule is broken and the book has a legal order, or has too many
     /// legal prefixes to try. All pairs of calls are tried, so that this is made for small books.
     ///
     /// # Errors

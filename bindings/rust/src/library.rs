@@ -357,8 +357,8 @@ pub fn smaller(text: impl AsRef<[u8]>) -> Result<Option<String>, Fault> {
 }
 
 /// Why the book has no legal order that the text gives: which rule of its kind it breaks, and by which calls, in one line;
-/// or, where it breaks none, a longest legal prefix, a line for each of its calls, and the calls that may come next after
-/// it, with the reply that the object gives each. `None` where no rule is broken and the book has a legal order, or has too
+/// or, where it breaks none, its longest legal prefixes, at most eight: of each a line for each of its calls, and the calls
+/// that may come next after it, with the reply that the object gives each. `None` where no rule is broken and the book has a legal order, or has too
 /// many legal prefixes to try. The text is read as [`smaller`] reads it. All pairs of calls are tried, so that this is made
 /// for small books.
 ///

@@ -6,10 +6,9 @@ use Rattle.broken_rules.specs.declared.rule.BrokenRule.{BrokenRule}
 use Rattle.broken_rules.specs.Rules.{Breaks}
 use Rattle.broken_rules.specs.Texts.{broken_text}
 use Rattle.given_book.specs.Given.{IsGiven}
-use Rattle.legal_prefixes.specs.declared.blocked.Blocked.{Blocked}
 use Rattle.legal_prefixes.specs.declared.prefix.LegalPrefix.{LegalPrefix}
-use Rattle.legal_prefixes.specs.Longest.{IsLongest, AreAllBlocked}
-use Rattle.legal_prefixes.specs.Texts.{longest_text}
+use Rattle.legal_prefixes.specs.Longest.{AreLongest}
+use Rattle.legal_prefixes.specs.Texts.{TellsPrefixes}
 use Rattle.seq_objects.specs.declared.kind.Kind.{Kind}
 use Rattle.seq_objects.specs.Objects.{kind_spec}
 use Rattle.given_book.specs.declared.explained.Explanation.{Explanation}
@@ -25,16 +24,14 @@ pub record SaysBroken (kind : Kind) (book : List Page) (text : List ℕ) : Type 
   pub breaks : Breaks kind book broken
   pub written : text ≡ broken_text kind book broken
 
--- A book breaks none of the rules of its kind, and the text is that of a longest legal prefix of it,
--- with all calls that may come next after this prefix, each with the reply that the object gives it
+-- A book breaks none of the rules of its kind, and the text is that of its longest legal prefixes,
+-- each with all calls that may come next after it, and with the reply that the object gives each call
 -- there, which isn't the recorded one.
 pub record SaysLongest (kind : Kind) (book : List Page) (text : List ℕ) : Type 0 where
   pub none : BreaksNone kind book
-  pub prefix : LegalPrefix
-  pub longest : IsLongest kind book prefix
-  pub all : List Blocked
-  pub blocked : AreAllBlocked kind book prefix.cut prefix.words.items all
-  pub written : text ≡ longest_text kind book prefix all
+  pub prefixes : List LegalPrefix
+  pub longest : AreLongest kind book prefixes
+  pub written : TellsPrefixes kind book prefixes text
 
 -- The bytes give a book that has no legal order, and the text says why: which rule it breaks, or how
 -- far a legal order could begin.
@@ -46,7 +43,7 @@ pub record IsExplained (bytes text : List ℕ) : Type 0 where
   pub why : SaysBroken kind book text ⊎ SaysLongest kind book text
 
 -- A book has a legal order, and the text says that it breaks none of the rules of its kind; or the
--- text says that it breaks none, and that the search for a longest legal prefix gave up.
+-- text says that it breaks none, and that the search for the longest legal prefixes gave up.
 abbrev pub SaysOnlyNone : Kind → List Page → List ℕ → Type 0
 SaysOnlyNone kind book text =
     (HasLegalOrder (kind_spec kind) book × (text ≡ codes "no rule of these is broken\n"))

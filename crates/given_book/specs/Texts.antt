@@ -30,8 +30,8 @@ pub record IsIllegalGiven (bytes : List ℕ) : Type 0 where
   pub told : IsGiven bytes kind book
   pub illegal : ¬ (HasLegalOrder (kind_spec kind) book)
 
--- The bytes give a book, and the text is that of a part that is evidence of it, that has no legal
--- order, and that no rule makes smaller.
+-- The bytes give a book, and the text is that of a part that is evidence of it, has no legal order
+-- and is minimal.
 pub record IsSmallerWitness (bytes text : List ℕ) : Type 0 where
   pub kind : Kind
   pub book : List Page

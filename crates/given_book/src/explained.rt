@@ -8,32 +8,33 @@ ghost use Rattle.given_book.specs.Explaining.{IsExplanationOf};
 use crate::read_given;
 use book_base::ReadFault;
 use broken_rules::{broken_line, broken_rule};
-use legal_prefixes::{LongestPrefix, blocked_after, longest_prefix, prefix_text};
+use legal_prefixes::{LongestPrefixes, longest_prefixes, prefixes_text};
 use std::alloc::Global;
 
 /// What is said of a book: why it has no legal order, or that no rule of its kind is broken.
 pub enum Explanation {
     /// The book has no legal order: it breaks a rule of its kind, and the text says which one and by
-    /// which calls; or it breaks none, and the text is that of a longest legal prefix.
+    /// which calls; or it breaks none, and the text is that of its longest legal prefixes.
     Illegal(Vec<u8>),
     /// The book breaks none of the rules. Either it has a legal order, or there are too many legal
-    /// prefixes to look for a longest one, and then the text says that.
+    /// prefixes to look for the longest ones, and then the text says that.
     NoneBroken(Vec<u8>),
 }
 
 /// Which rule of its kind the book breaks that the bytes give, in one line. Where it breaks none and
-/// has no legal order: a longest legal prefix of the book, a line for each of its calls, and the calls
-/// that may come next after it, each with the reply that the object gives it there. The search for
-/// such a prefix gives up where it would be long.
+/// has no legal order: the longest legal prefixes of the book, and for each a line for each of its
+/// calls, and the calls that may come next after it, each with the reply that the object gives it
+/// there. At most eight are told, and how many more there are. The search for such prefixes gives up
+/// where it would be long.
 ///
 /// A text fault names the first line that is wrong, counted from the title of the book, and the
 /// first test that this line fails.
 pub fn explained_text(alloc: Global, bytes: &[u8]) -> Result<Explanation, ReadFault>
     // With `Illegal` the bytes give a book that has no legal order, and the text says which rule of
-    // its kind it breaks; or it breaks none, and the text is that of a longest legal prefix and the
-    // calls that may come next after it. With `NoneBroken` the book breaks none of the rules, and the
-    // text says that; either it has a legal order, or the text says that the search for a longest
-    // legal prefix gave up.
+    // its kind it breaks; or it breaks none, and the text is that of its longest legal prefixes and
+    // the calls that may come next after each. With `NoneBroken` the book breaks none of the rules,
+    // and the text says that; either it has a legal order, or the text says that the search for the
+    // longest legal prefixes gave up.
     ensures explained { IfOk result (IsExplanationOf bytes.now) }
     // An error is the first fault of the bytes, which then give no book, or that memory ran out.
     ensures refused { IfErr result (IsNotGiven bytes.now) }
@@ -56,16 +57,15 @@ fn explained(alloc: Global, bytes: &[u8]) -> Result<Explanation, ReadFault>
     let (kind, book) = read_given(alloc, bytes)?;
     match broken_rule(kind, &book) {
         Some(broken) => Ok(Explanation::Illegal(broken_line(alloc, kind, &book, broken)?)),
-        None => match longest_prefix(alloc, kind, &book)? {
-            LongestPrefix::Longest(prefix) => {
-                let all = blocked_after(alloc, kind, &book, &prefix)?;
-                let text = prefix_text(alloc, kind, &book, &prefix, &all)?;
+        None => match longest_prefixes(alloc, kind, &book)? {
+            LongestPrefixes::Longest(prefixes) => {
+                let text = prefixes_text(alloc, kind, &book, &prefixes)?;
                 Ok(Explanation::Illegal(text))
             }
-            LongestPrefix::Whole => {
+            LongestPrefixes::Whole => {
                 Ok(Explanation::NoneBroken(b"no rule of these is broken\n".to_vec(alloc)?))
             }
-            LongestPrefix::Many => Ok(Explanation::NoneBroken(
+            LongestPrefixes::Many => Ok(Explanation::NoneBroken(
                 b"no rule of these is broken, and there are too many legal prefixes to try\n".to_vec(
                     alloc,
                 )?,

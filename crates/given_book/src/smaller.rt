@@ -16,8 +16,7 @@ use std::alloc::Global;
 /// first test that this line fails.
 pub fn smaller_text(alloc: Global, bytes: &[u8]) -> Result<Option<Vec<u8>>, ReadFault>
     // With `None` the bytes give a book that has a legal order. With a text they give a book that
-    // has none, and the text is that of a part of it without a legal order that no rule makes
-    // smaller.
+    // has none, and the text is that of a minimal part of it without a legal order.
     ensures smaller { IfOk result (λ found.
         MatchOption found (IsLegalGiven bytes.now)
         (λ text. IsSmallerWitness bytes.now text.items)) }

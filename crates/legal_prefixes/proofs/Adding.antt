@@ -15,7 +15,7 @@ use Rattle.seq_objects.specs.declared.kind.Kind.{Kind}
 use Rattle.seq_objects.specs.Objects.{kind_next, kind_init, length-kind_next}
 use Rattle.legal_prefixes.specs.declared.prefix.LegalPrefix.{LegalPrefix}
 use Rattle.legal_prefixes.specs.Prefixes.{Lead, no_calls}
-use Rattle.legal_prefixes.specs.Layers.{IsPrefixOf, ArePrefixesOf, IsListed, AddsCall, AddsNext, ListNext}
+use Rattle.legal_prefixes.specs.Layers.{IsPrefixOf, ArePrefixesOf, IsListed, AreApart, AddsCall, AddsNext, ListNext}
 use Rattle.legal_prefixes.proofs.Leading.{lead-one_more}
 
 -- the item of a list at an index within it
@@ -45,6 +45,38 @@ pub listed-last : (prefixes : List LegalPrefix) (prefix : LegalPrefix) (cut list
     → prefix.cut ≡ cut → prefix.words.items ≡ list → IsListed (prefixes ++ prefix ∷ []) cut list
 listed-last prefixes prefix cut list same_cut same_list =
     (length prefixes, prefix, slice_get-push_last prefixes prefix, same_cut, same_list)
+
+-- Prefixes stay apart where one is added that leads to a cut and a list that aren't listed.
+pub apart-push : (prefixes : List LegalPrefix) (prefix : LegalPrefix) (cut list : List ℕ)
+    → prefix.cut ≡ cut → prefix.words.items ≡ list → AreApart prefixes
+    → (IsListed prefixes cut list → ⊥) → AreApart (prefixes ++ prefix ∷ [])
+apart-push prefixes prefix cut list same_cut same_list rest never j k one other has_one has_other cuts lists =
+    elim (slice_get-push_cases prefixes prefix j one has_one) [
+      | inl one_before ↦
+          elim (slice_get-push_cases prefixes prefix k other has_other) [
+            | inl other_before ↦ rest j k one other one_before other_before cuts lists
+            | inr other_here ↦
+                absurd (never (
+                  j,
+                  one,
+                  one_before,
+                  cuts ∙ ap (λ (p : LegalPrefix). p.cut) other_here.1 ∙ same_cut,
+                  lists ∙ ap (λ (p : LegalPrefix). p.words.items) other_here.1 ∙ same_list,
+                ))
+          ]
+      | inr one_here ↦
+          elim (slice_get-push_cases prefixes prefix k other has_other) [
+            | inl other_before ↦
+                absurd (never (
+                  k,
+                  other,
+                  other_before,
+                  sym cuts ∙ ap (λ (p : LegalPrefix). p.cut) one_here.1 ∙ same_cut,
+                  sym lists ∙ ap (λ (p : LegalPrefix). p.words.items) one_here.1 ∙ same_list,
+                ))
+            | inr other_here ↦ one_here.0 ∙ sym other_here.0
+          ]
+    ]
 
 -- the call of a place that may stand next is the next one of its caller
 pub next_is : (book : List Page) (next : List ℕ → ℕ → List ℕ × ℕ) (cut list : List ℕ) (caller : ℕ)

@@ -12,8 +12,8 @@ use Rattle.seq_objects.specs.Objects.{kind_next, kind_init, kind_spec, length-ki
 use Rattle.legal_prefixes.specs.declared.TheConstants.{LIST_ROOM}
 use Rattle.legal_prefixes.specs.declared.prefix.LegalPrefix.{LegalPrefix}
 use Rattle.legal_prefixes.specs.Prefixes.{Lead, no_calls, IsLegalPrefix}
-use Rattle.legal_prefixes.specs.Layers.{IsPrefixOf, ArePrefixesOf, ListNext, GoesThrough, IsLayer}
-use Rattle.legal_prefixes.specs.Longest.{IsLongest}
+use Rattle.legal_prefixes.specs.Layers.{IsPrefixOf, ArePrefixesOf, AreApart, ListNext, GoesThrough, IsLayer}
+use Rattle.legal_prefixes.specs.Longest.{NoneLonger, IsLongest, AreLongest}
 use Rattle.legal_prefixes.proofs.Leading.{lead-one_more, prefix_from_order, order_from_prefix}
 
 -- no place is listed in an empty list
@@ -50,14 +50,14 @@ goes_on kind book layer next count places cut list all it (place ∷ rest) long 
       count = omega arith;
     }
 
--- The one place to which a legal prefix as long as a layer's goes through it.
+-- A legal prefix as long as those of a layer leads to where the one leads that it goes through.
 ends_there : (kind : Kind) (book : List Page) (layer : List LegalPrefix) (count : ℕ)
     (places : List Place) (cut list : List ℕ)
     → (it : GoesThrough kind book layer count places cut list)
     → (rest : List Place)
     → Lead book (kind_next kind) it.prefix.cut it.prefix.words.items rest cut list
-    → length rest ≡ 0 → it.prefix.cut ≡ cut
-ends_there kind book layer count places cut list it [] leads none = leads.0
+    → length rest ≡ 0 → (it.prefix.cut ≡ cut) × (it.prefix.words.items ≡ list)
+ends_there kind book layer count places cut list it [] leads none = leads
 ends_there kind book layer count places cut list it (place ∷ rest) leads none = absurd (omega arith)
 
 -- After a layer none of whose prefixes holds all answered calls comes the layer of its next ones.
@@ -65,10 +65,12 @@ pub next_layer : (kind : Kind) (book : List Page) (count : ℕ) (layer next : Li
     → IsLayer kind book count layer
     → ((k : ℕ) (prefix : LegalPrefix) → slice_get layer k ≡ Some prefix
     → HoldsAnswered book prefix.cut → ⊥)
-    → ArePrefixesOf kind book (count + 1) next → ListNext kind book layer (length layer) next
+    → ArePrefixesOf kind book (count + 1) next → AreApart next
+    → ListNext kind book layer (length layer) next
     → IsLayer kind book (count + 1) next
-next_layer kind book count layer next here none right all = record {
+next_layer kind book count layer next here none right apart all = record {
   right = right;
+  apart = apart;
   through = λ (places : List Place) (cut list : List ℕ)
       (legal : IsLegalPrefix kind book places cut list) (long : count + 1 ≤ length places).
       let it = here.through places cut list legal (omega arith) in
@@ -80,10 +82,9 @@ next_layer kind book count layer next here none right all = record {
         | inl shorter ↦ here.unfinished places cut list legal shorter holds
         | inr as_long ↦
             let it = here.through places cut list legal as_long in
-            let same : it.prefix.cut ≡ cut =
-            ends_there kind book layer count places cut list it it.rest it.leads
+            let same = ends_there kind book layer count places cut list it it.rest it.leads
             (omega (arith, it.count)) in
-            none it.index it.prefix it.has (subst (HoldsAnswered book) (sym same) holds)
+            none it.index it.prefix it.has (subst (HoldsAnswered book) (sym same.0) holds)
       ];
 }
 
@@ -115,6 +116,43 @@ longest_from_layer kind book count layer k prefix here none few has =
       wide = right.wide;
       short = omega (arith, right.short);
     }
+
+-- No layer that has a prefix is of more places than a prefix than which none is longer.
+as_long : (kind : Kind) (book : List Page) (count : ℕ) (layer : List LegalPrefix) (size : ℕ)
+    → IsLayer kind book count layer → 0 < length layer → NoneLonger kind book size → count ≤ size
+as_long kind book count [] size here some longest = absurd (omega arith)
+as_long kind book count (prefix ∷ rest) size here some longest =
+    let right = here.right 0 prefix refl in
+    omega (
+      arith,
+      right.count,
+      longest prefix.places.items prefix.cut prefix.words.items right.leads,
+    )
+
+-- Before the first layer that is empty comes the layer of all longest legal prefixes.
+pub all_longest : (kind : Kind) (book : List Page) (count : ℕ) (layer : List LegalPrefix)
+    → IsLayer kind book count layer → IsLayer kind book (count + 1) [] → count + 2 ≤ LIST_ROOM
+    → 0 < length layer → AreLongest kind book layer
+all_longest kind book count layer here none few some = record {
+  some = some;
+  each = λ (k : ℕ) (prefix : LegalPrefix) (has : slice_get layer k ≡ Some prefix).
+      longest_from_layer kind book count layer k prefix here none few has;
+  apart = here.apart;
+  whole = λ (places : List Place) (cut list : List ℕ)
+      (legal : IsLegalPrefix kind book places cut list)
+      (longest : NoneLonger kind book (length places)).
+      let it = here.through places cut list legal
+      (as_long kind book count layer (length places) here some longest) in
+      elim (cases_lt count (length places)) [
+        | inl longer ↦
+            let beyond = none.through places cut list legal (omega arith) in
+            absurd (none_listed beyond.index beyond.prefix beyond.has)
+        | inr short ↦
+            let same = ends_there kind book layer count places cut list it it.rest it.leads
+            (omega (arith, it.count)) in
+            (it.index, it.prefix, it.has, same.0, same.1)
+      ];
+}
 
 -- A layer with a prefix that holds all answered calls gives a legal order.
 pub order_from_layer : (kind : Kind) (book : List Page) (count : ℕ) (layer : List LegalPrefix)
@@ -152,6 +190,14 @@ pub first_layer : (kind : Kind) (book : List Page) (prefix : LegalPrefix)
 first_layer kind book prefix right same_cut same_list = record {
   right = λ (k : ℕ) (other : LegalPrefix) (has : slice_get (prefix ∷ []) k ≡ Some other).
       first_right kind book prefix right k other has;
+  apart = λ (j k : ℕ) (one other : LegalPrefix) (has_one : slice_get (prefix ∷ []) j ≡ Some one)
+      (has_other : slice_get (prefix ∷ []) k ≡ Some other) (cuts : one.cut ≡ other.cut)
+      (lists : one.words.items ≡ other.words.items).
+      omega (
+        arith,
+        slice_get_within (prefix ∷ []) j one has_one,
+        slice_get_within (prefix ∷ []) k other has_other,
+      );
   through = λ (places : List Place) (cut list : List ℕ)
       (legal : IsLegalPrefix kind book places cut list) (long : 0 ≤ length places). record {
         index = 0;
@@ -190,10 +236,11 @@ pub layer_after : (kind : Kind) (book : List Page) (count : ℕ)
     → IsLayer kind book count layer
     → ((k : ℕ) (prefix : LegalPrefix) → slice_get seen k ≡ Some prefix
     → HoldsAnswered book prefix.cut → ⊥)
-    → ArePrefixesOf kind book (count + 1) next → ListNext kind book read (length read) next
+    → ArePrefixesOf kind book (count + 1) next → AreApart next
+    → ListNext kind book read (length read) next
     → IsLayer kind book (count + 1) next
-layer_after kind book count layer seen read next same_seen same_read here none right all =
+layer_after kind book count layer seen read next same_seen same_read here none right apart all =
     next_layer kind book count layer next here
     (λ (k : ℕ) (prefix : LegalPrefix) (has : slice_get layer k ≡ Some prefix).
     none k prefix (ap (λ (xs : List LegalPrefix). slice_get xs k) same_seen ∙ has))
-    right (subst (λ (xs : List LegalPrefix). ListNext kind book xs (length xs) next) same_read all)
+    right apart (subst (λ (xs : List LegalPrefix). ListNext kind book xs (length xs) next) same_read all)

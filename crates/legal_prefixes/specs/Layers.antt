@@ -27,6 +27,12 @@ abbrev pub IsListed : List LegalPrefix → List ℕ → List ℕ → Type 0
 IsListed prefixes cut list = (k : ℕ) × (prefix : LegalPrefix)
     × (slice_get prefixes k ≡ Some prefix) × (prefix.cut ≡ cut) × (prefix.words.items ≡ list)
 
+-- No two of some prefixes lead to the same cut and the same list.
+abbrev pub AreApart : List LegalPrefix → Type 0
+AreApart prefixes = (j k : ℕ) (one other : LegalPrefix)
+    → slice_get prefixes j ≡ Some one → slice_get prefixes k ≡ Some other
+    → one.cut ≡ other.cut → one.words.items ≡ other.words.items → j ≡ k
+
 -- The prefixes `new` list what `old` lists, and what comes of a prefix by the next call of a caller,
 -- where this may stand next.
 pub record AddsCall (kind : Kind) (book : List Page) (prefix : LegalPrefix) (caller : ℕ)
@@ -66,11 +72,12 @@ pub record GoesThrough (kind : Kind) (book : List Page) (layer : List LegalPrefi
   pub leads : Lead book (kind_next kind) prefix.cut prefix.words.items rest cut list
   pub count : length places ≡ size + length rest
 
--- Some prefixes are the layer of `count` places: each is right for the book, each legal prefix of at
--- least so many places goes through one of them, and no legal prefix of less places holds all answered
--- calls.
+-- Some prefixes are the layer of `count` places: each is right for the book, no two lead to the same
+-- cut and list, each legal prefix of at least so many places goes through one of them, and no legal
+-- prefix of less places holds all answered calls.
 pub record IsLayer (kind : Kind) (book : List Page) (count : ℕ) (layer : List LegalPrefix) : Type 0 where
   pub right : ArePrefixesOf kind book count layer
+  pub apart : AreApart layer
   pub through : (places : List Place) (cut list : List ℕ)
       → IsLegalPrefix kind book places cut list → count ≤ length places
       → GoesThrough kind book layer count places cut list

@@ -1,5 +1,5 @@
--- The text of a longest legal prefix of a book, and of the calls that may come next after it.
-use Rattle.std.specs.Prelude.{ℕ, ◌/◌, ◌%◌, ◌^◌, List, [], ◌∷◌, ◌++◌, length, flat_map, codes, decimal, unwrap_or}
+-- The text of the longest legal prefixes of a book, and of the calls that may come next after each.
+use Rattle.std.specs.Prelude.{◌≡◌, ℕ, zero, suc, ◌-◌, ◌/◌, ◌%◌, ◌^◌, ◌==◌, min, if◌then◌else◌, List, [], ◌∷◌, ◌++◌, length, Some, slice_get, flat_map, codes, decimal, unwrap_or}
 use Rattle.book_base.specs.declared.call.Call.{Call}
 use Rattle.book_base.specs.declared.call.Place.{Place}
 use Rattle.book_base.specs.Book.{Page, operation_of}
@@ -10,6 +10,8 @@ use Rattle.seq_objects.specs.Replies.{reply_word}
 use Rattle.seq_objects.specs.Words.{operation_text}
 use Rattle.legal_prefixes.specs.declared.prefix.LegalPrefix.{LegalPrefix}
 use Rattle.legal_prefixes.specs.declared.blocked.Blocked.{Blocked}
+use Rattle.legal_prefixes.specs.declared.text.TheConstants.{MOST_TOLD}
+use Rattle.legal_prefixes.specs.Longest.{AreAllBlocked}
 
 -- a call by its caller and its number, as in the text of a book, and its operation
 abbrev pub call_text : Kind → List Page → Call → List ℕ
@@ -38,17 +40,46 @@ abbrev pub held_text : Kind → List ℕ → List ℕ
 held_text kind [] = codes " nothing"
 held_text kind (item ∷ items) = flat_map (item_text kind) (item ∷ items)
 
+-- what stands after a number of calls: that there is one, or that there are more or none
+abbrev pub calls_text : ℕ → List ℕ
+calls_text calls = if calls == 1 then codes " call:\n" else codes " calls:\n"
+
 -- the line that says how many places a longest legal prefix has
 abbrev pub start_text : ℕ → List ℕ
 start_text places =
     codes "no rule of these is broken; a longest legal prefix has " ++ decimal places
-    ++ codes " calls:\n"
+    ++ calls_text places
 
--- The text of a prefix and of blocked calls: how many places the prefix has, a line for each of them,
--- what the object holds after them, and a line for each blocked call.
-abbrev pub longest_text : Kind → List Page → LegalPrefix → List Blocked → List ℕ
-longest_text kind book prefix all =
-    start_text (length prefix.places.items)
-    ++ flat_map (place_line kind book) prefix.places.items ++ codes "then the object holds"
+-- The text of a prefix and of blocked calls: a line for each place of the prefix, what the object
+-- holds after them, and a line for each blocked call.
+abbrev pub prefix_text : Kind → List Page → LegalPrefix → List Blocked → List ℕ
+prefix_text kind book prefix all =
+    flat_map (place_line kind book) prefix.places.items ++ codes "then the object holds"
     ++ held_text kind prefix.words.items ++ codes "\n"
     ++ flat_map (blocked_line kind book) all
+
+-- the line before a prefix: how many places the first one has, or that this is another one
+abbrev pub head_text : ℕ → LegalPrefix → List ℕ
+head_text index prefix = if index == 0 then start_text (length prefix.places.items)
+    else codes "another longest legal prefix:\n"
+
+-- A text tells the first prefixes of a list, so many of them: after the text that tells those before
+-- it comes that of the last one, with all calls that may come next after it.
+abbrev pub TellsFirst : Kind → List Page → List LegalPrefix → ℕ → List ℕ → Type 0
+TellsFirst kind book prefixes zero text = text ≡ []
+TellsFirst kind book prefixes (suc index) text = (before : List ℕ) × (prefix : LegalPrefix)
+    × (all : List Blocked) × TellsFirst kind book prefixes index before
+    × (slice_get prefixes index ≡ Some prefix)
+    × AreAllBlocked kind book prefix.cut prefix.words.items all
+    × (text ≡ before ++ head_text index prefix ++ prefix_text kind book prefix all)
+
+-- the line that says how many prefixes aren't told, where there are any
+abbrev pub more_text : ℕ → List ℕ
+more_text more = if more == 0 then []
+    else codes "longest legal prefixes that aren't told here: " ++ decimal more ++ codes "\n"
+
+-- A text tells prefixes: the first `MOST_TOLD` of them, or all, and how many there are beyond these.
+abbrev pub TellsPrefixes : Kind → List Page → List LegalPrefix → List ℕ → Type 0
+TellsPrefixes kind book prefixes text = (told : List ℕ)
+    × TellsFirst kind book prefixes (min (length prefixes) MOST_TOLD) told
+    × (text ≡ told ++ more_text (length prefixes - MOST_TOLD))

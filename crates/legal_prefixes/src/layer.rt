@@ -1,10 +1,10 @@
 //! Layers of the search: from the legal prefixes of one length those with one more place.
 
-ghost use Rattle.std.specs.Prelude.{◌≡◌, ℕ, ◌+◌, ◌<◌, ◌≤◌, [], ◌∷◌, ◌++◌, false, length, slice_get, Some, IfOk, IsTrue, OnOk};
+ghost use Rattle.std.specs.Prelude.{◌≡◌, ℕ, ◌+◌, ◌<◌, ◌≤◌, ◌↔◌, [], ◌∷◌, ◌++◌, false, length, slice_get, Some, IfOk, IsTrue, OnOk};
 ghost use Rattle.book_base.specs.Next.{HoldsAnswered};
 ghost use Rattle.legal_prefixes.specs.declared.TheConstants.{LIST_ROOM};
 ghost use Rattle.legal_prefixes.specs.declared.prefix.LegalPrefix.{LegalPrefix};
-ghost use Rattle.legal_prefixes.specs.Layers.{IsPrefixOf, ArePrefixesOf, IsListed, AddsCall, AddsNext, ListNext};
+ghost use Rattle.legal_prefixes.specs.Layers.{IsPrefixOf, ArePrefixesOf, IsListed, AreApart, AddsCall, AddsNext, ListNext};
 
 use crate::LIST_ROOM;
 use crate::next_calls::{holds_answered, is_recorded, may_come};
@@ -28,6 +28,7 @@ pub(crate) fn next_layer(
     requires layer { ArePrefixesOf kind book.now count layer.now }
     ensures room { here.new.room ≡ LIST_ROOM }
     ensures right { IfOk result (λ next. ArePrefixesOf kind book.now (count + 1) next.items) }
+    ensures apart { IfOk result (λ next. AreApart next.items) }
     ensures all { IfOk result (λ next.
         ListNext kind book.now layer.now (length layer.now) next.items) }
 {
@@ -52,8 +53,10 @@ fn push_next(
     requires few { count + 2 ≤ LIST_ROOM }
     requires prefix { IsPrefixOf kind book.now count prefix.now }
     requires right { ArePrefixesOf kind book.now (count + 1) next.old.items }
+    requires apart { AreApart next.old.items }
     ensures room { here.new.room ≡ LIST_ROOM }
     ensures right { OnOk result (ArePrefixesOf kind book.now (count + 1) next.new.items) }
+    ensures apart { OnOk result (AreApart next.new.items) }
     ensures added { OnOk result
         (AddsNext kind book.now prefix.now (length book.now) next.old.items next.new.items) }
 {
@@ -80,8 +83,10 @@ fn push_call(
     requires prefix { IsPrefixOf kind book.now count prefix.now }
     requires caller { caller < length book.now }
     requires right { ArePrefixesOf kind book.now (count + 1) next.old.items }
+    requires apart { AreApart next.old.items }
     ensures room { here.new.room ≡ LIST_ROOM }
     ensures right { OnOk result (ArePrefixesOf kind book.now (count + 1) next.new.items) }
+    ensures apart { OnOk result (AreApart next.new.items) }
     ensures added { OnOk result
         (AddsCall kind book.now prefix.now caller next.old.items next.new.items) }
 {
@@ -120,7 +125,8 @@ fn push_call(
 fn is_listed(prefixes: &[LegalPrefix], cut: &Cut, words: &[u64]) -> bool
     requires { (k : ℕ) (prefix : LegalPrefix) → slice_get prefixes.now k ≡ Some prefix
         → length prefix.cut ≡ length cut.now }
-    ensures { IsTrue result → IsListed prefixes.now cut.now words.now }
+    ensures listed { IsTrue result → IsListed prefixes.now cut.now words.now }
+    ensures none { result ≡ false → IsListed prefixes.now cut.now words.now → ⊥ }
 {
     for prefix in prefixes {
         if leads_to(prefix, cut, words) {
@@ -133,7 +139,7 @@ fn is_listed(prefixes: &[LegalPrefix], cut: &Cut, words: &[u64]) -> bool
 // Whether a prefix leads to a cut and a list.
 fn leads_to(prefix: &LegalPrefix, cut: &Cut, words: &[u64]) -> bool
     requires { length prefix.now.cut ≡ length cut.now }
-    ensures { IsTrue result → (prefix.now.cut ≡ cut.now) × (prefix.now.words.items ≡ words.now) }
+    ensures { IsTrue result ↔ (prefix.now.cut ≡ cut.now) × (prefix.now.words.items ≡ words.now) }
 {
     prefix.cut.equals(cut) && prefix.words.as_slice() == words
 }

@@ -1,6 +1,6 @@
-//! The search for a longest legal prefix, by breadth.
+//! The search for the longest legal prefixes, by breadth.
 
-ghost use Rattle.std.specs.Prelude.{◌≡◌, ℕ, slice_get, Some, IfOk, IfSome};
+ghost use Rattle.std.specs.Prelude.{◌≡◌, ◌<◌, length, IfOk};
 ghost use Rattle.legal_prefixes.specs.declared.TheConstants.{LIST_ROOM};
 ghost use Rattle.legal_prefixes.specs.Layers.{IsLayer};
 ghost use Rattle.legal_prefixes.specs.Longest.{IsAnswer};
@@ -18,24 +18,27 @@ const MOST_OF_A_LENGTH: usize = 512;
 /// The most prefixes that the search goes on from in all.
 const MOST_OF_ALL: usize = 8192;
 
-/// The answer of the search for a longest legal prefix.
+/// The answer of the search for the longest legal prefixes.
 #[derive(Drop)]
-pub enum LongestPrefix {
-    /// The book has no legal order, and this is a longest legal prefix.
-    Longest(LegalPrefix),
+pub enum LongestPrefixes {
+    /// The book has no legal order, and these are its longest legal prefixes, one for each cut and
+    /// list to which such prefixes lead.
+    Longest(Vec<LegalPrefix>),
     /// The book has a legal order.
     Whole,
     /// There are more prefixes than the search looks at.
     Many,
 }
 
-/// A longest legal prefix of a book that has no legal order.
+/// The longest legal prefixes of a book that has no legal order.
 ///
 /// All legal prefixes of one length are sought from those that are shorter by one place, one for each
 /// cut and list to which they lead. The search gives up where there are too many of them.
-pub fn longest_prefix(alloc: Global, kind: Kind, book: &Book) -> Result<LongestPrefix, NoMemory>
-    // With `Longest` the book has no legal order, and no legal prefix has more places than this one.
-    // With `Whole` the book has a legal order. With `Many` nothing is said.
+pub fn longest_prefixes(alloc: Global, kind: Kind, book: &Book) -> Result<LongestPrefixes, NoMemory>
+    // With `Longest` the book has no legal order, no legal prefix has more places than one of these,
+    // no two of them lead to the same cut and list, and each legal prefix with as many places leads to
+    // the cut and the list of one of them. With `Whole` the book has a legal order. With `Many`
+    // nothing is said.
     ensures { IfOk result (IsAnswer kind book.now) }
 {
     let mut here = State::with_room(alloc, LIST_ROOM)?;
@@ -43,29 +46,19 @@ pub fn longest_prefix(alloc: Global, kind: Kind, book: &Book) -> Result<LongestP
     let mut left = MOST_OF_ALL;
     for count in 0..MAX_CALLERS as u64 * MAX_CALLS {
         if is_one_whole(book, &layer) {
-            return Ok(LongestPrefix::Whole);
+            return Ok(LongestPrefixes::Whole);
         }
         let next = next_layer(alloc, kind, book, &mut here, count, &layer)?;
         if next.is_empty() {
-            match last_of(layer) {
-                Some(prefix) => return Ok(LongestPrefix::Longest(prefix)),
-                None => return Ok(LongestPrefix::Many),
-            }
+            return Ok(LongestPrefixes::Longest(layer));
         }
         if next.len() > left.min(MOST_OF_A_LENGTH) {
-            return Ok(LongestPrefix::Many);
+            return Ok(LongestPrefixes::Many);
         }
         left -= next.len();
         layer = next;
     }
-    Ok(LongestPrefix::Many)
-}
-
-// The last one of some prefixes.
-fn last_of(mut layer: Vec<LegalPrefix>) -> Option<LegalPrefix>
-    ensures { IfSome result (λ prefix. (k : ℕ) × (slice_get layer.items k ≡ Some prefix)) }
-{
-    layer.pop()
+    Ok(LongestPrefixes::Many)
 }
 
 // The layer of the prefix without places.
@@ -77,6 +70,7 @@ fn first_layer(
 ) -> Result<Vec<LegalPrefix>, NoMemory>
     requires { here.old.room ≡ LIST_ROOM }
     ensures room { here.new.room ≡ LIST_ROOM }
+    ensures some { IfOk result (λ layer. 0 < length layer.items) }
     ensures layer { IfOk result (λ layer. IsLayer kind book.now 0 layer.items) }
 {
     kind.reset(here);

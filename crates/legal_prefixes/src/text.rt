@@ -1,45 +1,96 @@
-//! The text of a longest legal prefix.
+//! The text of the longest legal prefixes.
 
 ghost use Rattle.std.specs.Prelude.{◌≡◌, ℕ, ◌++◌, flat_map, slice_get, Some, IfOk, OnOk};
 ghost use Rattle.book_base.specs.declared.call.Place.{Place};
 ghost use Rattle.book_base.specs.Book.{IsCall};
 ghost use Rattle.legal_prefixes.specs.declared.blocked.Blocked.{Blocked};
 ghost use Rattle.book_base.specs.Order.{call_at};
-ghost use Rattle.legal_prefixes.specs.Longest.{IsLongest, AreAllBlocked};
-ghost use Rattle.legal_prefixes.specs.Texts.{start_text, call_text, place_line, blocked_line, item_text, held_text, longest_text};
+ghost use Rattle.legal_prefixes.specs.Longest.{AreLongest, IsLongest, AreAllBlocked};
+ghost use Rattle.legal_prefixes.specs.Texts.{calls_text, start_text, call_text, place_line, blocked_line, item_text, held_text, prefix_text, head_text, more_text, TellsPrefixes};
 
-use crate::blocked::Blocked;
+use crate::blocked::{Blocked, blocked_after};
 use crate::prefix::LegalPrefix;
 use book_base::{Book, Call, NoMemory, Place};
 use seq_objects::{Kind, put_number, put_reply};
 use std::alloc::Global;
 
+/// The most prefixes that are told.
+const MOST_TOLD: usize = 8;
+
 /// How many values there are: a map's item is its key times this number, plus its value.
 const VALUES: u64 = 1 << 32;
 
-/// The text of a longest legal prefix of a book, and of the calls that may come next after it.
-pub fn prefix_text(
+/// The text of the longest legal prefixes of a book, and of the calls that may come next after each.
+///
+/// At most eight of them are told, and how many there are beyond these.
+pub fn prefixes_text(
     alloc: Global,
+    kind: Kind,
+    book: &Book,
+    prefixes: &[LegalPrefix],
+) -> Result<Vec<u8>, NoMemory>
+    // The book has no legal order, and the prefixes are its longest legal ones.
+    requires { AreLongest kind book.now prefixes.now }
+    // The answer tells the first eight prefixes, or all where there are no more, each with all calls
+    // that may come next after it; and it says how many more there are.
+    ensures { IfOk result (λ text. TellsPrefixes kind book.now prefixes.now text.items) }
+{
+    let mut out = Vec::new(alloc);
+    for index in 0..prefixes.len().min(MOST_TOLD) {
+        let prefix = &prefixes[index];
+        let all = blocked_after(alloc, kind, book, prefix)?;
+        put_head(&mut out, index, prefix)?;
+        put_prefix(&mut out, kind, book, prefix, &all)?;
+    }
+    put_more(&mut out, prefixes.len().saturating_sub(MOST_TOLD) as u64)?;
+    Ok(out)
+}
+
+// Appends the line before a prefix.
+fn put_head(out: &mut Vec<u8>, index: usize, prefix: &LegalPrefix) -> Result<(), NoMemory>
+    ensures { OnOk result (out.new.items ≡ out.old.items ++ head_text index prefix.now) }
+{
+    if index == 0 {
+        put_start(out, prefix.places.len() as u64)
+    } else {
+        out.extend_from_slice(b"another longest legal prefix:\n")?;
+        Ok(())
+    }
+}
+
+// Appends the line that says how many prefixes aren't told, where there are any.
+fn put_more(out: &mut Vec<u8>, more: u64) -> Result<(), NoMemory>
+    ensures { OnOk result (out.new.items ≡ out.old.items ++ more_text more) }
+{
+    if more == 0 {
+        Ok(())
+    } else {
+        out.extend_from_slice(b"longest legal prefixes that aren't told here: ")?;
+        put_number(out, more)?;
+        out.extend_from_slice(b"\n")?;
+        Ok(())
+    }
+}
+
+// Appends the lines of a longest legal prefix, and of the calls that may come next after it.
+fn put_prefix(
+    out: &mut Vec<u8>,
     kind: Kind,
     book: &Book,
     prefix: &LegalPrefix,
     all: &[Blocked],
-) -> Result<Vec<u8>, NoMemory>
-    // The book has no legal order, and the prefix is a longest legal one.
+) -> Result<(), NoMemory>
     requires longest { IsLongest kind book.now prefix.now }
-    // The blocked calls are all that may come next after the prefix.
     requires all { AreAllBlocked kind book.now prefix.now.cut prefix.now.words.items all.now }
-    // The answer is the text of the prefix and the blocked calls.
-    ensures { IfOk result (λ text. text.items ≡ longest_text kind book.now prefix.now all.now) }
+    ensures { OnOk result
+        (out.new.items ≡ out.old.items ++ prefix_text kind book.now prefix.now all.now) }
 {
-    let mut out = Vec::new(alloc);
-    put_start(&mut out, prefix.places.len() as u64)?;
-    put_places(&mut out, kind, book, &prefix.places)?;
+    put_places(out, kind, book, &prefix.places)?;
     out.extend_from_slice(b"then the object holds")?;
-    put_held(&mut out, kind, &prefix.words)?;
+    put_held(out, kind, &prefix.words)?;
     out.extend_from_slice(b"\n")?;
-    put_all_blocked(&mut out, kind, book, all)?;
-    Ok(out)
+    put_all_blocked(out, kind, book, all)?;
+    Ok(())
 }
 
 // Appends the line that says how many places the prefix has.
@@ -48,8 +99,19 @@ fn put_start(out: &mut Vec<u8>, places: u64) -> Result<(), NoMemory>
 {
     out.extend_from_slice(b"no rule of these is broken; a longest legal prefix has ")?;
     put_number(out, places)?;
-    out.extend_from_slice(b" calls:\n")?;
+    out.extend_from_slice(after_count(places))?;
     Ok(())
+}
+
+// What stands after a number of calls.
+fn after_count(calls: u64) -> &'static [u8]
+    ensures { result.now ≡ calls_text calls }
+{
+    if calls == 1 {
+        b" call:\n"
+    } else {
+        b" calls:\n"
+    }
 }
 
 // Appends the lines of some places.

@@ -12,6 +12,7 @@ pub loop-prefix-preserved : goal.loop-prefix-preserved
 loop-prefix-preserved c = record {
   room = c.push_next.ensures.room;
   right = c.in_ok-push_next.ensures.right;
+  apart = c.in_ok-push_next.ensures.apart;
   adds = list_more c.args.kind c.args.book.now c.args.layer.now c.loop-prefix.prefix-index
       c.prefix-item.result c.loop-prefix.next.items c.push_next.new.next.items
       c.loop-prefix.invariant.adds

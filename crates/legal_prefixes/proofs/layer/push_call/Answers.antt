@@ -8,8 +8,8 @@ use Rattle.book_base.specs.Book.{operation_of, record_of}
 use Rattle.book_base.specs.Next.{raised, next_call}
 use Rattle.seq_objects.specs.Objects.{kind_next, length-kind_next}
 use Rattle.legal_prefixes.specs.declared.prefix.LegalPrefix.{LegalPrefix}
-use Rattle.legal_prefixes.specs.Layers.{ArePrefixesOf, AddsCall}
-use Rattle.legal_prefixes.proofs.Adding.{adds_one, listed-push, listed-last, listed_as, right-push, right_next}
+use Rattle.legal_prefixes.specs.Layers.{ArePrefixesOf, IsListed, AreApart, AddsCall}
+use Rattle.legal_prefixes.proofs.Adding.{adds_one, apart-push, listed-push, listed-last, listed_as, right-push, right_next}
 use Rattle.legal_prefixes.proofs.layer.push_call.Goals as goal
 
 pub step-reply-requires : goal.step-reply-requires
@@ -54,7 +54,7 @@ returns-then-is_listed-clause-added c =
     (λ cut list it. it)
     (listed_as c.deref-2.result.now c.args.next.now.items c.set.new.self (raised prefix.cut caller)
     c.words.result.now (kind_next kind prefix.words.items op).0 c.deref-2.ensures.value cut_is
-    list_is (c.is_listed.ensures c.if-is_listed.true))
+    list_is (c.is_listed.ensures.listed c.if-is_listed.true))
 
 pub returns-clause-right : goal.returns-clause-right
 returns-clause-right c =
@@ -126,3 +126,21 @@ returns-clause-added c =
     (listed-push old longer)
     (listed-last old longer (raised prefix.cut caller) (kind_next kind prefix.words.items op).0
     cut_is list_is))
+
+pub returns-clause-apart : goal.returns-clause-apart
+returns-clause-apart c =
+    let old = c.args.next.now.items in
+    let longer : LegalPrefix = record {
+      places = c.in_ok-with_place.field-0;
+      cut = c.set.new.self;
+      words = c.in_ok-from_slice.field-0;
+    } in
+    let never : IsListed old c.set.new.self c.words.result.now → ⊥ =
+    λ (it : IsListed old c.set.new.self c.words.result.now).
+    c.is_listed.ensures.none c.if-is_listed.false
+    (listed_as old c.deref-2.result.now c.set.new.self c.set.new.self c.words.result.now
+    c.words.result.now (sym c.deref-2.ensures.value) refl refl it) in
+    subst AreApart (sym c.in_ok-push.ensures.items)
+    (apart-push old longer c.set.new.self c.words.result.now refl
+    (c.in_ok-from_slice.ensures.items ∙ c.words-2.ensures ∙ sym c.words.ensures)
+    c.requires.apart never)

@@ -1,13 +1,13 @@
-use Rattle.std.proofs.Common.{◌≡◌, ℕ, ◌∙◌, List, ◌++◌, length, flat_map, sym, ap, slice_get, arith}
+use Rattle.std.proofs.Common.{ℕ, ◌∙◌, List, ◌++◌, flat_map, sym, ap, slice_get}
 use Rattle.book_base.specs.declared.call.Place.{Place}
 use Rattle.book_base.specs.Book.{IsCall}
 use Rattle.book_base.specs.Order.{call_at}
 use Rattle.seq_objects.specs.Objects.{kind_init, kind_next}
 use Rattle.legal_prefixes.specs.Prefixes.{no_calls}
-use Rattle.legal_prefixes.specs.Texts.{start_text, place_line, held_text}
-use Rattle.legal_prefixes.proofs.Joining.{six_joined, all_at}
+use Rattle.legal_prefixes.specs.Texts.{place_line, held_text}
+use Rattle.legal_prefixes.proofs.Joining.{prefix_joined, all_at}
 use Rattle.legal_prefixes.proofs.Leading.{calls_from_lead}
-use Rattle.legal_prefixes.proofs.text.prefix_text.Goals as goal
+use Rattle.legal_prefixes.proofs.text.put_prefix.Goals as goal
 
 pub put_places-requires : goal.put_places-requires
 put_places-requires c k place has =
@@ -20,16 +20,11 @@ put_places-requires c k place has =
 
 pub returns : goal.returns
 returns c =
-    let places : c.len.result ≡ length c.args.prefix.now.places.items =
-    omega (arith, c.len.ensures, c.args.prefix.now.places.ok) in
-    six_joined c.put_start.new.out.items c.put_places.new.out.items c.extend_from_slice.new.self.items
-    c.put_held.new.out.items c.extend_from_slice-2.new.self.items c.put_all_blocked.new.out.items
-    _ _ _ _ _ _
-    (c.in_ok-put_start.ensures
-    ∙ ap (λ (t : List ℕ). t ++ start_text c.len.result) c.new-out.ensures.items
-    ∙ ap start_text places)
+    prefix_joined c.args.kind c.args.book.now c.args.prefix.now c.args.all.now c.args.out.now.items
+    c.put_places.new.out.items c.extend_from_slice.new.self.items c.put_held.new.out.items
+    c.extend_from_slice-2.new.self.items c.put_all_blocked.new.out.items
     (c.in_ok-put_places.ensures
-    ∙ ap (λ (xs : List Place). c.put_start.new.out.items
+    ∙ ap (λ (xs : List Place). c.args.out.now.items
     ++ flat_map (place_line c.args.kind c.args.book.now) xs) c.deref.ensures.value)
     c.in_ok-extend_from_slice.ensures.items
     (c.in_ok-put_held.ensures
