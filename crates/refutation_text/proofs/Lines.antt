@@ -1,10 +1,12 @@
 -- A line after a refutation's title says one thing at most.
-use Rattle.std.proofs.Common.{◌≡◌, ℕ, ◌-◌, ◌<◌, true, false, List, [], ◌∷◌, length, get_or, decimal, refl, sym, ap, subst, ◌∙◌, arith}
+use Rattle.std.proofs.Common.{◌≡◌, ℕ, suc, ◌-◌, ◌<◌, ◌^◌, true, false, List, [], ◌∷◌, ◌++◌, length, map, get_or, decimal, refl, sym, ap, subst, ◌∙◌, arith}
 use Rattle.std.specs.Prelude.{codes}
 use Rattle.std.proofs.lemmas.Fmt.{decimal_nonempty}
 use Rattle.list_laws.proofs.Decimals.{decimal_byte}
 use Rattle.book_base.specs.declared.call.Call.{Call}
+use Rattle.book_base.proofs.ViewLemmas.{same_call}
 use Rattle.refutations.specs.declared.entry.Entry.{Entry}
+use Rattle.text_fields.specs.Counts.{AreNumbers}
 use Rattle.text_fields.specs.Lines.{IsSolid, AreSolid}
 use Rattle.text_fields.proofs.NumberTexts.{same_first, same_number, solid_decimal}
 use Rattle.text_fields.proofs.HeadTexts.{same_numbers, solid_numbers, plain}
@@ -12,8 +14,8 @@ use Rattle.book_text.specs.CallLines.{place_words}
 use Rattle.book_text.proofs.CallTexts.{pairs_once}
 use Rattle.book_text.proofs.SharpBooks.{solid_pairs}
 use Rattle.certificate_text.specs.Grammar.{IsNamed}
-use Rattle.refutation_text.specs.Said.{At, Keys, Leave, LineSaid, StepLine, ImpossibleLine, PlainLine, ItemLine, EndLine}
-use Rattle.refutation_text.specs.Grammar.{MaySay, line_words, IsEntry, IsLine}
+use Rattle.refutation_text.specs.Said.{At, Keys, Leave, LineSaid, StepLine, ImpossibleLine, TakesLine, FindLine, PlainLine, ItemLine, EndLine}
+use Rattle.refutation_text.specs.Grammar.{IsAnyCall, MaySay, line_words, takes_words, find_words, IsEntry, IsLine}
 
 -- how far the first byte of a line is above the digits
 abbrev initial : List (List ℕ) → ℕ
@@ -27,6 +29,8 @@ letter (StepLine (Keys true keys)) = 62
 letter (StepLine (Keys false keys)) = 54
 letter (StepLine (Leave call)) = 51
 letter (ImpossibleLine call) = 48
+letter (TakesLine value moment) = 42
+letter (FindLine call values) = 42
 letter PlainLine = 42
 letter (ItemLine entry) = 0
 letter EndLine = 44
@@ -37,6 +41,8 @@ initial-letter (StepLine (Keys true keys)) may = refl
 initial-letter (StepLine (Keys false keys)) may = refl
 initial-letter (StepLine (Leave call)) may = refl
 initial-letter (ImpossibleLine call) may = refl
+initial-letter (TakesLine value moment) may = refl
+initial-letter (FindLine call values) may = refl
 initial-letter PlainLine may = refl
 initial-letter (ItemLine entry) may =
     let digit = decimal_byte entry.item 0 may.0 (decimal_nonempty entry.item may.0) in
@@ -63,19 +69,81 @@ one_entry a b h k e =
     let made : ℕ → ℕ → Entry = λ n i. record { item = n; caller = i } in
     ap (λ (n : ℕ). made n a.caller) items ∙ ap (made b.item) callers
 
+-- values that a line can say are numbers that a line can say
+pub are_numbers : (values : List ℕ) → ((k : ℕ) → k < length values → get_or values k 0 < 2 ^ 32)
+    → AreNumbers values
+are_numbers [] small = tt
+are_numbers (v ∷ values) small = (
+  omega (arith, small 0 (omega arith)),
+  are_numbers values (λ k less. small (suc k) (omega (arith, less))),
+)
+
+one_takes : (v m w n : ℕ) → v < 2 ^ 32 → m < 2 ^ 64 → w < 2 ^ 32 → n < 2 ^ 64
+    → takes_words v m ≡ takes_words w n → (v ≡ w) × (m ≡ n)
+one_takes v m w n hv hm hw hn e =
+    let third = same_first _ _ _ _ (same_first _ _ _ _ (same_first _ _ _ _ e).1).1 in (
+      same_number v w (omega (arith, hv)) (omega (arith, hw)) third.0,
+      same_number m n hm hn (same_first _ _ _ _ third.1).0,
+    )
+
+pub one_find : (a b : Call) (xs ys : List ℕ) → IsAnyCall a → IsAnyCall b → AreNumbers xs
+    → AreNumbers ys → find_words a xs ≡ find_words b ys → (a ≡ b) × (xs ≡ ys)
+one_find a b xs ys ha hb hx hy e =
+    let third = same_first _ _ _ _ (same_first _ _ _ _ (same_first _ _ _ _ e).1).1 in
+    let fourth = same_first _ _ _ _ third.1 in (
+      same_call a b (same_number a.caller b.caller ha.0 hb.0 third.0)
+          (same_number a.number b.number ha.1 hb.1 fourth.0),
+      same_numbers xs ys hx hy fourth.1,
+    )
+
+-- what words have after `counts find`, a caller and a number
+pub find_rest : (a b : Call) (values : List ℕ) (words more : List (List ℕ))
+    → words ≡ find_words a [] ++ more → words ≡ find_words b values → more ≡ map decimal values
+find_rest a b values words more x y =
+    let first = same_first _ _ _ _ (sym x ∙ y) in
+    let second = same_first _ _ _ _ first.1 in
+    let third = same_first _ _ _ _ second.1 in
+    (same_first _ _ _ _ third.1).1
+
+-- words of lines differ where a byte of a word does
+other_byte : (k n : ℕ) (xs ys : List (List ℕ)) → xs ≡ ys
+    → get_or (get_or xs k []) n 0 ≡ get_or (get_or ys k []) n 0
+other_byte k n xs ys e = ap (λ (words : List (List ℕ)). get_or (get_or words k []) n 0) e
+
 same_line_said : (a b : LineSaid) → MaySay a → MaySay b → letter a ≡ letter b
     → line_words a ≡ line_words b → a ≡ b
 same_line_said (StepLine (At x)) (StepLine (At y)) h k l e =
     ap (λ (counts : List ℕ). StepLine (At counts))
     (pairs_once 0 x y (h.0 ∙ sym k.0) (omega (arith, h.0)) h.1 k.1 (same_first _ _ _ _ e).1)
 same_line_said (StepLine (Keys true x)) (StepLine (Keys true y)) h k l e =
-    ap (λ (keys : List ℕ). StepLine (Keys true keys)) (same_numbers x y h k (same_first _ _ _ _ e).1)
+    ap (λ (keys : List ℕ). StepLine (Keys true keys))
+    (same_numbers x y h k (same_first _ _ _ _ e).1)
 same_line_said (StepLine (Keys false x)) (StepLine (Keys false y)) h k l e =
-    ap (λ (keys : List ℕ). StepLine (Keys false keys)) (same_numbers x y h k (same_first _ _ _ _ e).1)
+    ap (λ (keys : List ℕ). StepLine (Keys false keys))
+    (same_numbers x y h k (same_first _ _ _ _ e).1)
 same_line_said (StepLine (Leave x)) (StepLine (Leave y)) h k l e =
     ap (λ (call : Call). StepLine (Leave call)) (one_named x y h k (same_first _ _ _ _ e).1)
 same_line_said (ImpossibleLine x) (ImpossibleLine y) h k l e =
     ap ImpossibleLine (one_named x y h k (same_first _ _ _ _ e).1)
+same_line_said (TakesLine v m) (TakesLine w n) h k l e =
+    let same = one_takes v m w n h.0 h.1 k.0 k.1 e in
+    ap (λ (x : ℕ). TakesLine x m) same.0 ∙ ap (TakesLine w) same.1
+same_line_said (FindLine a xs) (FindLine b ys) h k l e =
+    let same = one_find a b xs ys h.0 k.0 (are_numbers xs (λ n less. (h.1.each n less).0))
+    (are_numbers ys (λ n less. (k.1.each n less).0)) e in
+    ap (λ (call : Call). FindLine call xs) same.0 ∙ ap (FindLine b) same.1
+same_line_said (TakesLine v m) (FindLine b ys) h k l e =
+    absurd (omega (arith, other_byte 1 0 (takes_words v m) (find_words b ys) e))
+same_line_said (FindLine a xs) (TakesLine w n) h k l e =
+    absurd (omega (arith, other_byte 1 0 (find_words a xs) (takes_words w n) e))
+same_line_said (TakesLine v m) PlainLine h k l e =
+    absurd (omega (arith, other_byte 0 1 (takes_words v m) (line_words PlainLine) e))
+same_line_said PlainLine (TakesLine w n) h k l e =
+    absurd (omega (arith, other_byte 0 1 (line_words PlainLine) (takes_words w n) e))
+same_line_said (FindLine a xs) PlainLine h k l e =
+    absurd (omega (arith, other_byte 0 1 (find_words a xs) (line_words PlainLine) e))
+same_line_said PlainLine (FindLine b ys) h k l e =
+    absurd (omega (arith, other_byte 0 1 (line_words PlainLine) (find_words b ys) e))
 same_line_said PlainLine PlainLine h k l e = refl
 same_line_said (ItemLine x) (ItemLine y) h k l e = ap ItemLine (one_entry x y h k e)
 same_line_said EndLine EndLine h k l e = refl
@@ -99,6 +167,12 @@ solid_named call h word some solid = record {
     (solid_decimal call.caller (omega (arith, h.caller)), (solid_decimal call.number h.number, tt)),
   );
 }
+
+counts_solid : IsSolid (codes "counts")
+counts_solid = plain (codes "counts") (
+  omega arith,
+  (omega arith, (omega arith, (omega arith, (omega arith, (omega arith, tt))))),
+) (omega arith)
 
 solid_said : (line : LineSaid) → MaySay line → AreSolid (line_words line)
 solid_said (StepLine (At counts)) may = record {
@@ -158,6 +232,38 @@ solid_said (ImpossibleLine call) may = solid_named call may (codes "impossible")
         ),
       ),
     ) (omega arith))
+solid_said (TakesLine value moment) may = record {
+  some = omega arith;
+  each = (
+    counts_solid,
+    (
+      plain (codes "takes")
+          (omega arith, (omega arith, (omega arith, (omega arith, (omega arith, tt)))))
+          (omega arith),
+      (
+        solid_decimal value (let low : value < 2 ^ 32 = may.0 in omega (arith, low)),
+        (solid_decimal moment may.1, tt),
+      ),
+    ),
+  );
+}
+solid_said (FindLine call values) may = record {
+  some = omega arith;
+  each = (
+    counts_solid,
+    (
+      plain (codes "find") (omega arith, (omega arith, (omega arith, (omega arith, tt))))
+          (omega arith),
+      (
+        solid_decimal call.caller may.0.0,
+        (
+          solid_decimal call.number may.0.1,
+          solid_numbers values (are_numbers values (λ n less. (may.1.each n less).0)),
+        ),
+      ),
+    ),
+  );
+}
 solid_said PlainLine may = record {
   some = omega arith;
   each = (

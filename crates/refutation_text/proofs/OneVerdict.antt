@@ -1,6 +1,6 @@
 -- A refutation is right, or has one first fault.
-use Rattle.std.proofs.Common.{◌≡◌, ℕ, zero, suc, ◌<◌, ◌∙◌, List, length, slice_get, refl, sym, ap, subst, inl, inr, arith}
-use Rattle.std.proofs.lemmas.Bool.{cases_lt}
+use Rattle.std.proofs.Common.{◌≡◌, ℕ, zero, suc, ◌<◌, ◌∙◌, List, [], ◌∷◌, length, slice_get, refl, sym, ap, subst, inl, inr, arith}
+use Rattle.std.proofs.lemmas.Bool.{cases_lt, false≢true}
 use Rattle.std.proofs.lemmas.Option.{slice_get_within, same_Some}
 use Rattle.book_base.specs.Book.{Page}
 use Rattle.book_base.specs.Order.{HasLegalOrder}
@@ -8,7 +8,10 @@ use Rattle.seq_objects.specs.declared.kind.Kind.{Kind}
 use Rattle.seq_objects.specs.Objects.{kind_next, kind_spec}
 use Rattle.smaller_book.specs.Part.{IsPart}
 use Rattle.smaller_book.specs.ReadOnly.{IsReadOnly}
+use Rattle.broken_rules.specs.Deeds.{reading_of}
 use Rattle.refutations.specs.Impossible.{IsImpossible}
+use Rattle.refutations.specs.Counts.{FindMissesPuts}
+use Rattle.refutations.proofs.Containers.{excess_takes, missed_puts}
 use Rattle.refutations.proofs.Refuting.{closed_lists_have_no_order, impossible_replies_have_no_order}
 use Rattle.refutations.proofs.Faults.{closed_lists_fail_no_test, first_faults_are_one}
 use Rattle.refutation_text.specs.declared.fault.RefutationFault.{RefutationFault}
@@ -17,7 +20,7 @@ use Rattle.refutation_text.specs.declared.part_steps.StepFault.{StepFault}
 use Rattle.refutation_text.specs.declared.part_steps.StepFault.TheVariants as reasons
 use Rattle.refutation_text.specs.declared.verdict.RefutationVerdict.{RefutationVerdict}
 use Rattle.refutation_text.specs.declared.verdict.RefutationVerdict.TheVariants.{Illegal, Faulty}
-use Rattle.refutation_text.specs.Said.{StepSaid, At, Keys, Leave, EndingSaid, Impossible, Closed}
+use Rattle.refutation_text.specs.Said.{StepSaid, At, Keys, Leave, EndingSaid, Impossible, Takes, Find, Closed}
 use Rattle.refutation_text.specs.Steps.{IsStep, StepFails, LeaveAfter, IsFirstStepFault}
 use Rattle.refutation_text.specs.Verdicts.{IsShown, EndingFails, IsRefutation, step_fault, IsFaultOf, IsVerdictOf}
 use Rattle.refutation_text.specs.Laws.{RefutedBooksHaveNoOrder}
@@ -30,6 +33,10 @@ shown_is_illegal : (kind : Kind) (names : List (List ℕ)) (part : List Page) (e
     → IsShown kind names part ending → HasLegalOrder (kind_spec kind) part → ⊥
 shown_is_illegal kind names part (Impossible named) h legal =
     impossible_replies_have_no_order (kind_spec kind) part h.0 h.2 legal
+shown_is_illegal kind names part (Takes value moment) h legal =
+    excess_takes kind part (value ∷ []) moment h.0 h.1 legal
+shown_is_illegal kind names part (Find named values) h legal =
+    missed_puts kind part values h.1 h.0 h.3 legal
 shown_is_illegal kind names part (Closed entries) h legal =
     closed_lists_have_no_order (kind_spec kind) part _ h.closed legal
 
@@ -77,7 +84,8 @@ step_before : (kind : Kind) (book : List Page) (steps : List StepSaid) (s n : �
     (names : List (List ℕ)) (part : List Page) (why : StepFault) → s < n
     → LeaveAfter kind book steps n names part → IsFirstStepFault kind book steps s why → ⊥
 step_before kind book steps s zero names part why less h f = absurd (omega arith)
-step_before kind book steps s (suc n) names part why less (step, before, whole, there, earlier, l) f =
+step_before kind book steps s (suc n) names part why less
+    (step, before, whole, there, earlier, l) f =
     elim (cases_lt s n) [
       | inl sooner ↦ step_before kind book steps s n before whole why sooner earlier f
       | inr here ↦
@@ -90,7 +98,8 @@ step_before kind book steps s (suc n) names part why less (step, before, whole, 
           let fails : StepFails kind before whole step why =
           subst (λ (x : StepSaid). StepFails kind before whole x why) (sym one)
           (subst (λ (w : List Page). StepFails kind before w f.step why) same.parts
-          (subst (λ (ns : List (List ℕ)). StepFails kind ns f.part f.step why) same.names f.fails)) in
+          (subst (λ (ns : List (List ℕ)). StepFails kind ns f.part f.step why) same.names
+          f.fails)) in
           fails_or_leaves kind book before whole step why l.0 part
           (after_part kind book steps n before whole earlier) fails l.1
     ]
@@ -131,6 +140,15 @@ shown_or_fails kind book names part s (Impossible named) (faults.Lacks at) is h 
 shown_or_fails kind book names part s (Impossible named) faults.Possible is h k =
     k.2 (subst (IsImpossible (kind_spec kind) part)
     (one_called book names part named h.0 k.0 is h.1 k.1) h.2)
+shown_or_fails kind book names part s (Takes value moment) faults.Kind is h k =
+    false≢true (sym k ∙ h.0)
+shown_or_fails kind book names part s (Takes value moment) faults.Possible is h k = k.1 h.1
+shown_or_fails kind book names part s (Find named values) faults.Kind is h k =
+    false≢true (sym k ∙ h.0)
+shown_or_fails kind book names part s (Find named values) (faults.Lacks at) is h k = k.2 h.1 h.2
+shown_or_fails kind book names part s (Find named values) faults.Possible is h k =
+    k.3 (subst (FindMissesPuts (reading_of kind) part values)
+    (one_called book names part named h.1 k.1 is h.2 k.2) h.3)
 shown_or_fails kind book names part s (Closed entries) (faults.Closed fault) is h k =
     closed_lists_fail_no_test (kind_spec kind) part entries h fault k.fails
 shown_or_fails kind book names part s ending fault is h k = k
@@ -147,6 +165,46 @@ one_ending_fault kind names part s (Impossible named) faults.Possible (faults.La
 one_ending_fault kind names part s (Impossible named) faults.Possible faults.Possible h k = refl
 one_ending_fault kind names part s (Closed entries) (faults.Closed x) (faults.Closed y) h k =
     ap faults.Closed (first_faults_are_one (kind_spec kind) part entries x y h k)
+one_ending_fault kind names part s (Takes value moment) faults.Kind faults.Kind h k = refl
+one_ending_fault kind names part s (Takes value moment) faults.Kind faults.Possible h k =
+    absurd (false≢true (sym h ∙ k.0))
+one_ending_fault kind names part s (Takes value moment) faults.Possible faults.Kind h k =
+    absurd (false≢true (sym k ∙ h.0))
+one_ending_fault kind names part s (Takes value moment) faults.Possible faults.Possible h k = refl
+one_ending_fault kind names part s (Find named values) faults.Kind faults.Kind h k = refl
+one_ending_fault kind names part s (Find named values) faults.Kind (faults.Lacks y) h k =
+    absurd (false≢true (sym h ∙ k.0))
+one_ending_fault kind names part s (Find named values) faults.Kind faults.Possible h k =
+    absurd (false≢true (sym h ∙ k.0))
+one_ending_fault kind names part s (Find named values) (faults.Lacks x) faults.Kind h k =
+    absurd (false≢true (sym k ∙ h.0))
+one_ending_fault kind names part s (Find named values) (faults.Lacks x) (faults.Lacks y) h k =
+    ap faults.Lacks (h.1 ∙ sym k.1)
+one_ending_fault kind names part s (Find named values) (faults.Lacks x) faults.Possible h k =
+    absurd (h.2 k.1 k.2)
+one_ending_fault kind names part s (Find named values) faults.Possible faults.Kind h k =
+    absurd (false≢true (sym k ∙ h.0))
+one_ending_fault kind names part s (Find named values) faults.Possible (faults.Lacks y) h k =
+    absurd (k.2 h.1 h.2)
+one_ending_fault kind names part s (Find named values) faults.Possible faults.Possible h k = refl
+one_ending_fault kind names part s (Takes value moment) (faults.Lacks x) b h k = absurd h
+one_ending_fault kind names part s (Takes value moment) (faults.Open x) b h k = absurd h
+one_ending_fault kind names part s (Takes value moment) (faults.Changes x) b h k = absurd h
+one_ending_fault kind names part s (Takes value moment) (faults.Closed x) b h k = absurd h
+one_ending_fault kind names part s (Takes value moment) a (faults.Lacks y) h k = absurd k
+one_ending_fault kind names part s (Takes value moment) a (faults.Open y) h k = absurd k
+one_ending_fault kind names part s (Takes value moment) a (faults.Changes y) h k = absurd k
+one_ending_fault kind names part s (Takes value moment) a (faults.Closed y) h k = absurd k
+one_ending_fault kind names part s (Find named values) (faults.Open x) b h k = absurd h
+one_ending_fault kind names part s (Find named values) (faults.Changes x) b h k = absurd h
+one_ending_fault kind names part s (Find named values) (faults.Closed x) b h k = absurd h
+one_ending_fault kind names part s (Find named values) a (faults.Open y) h k = absurd k
+one_ending_fault kind names part s (Find named values) a (faults.Changes y) h k = absurd k
+one_ending_fault kind names part s (Find named values) a (faults.Closed y) h k = absurd k
+one_ending_fault kind names part s (Impossible named) faults.Kind b h k = absurd h
+one_ending_fault kind names part s (Impossible named) a faults.Kind h k = absurd k
+one_ending_fault kind names part s (Closed entries) faults.Kind b h k = absurd h
+one_ending_fault kind names part s (Closed entries) a faults.Kind h k = absurd k
 one_ending_fault kind names part s (Impossible named) (faults.Open x) b h k = absurd h
 one_ending_fault kind names part s (Impossible named) (faults.Changes x) b h k = absurd h
 one_ending_fault kind names part s (Impossible named) (faults.Closed x) b h k = absurd h

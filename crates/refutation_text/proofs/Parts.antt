@@ -1,6 +1,5 @@
 -- The lines of a book and the lines after the title within the text of a refutation.
-use Rattle.std.proofs.Common.{◌≡◌, ℕ, List, [], ◌∷◌, decimal, Option, Some, None, refl}
-use Rattle.book_base.specs.declared.call.Call.{Call}
+use Rattle.std.proofs.Common.{◌≡◌, ℕ, List, [], ◌∷◌, decimal, Some, None, refl, sym, ap}
 use Rattle.book_base.specs.declared.fault.What.{What}
 use Rattle.book_base.specs.declared.fault.What.TheVariants as what
 use Rattle.book_base.specs.Book.{Page}
@@ -13,10 +12,10 @@ use Rattle.book_text.specs.BookRules.{BookDue, InHead, InCalls, AtEnd, BookPasse
 use Rattle.certificate_text.specs.Reading.{part_wanted, book_part}
 use Rattle.book_text.specs.Grammar.{end_words}
 use Rattle.refutations.specs.declared.entry.Entry.{Entry}
-use Rattle.refutation_text.specs.Said.{StepSaid, LineSaid, StepLine, ImpossibleLine, PlainLine, ItemLine, EndLine}
+use Rattle.refutation_text.specs.Said.{StepSaid, EndingSaid, Impossible, Takes, Find, Closed, LineSaid, StepLine, ImpossibleLine, TakesLine, FindLine, PlainLine, ItemLine, EndLine}
 use Rattle.refutation_text.specs.Grammar.{IsEntry, IsLine}
 use Rattle.refutation_text.specs.RefutationRules.{BodyDue, InSteps, EndDue, InEntries, BodyRead, after_line, body_wanted, BodyFails, body_rules, InBody, after_book, RefutationPasses, refutation_wanted, refutation_rules}
-use Rattle.refutation_text.specs.Reading.{opening_line, ending_due}
+use Rattle.refutation_text.specs.Reading.{opening_line, HasNoEntries, ending_due}
 
 book_right : (due after : BookDue) (words : List (List ℕ)) → BookPasses Second due words after
     → RefutationPasses (after_book due) words (after_book after)
@@ -44,8 +43,9 @@ module _ (kind : Kind) (book : List Page) where
   body_wrong (InSteps steps) bytes what h = wrong_alike body_rules refutation_rules
       (InSteps steps) (InBody kind book (InSteps steps)) (λ words what. (λ h. h, λ h. h))
       bytes what h
-  body_wrong (EndDue steps call) bytes what h = wrong_alike body_rules refutation_rules
-      (EndDue steps call) (InBody kind book (EndDue steps call)) (λ words what. (λ h. h, λ h. h))
+  body_wrong (EndDue steps ending) bytes what h = wrong_alike body_rules refutation_rules
+      (EndDue steps ending) (InBody kind book (EndDue steps ending))
+      (λ words what. (λ h. h, λ h. h))
       bytes what h
   body_wrong (InEntries steps entries) bytes what h = wrong_alike body_rules refutation_rules
       (InEntries steps entries) (InBody kind book (InEntries steps entries))
@@ -61,14 +61,16 @@ module _ (kind : Kind) (book : List Page) where
 -- a line that is neither a step nor begins an ending fails the test of a step
 pub no_step : (steps : List StepSaid) (words : List (List ℕ))
     → ((step : StepSaid) → IsLine words (StepLine step) → ⊥)
-    → ((named : Option Call) → IsLine words (opening_line named) → ⊥)
+    → ((ending : EndingSaid) → IsLine words (opening_line ending) → ⊥)
     → IsFirstTest (BodyFails (InSteps steps) words) what.Op
 no_step steps words none opens =
     only_test (BodyFails (InSteps steps) words) what.Op (refl, fails) (λ other k. k.0) where
       fails : (line : LineSaid) → IsLine words line → after_line (InSteps steps) line ≡ None
       fails (StepLine step) h = absurd (none step h)
-      fails (ImpossibleLine call) h = absurd (opens (Some call) h)
-      fails PlainLine h = absurd (opens None h)
+      fails (ImpossibleLine call) h = absurd (opens (Impossible call) h)
+      fails (TakesLine value moment) h = absurd (opens (Takes value moment) h)
+      fails (FindLine call values) h = absurd (opens (Find call values) h)
+      fails PlainLine h = absurd (opens (Closed []) h)
       fails (ItemLine entry) h = refl
       fails EndLine h = refl
 
@@ -85,24 +87,30 @@ no_entry steps entries words none not_end =
           → after_line (InEntries steps entries) line ≡ None
       fails (StepLine step) h = refl
       fails (ImpossibleLine call) h = refl
+      fails (TakesLine value moment) h = refl
+      fails (FindLine call values) h = refl
       fails PlainLine h = refl
       fails (ItemLine entry) h = absurd (none entry h.may h.text)
       fails EndLine h = absurd (not_end h.text)
 
 -- a line that isn't the end fails the test of the end
-pub no_end : (steps : List StepSaid) (call : Call) (words : List (List ℕ))
-    → (words ≡ end_words → ⊥) → IsFirstTest (BodyFails (EndDue steps call) words) what.End
-no_end steps call words not_end =
-    only_test (BodyFails (EndDue steps call) words) what.End (refl, fails) (λ other k. k.0) where
-      fails : (line : LineSaid) → IsLine words line → after_line (EndDue steps call) line ≡ None
+pub no_end : (steps : List StepSaid) (ending : EndingSaid) (words : List (List ℕ))
+    → (words ≡ end_words → ⊥) → IsFirstTest (BodyFails (EndDue steps ending) words) what.End
+no_end steps ending words not_end =
+    only_test (BodyFails (EndDue steps ending) words) what.End (refl, fails) (λ other k. k.0) where
+      fails : (line : LineSaid) → IsLine words line → after_line (EndDue steps ending) line ≡ None
       fails (StepLine step) h = refl
-      fails (ImpossibleLine called) h = refl
+      fails (ImpossibleLine call) h = refl
+      fails (TakesLine value moment) h = refl
+      fails (FindLine call values) h = refl
       fails PlainLine h = refl
       fails (ItemLine entry) h = refl
       fails EndLine h = absurd (not_end h.text)
 
 -- the line that begins an ending leads to what is due then
-pub opens : (steps : List StepSaid) (named : Option Call)
-    → after_line (InSteps steps) (opening_line named) ≡ Some (ending_due steps named)
-opens steps None = refl
-opens steps (Some call) = refl
+pub opens : (steps : List StepSaid) (ending : EndingSaid) → HasNoEntries ending
+    → after_line (InSteps steps) (opening_line ending) ≡ Some (ending_due steps ending)
+opens steps (Impossible call) none = refl
+opens steps (Takes value moment) none = refl
+opens steps (Find call values) none = refl
+opens steps (Closed entries) none = ap (λ (e : List Entry). Some (InEntries steps e)) (sym none)

@@ -27,7 +27,7 @@ body_apart due after words name h k = absurd (cc (h.2, k.1 h.0 h.1))
 body_lines : (due after : BodyDue) (words : List (List ℕ)) → BodyPasses due words after
     → body_wanted due ≡ ALine
 body_lines (InSteps steps) after words h = refl
-body_lines (EndDue steps call) after words h = refl
+body_lines (EndDue steps ending) after words h = refl
 body_lines (InEntries steps entries) after words h = refl
 body_lines (BodyRead steps ending) after words h = absurd (cc (h.2))
 

@@ -1,5 +1,5 @@
 -- What the steps of a refutation leave: each part is evidence of the part before.
-use Rattle.std.proofs.Common.{◌≡◌, ℕ, zero, suc, ◌≤◌, ◌∙◌, min, List, length, get_or, sym, ap, subst, arith}
+use Rattle.std.proofs.Common.{◌≡◌, ℕ, zero, suc, ◌≤◌, ◌∙◌, min, List, length, get_or, sym, ap, subst, inl, arith}
 use Rattle.std.specs.List.{range_with_len}
 use Rattle.std.proofs.lemmas.List.{length-map}
 use Rattle.std.proofs.lemmas.List.FromFn.{length-range_with_len, length-map-range_with_len}
@@ -16,13 +16,14 @@ use Rattle.smaller_book.specs.Part.{numbers_of, count_below, IsPart}
 use Rattle.smaller_book.specs.Numbers.{picked}
 use Rattle.smaller_book.specs.Keys.{KeysMayGo}
 use Rattle.smaller_book.specs.Earliest.{all_numbers}
-use Rattle.smaller_book.specs.ReadOnly.{LacksReadOnlyAlone}
+use Rattle.smaller_book.specs.ReadOnly.{IsReadOnly}
+use Rattle.smaller_book.specs.Unseen.{LacksUnseenAlone}
 use Rattle.smaller_book.specs.Evidence.{IsEvidence}
 use Rattle.smaller_book.proofs.LeastCuts.{numbers_of-all}
-use Rattle.smaller_book.proofs.Removing.{all_but_are_numbers, lacks_one_alone}
+use Rattle.smaller_book.proofs.Removing.{all_but_are_numbers, lacks_one}
 use Rattle.smaller_book.proofs.KeyRows.{all_without_are_numbers}
 use Rattle.smaller_book.proofs.PartsOfParts.{numbers_of-composed}
-use Rattle.smaller_book.proofs.Steps.{cut_evidence, keys_evidence, read_only_evidence, evidence_part}
+use Rattle.smaller_book.proofs.Steps.{cut_evidence, keys_evidence, unseen_evidence, evidence_part}
 use Rattle.smaller_book.proofs.Evidence.{evidence_tells}
 use Rattle.refutation_text.specs.Said.{StepSaid, At, Keys, Leave}
 use Rattle.refutation_text.specs.Steps.{AreNamesOf, keys_gone, IsCutOf, IsStep, Leaves, LeaveAfter}
@@ -71,15 +72,15 @@ step_evidence kind names part (Keys these keys) places left valid still (one, na
       is_part = has.is_part;
       answers = has.answers;
     })
-step_evidence kind names part (Leave called) places left valid still (call, is, leaves, named, has) =
-    read_only_evidence kind part places left valid still (record {
+step_evidence kind names part (Leave called) places left valid still
+    (call, is, leaves, named, has) =
+    unseen_evidence kind part places left valid still (record {
       wide = ap length named ∙ (all_but_are_numbers part call is.inside).wide;
       is_part = has.is_part;
       answers = has.answers;
-      read_only = subst
-          (λ (ns : List (List ℕ)). LacksReadOnlyAlone
-          (kind_next kind) part ns)
-          (sym named) (lacks_one_alone (kind_next kind) part call is.inside leaves);
+      unseen = subst (LacksUnseenAlone (kind_next kind) part) (sym named)
+          (λ other there unnamed. inl (lacks_one (IsReadOnly (kind_next kind) part) part call
+          is.inside leaves other there unnamed));
     })
 
 -- the places of a step are a list for each caller

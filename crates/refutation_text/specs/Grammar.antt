@@ -1,5 +1,6 @@
 -- The words of the lines after a refutation's title.
-use Rattle.std.specs.Prelude.{◌≡◌, ℕ, ◌<◌, ◌^◌, true, false, List, [], ◌∷◌, length, map, decimal, codes}
+use Rattle.std.specs.Prelude.{◌≡◌, ℕ, ◌-◌, ◌<◌, ◌⊎◌, ◌^◌, true, false, List, [], ◌∷◌, length, map, decimal, codes, slice_index}
+use Rattle.book_base.specs.declared.call.Call.{Call}
 use Rattle.refutations.specs.declared.entry.Entry.{Entry}
 use Rattle.text_fields.specs.declared.version.Version.TheVariants.{Second}
 use Rattle.text_fields.specs.Counts.{AreNumbers, pair_words}
@@ -8,7 +9,7 @@ use Rattle.book_text.specs.CallLines.{place_words}
 use Rattle.book_text.specs.Grammar.{end_words}
 use Rattle.certificate_text.specs.Grammar.{IsNamed}
 use Rattle.refutation_text.specs.declared.TheConstants.{STEP_CALLERS}
-use Rattle.refutation_text.specs.Said.{At, Keys, Leave, LineSaid, StepLine, ImpossibleLine, PlainLine, ItemLine, EndLine}
+use Rattle.refutation_text.specs.Said.{At, Keys, Leave, LineSaid, StepLine, ImpossibleLine, TakesLine, FindLine, PlainLine, ItemLine, EndLine}
 
 -- the title of a refutation, which is the line after the book's lines
 abbrev pub refutation_words : List (List ℕ)
@@ -22,12 +23,38 @@ AreCounts counts = (length counts ≡ STEP_CALLERS) × AreNumbers counts
 abbrev pub IsEntry : Entry → Type 0
 IsEntry entry = (entry.item < 2 ^ 64) × (entry.caller < 2 ^ 64)
 
+-- the value at a place is below 2^32, and above the one before
+abbrev pub IsValueAt : List ℕ → ℕ → Type 0
+IsValueAt values k = (slice_index values k < 2 ^ 32)
+    × ((k ≡ 0) ⊎ (slice_index values (k - 1) < slice_index values k))
+
+-- values that a line can say: at least one, rising, and each below 2^32
+pub record AreValues (values : List ℕ) : Type 0 where
+  pub some : 0 < length values
+  pub each : (k : ℕ) → k < length values → IsValueAt values k
+
+-- a caller and a number that a line can say, where both are any numbers
+abbrev pub IsAnyCall : Call → Type 0
+IsAnyCall call = (call.caller < 2 ^ 64) × (call.number < 2 ^ 64)
+
+-- the words of a line that begins with `counts takes`
+abbrev pub takes_words : ℕ → ℕ → List (List ℕ)
+takes_words value moment =
+    codes "counts" ∷ codes "takes" ∷ decimal value ∷ decimal moment ∷ []
+
+-- the words of a line that begins with `counts find`
+abbrev pub find_words : Call → List ℕ → List (List ℕ)
+find_words call values = codes "counts" ∷ codes "find" ∷ decimal call.caller
+    ∷ decimal call.number ∷ map decimal values
+
 -- what a line can say
 abbrev pub MaySay : LineSaid → Type 0
 MaySay (StepLine (At counts)) = AreCounts counts
 MaySay (StepLine (Keys these keys)) = AreNumbers keys
 MaySay (StepLine (Leave call)) = IsNamed call
 MaySay (ImpossibleLine call) = IsNamed call
+MaySay (TakesLine value moment) = (value < 2 ^ 32) × (moment < 2 ^ 64)
+MaySay (FindLine call values) = IsAnyCall call × AreValues values
 MaySay PlainLine = Unit {0}
 MaySay (ItemLine entry) = IsEntry entry
 MaySay EndLine = Unit {0}
@@ -39,6 +66,8 @@ line_words (StepLine (Keys true keys)) = codes "without" ∷ map decimal keys
 line_words (StepLine (Keys false keys)) = codes "only" ∷ map decimal keys
 line_words (StepLine (Leave call)) = codes "leave" ∷ place_words call
 line_words (ImpossibleLine call) = codes "impossible" ∷ place_words call
+line_words (TakesLine value moment) = takes_words value moment
+line_words (FindLine call values) = find_words call values
 line_words PlainLine = codes "closed" ∷ codes "plain" ∷ []
 line_words (ItemLine entry) = decimal entry.item ∷ decimal entry.caller ∷ []
 line_words EndLine = end_words

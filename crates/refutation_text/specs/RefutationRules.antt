@@ -1,7 +1,6 @@
 -- The lines of a refutation's text, one after the other: which are right, and which test the others
 -- fail.
 use Rattle.std.specs.Prelude.{◌≡◌, ◌≢◌, ℕ, List, [], ◌∷◌, ◌++◌, Option, Some, None}
-use Rattle.book_base.specs.declared.call.Call.{Call}
 use Rattle.book_base.specs.declared.fault.TextFault.{TextFault}
 use Rattle.book_base.specs.declared.fault.What.{What}
 use Rattle.book_base.specs.declared.fault.What.TheVariants as what
@@ -13,7 +12,7 @@ use Rattle.text_fields.specs.Lines.{Unread}
 use Rattle.text_fields.specs.Faults.{Wanted, ALine, TheEnd, Rules, IsFirstFault, IsReadTo}
 use Rattle.text_fields.specs.Head.{TitleDue}
 use Rattle.book_text.specs.BookRules.{BookDue, InHead, InCalls, AtEnd, BookPasses, BookFails, whole_text}
-use Rattle.refutation_text.specs.Said.{StepSaid, EndingSaid, Impossible, Closed, LineSaid, StepLine, ImpossibleLine, PlainLine, ItemLine, EndLine}
+use Rattle.refutation_text.specs.Said.{StepSaid, EndingSaid, Impossible, Takes, Find, Closed, LineSaid, StepLine, ImpossibleLine, TakesLine, FindLine, PlainLine, ItemLine, EndLine}
 use Rattle.refutation_text.specs.Grammar.{refutation_words, IsLine}
 
 -- ---- the lines after the title
@@ -21,16 +20,18 @@ use Rattle.refutation_text.specs.Grammar.{refutation_words, IsLine}
 -- the states of reading the lines after the title, each with what the lines before say
 pub data BodyDue : Type 0 where
   InSteps : List StepSaid → BodyDue
-  EndDue : List StepSaid → Call → BodyDue
+  EndDue : List StepSaid → EndingSaid → BodyDue
   InEntries : List StepSaid → List Entry → BodyDue
   BodyRead : List StepSaid → EndingSaid → BodyDue
 
 -- the state after a line that says this, where the line is right
 abbrev pub after_line : BodyDue → LineSaid → Option BodyDue
 after_line (InSteps steps) (StepLine step) = Some (InSteps (steps ++ step ∷ []))
-after_line (InSteps steps) (ImpossibleLine call) = Some (EndDue steps call)
+after_line (InSteps steps) (ImpossibleLine call) = Some (EndDue steps (Impossible call))
+after_line (InSteps steps) (TakesLine value moment) = Some (EndDue steps (Takes value moment))
+after_line (InSteps steps) (FindLine call values) = Some (EndDue steps (Find call values))
 after_line (InSteps steps) PlainLine = Some (InEntries steps [])
-after_line (EndDue steps call) EndLine = Some (BodyRead steps (Impossible call))
+after_line (EndDue steps ending) EndLine = Some (BodyRead steps ending)
 after_line (InEntries steps entries) (ItemLine entry) =
     Some (InEntries steps (entries ++ entry ∷ []))
 after_line (InEntries steps entries) EndLine = Some (BodyRead steps (Closed entries))
@@ -39,14 +40,14 @@ after_line due line = None
 -- the test that a line fails in a state where it isn't right
 abbrev pub body_test : BodyDue → What
 body_test (InSteps steps) = what.Op
-body_test (EndDue steps call) = what.End
+body_test (EndDue steps ending) = what.End
 body_test (InEntries steps entries) = what.Place
 body_test (BodyRead steps ending) = what.Rest
 
 -- what is due next in each state
 abbrev pub body_wanted : BodyDue → Wanted
 body_wanted (InSteps steps) = ALine
-body_wanted (EndDue steps call) = ALine
+body_wanted (EndDue steps ending) = ALine
 body_wanted (InEntries steps entries) = ALine
 body_wanted (BodyRead steps ending) = TheEnd
 

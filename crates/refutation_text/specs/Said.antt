@@ -14,15 +14,21 @@ pub data StepSaid : Type 0 where
   Keys : Bool → List ℕ → StepSaid
   Leave : Call → StepSaid
 
--- what an ending says: a call, or the entries of a list
+-- What an ending says: that the reply of a call is impossible; that more takes show a value up to a
+-- moment than puts of it begin up to it; that a call finds nothing although puts of some values are
+-- left; or that the entries of a list make it closed.
 pub data EndingSaid : Type 0 where
   Impossible : Call → EndingSaid
+  Takes : ℕ → ℕ → EndingSaid
+  Find : Call → List ℕ → EndingSaid
   Closed : List Entry → EndingSaid
 
 -- what a line after the title says
 pub data LineSaid : Type 0 where
   StepLine : StepSaid → LineSaid
   ImpossibleLine : Call → LineSaid
+  TakesLine : ℕ → ℕ → LineSaid
+  FindLine : Call → List ℕ → LineSaid
   PlainLine : LineSaid
   ItemLine : Entry → LineSaid
   EndLine : LineSaid
@@ -41,4 +47,7 @@ steps_said steps = map step_said steps
 -- what a stored ending says
 abbrev pub ending_said : Ending → EndingSaid
 ending_said (endings.Impossible call) = Impossible call
+ending_said (endings.CountsTakes value moment) = Takes value moment
+ending_said (endings.CountsFind caller number values) =
+    Find (record { caller = caller; number = number }) values.items
 ending_said (endings.Closed entries) = Closed entries.items

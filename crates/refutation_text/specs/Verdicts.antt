@@ -1,11 +1,14 @@
 -- What a refutation shows of its book.
-use Rattle.std.specs.Prelude.{◌≡◌, ℕ, ◌⊎◌, List, length}
+use Rattle.std.specs.Prelude.{◌≡◌, ℕ, ◌⊎◌, true, false, List, [], ◌∷◌, length}
 use Rattle.book_base.specs.declared.call.Call.{Call}
 use Rattle.book_base.specs.Book.{Page}
 use Rattle.book_base.specs.Order.{HasLegalOrder}
 use Rattle.seq_objects.specs.declared.kind.Kind.{Kind}
 use Rattle.seq_objects.specs.Objects.{kind_spec}
+use Rattle.broken_rules.specs.Deeds.{reading_of}
+use Rattle.broken_rules.specs.Rules.{holds_values}
 use Rattle.refutations.specs.Closed.{MakeClosed}
+use Rattle.refutations.specs.Counts.{TakesExceedPuts, FindMissesPuts}
 use Rattle.refutations.specs.Fault.{IsFirstFault}
 use Rattle.refutations.specs.Impossible.{IsImpossible}
 use Rattle.refutation_text.specs.declared.fault.RefutationFault.{RefutationFault}
@@ -14,7 +17,7 @@ use Rattle.refutation_text.specs.declared.part_steps.StepFault.{StepFault}
 use Rattle.refutation_text.specs.declared.part_steps.StepFault.TheVariants as reasons
 use Rattle.refutation_text.specs.declared.verdict.RefutationVerdict.{RefutationVerdict}
 use Rattle.refutation_text.specs.declared.verdict.RefutationVerdict.TheVariants.{Illegal, Faulty}
-use Rattle.refutation_text.specs.Said.{StepSaid, EndingSaid, Impossible, Closed}
+use Rattle.refutation_text.specs.Said.{StepSaid, EndingSaid, Impossible, Takes, Find, Closed}
 use Rattle.refutation_text.specs.RefutationRules.{IsRefutationText}
 use Rattle.refutation_text.specs.Steps.{IsCalled, LeaveAfter, IsFirstStepFault}
 
@@ -22,14 +25,29 @@ use Rattle.refutation_text.specs.Steps.{IsCalled, LeaveAfter, IsFirstStepFault}
 abbrev pub IsShown : Kind → List (List ℕ) → List Page → EndingSaid → Type 0
 IsShown kind names part (Impossible named) = (call : Call) × IsCalled names part named call
     × IsImpossible (kind_spec kind) part call
+IsShown kind names part (Takes value moment) = (holds_values kind ≡ true)
+    × TakesExceedPuts (reading_of kind) part (value ∷ []) moment
+IsShown kind names part (Find named values) = (holds_values kind ≡ true)
+    × (call : Call) × IsCalled names part named call
+    × FindMissesPuts (reading_of kind) part values call
 IsShown kind names part (Closed entries) = MakeClosed (kind_spec kind) part entries
 
 -- What an ending with the number `s` says of a part isn't so, for this fault.
-abbrev pub EndingFails : Kind → List (List ℕ) → List Page → ℕ → EndingSaid → RefutationFault → Type 0
+abbrev pub EndingFails : Kind → List (List ℕ) → List Page → ℕ → EndingSaid
+    → RefutationFault → Type 0
 EndingFails kind names part s (Impossible named) (faults.Lacks at) =
     (at ≡ s) × ((call : Call) → IsCalled names part named call → ⊥)
 EndingFails kind names part s (Impossible named) faults.Possible = (call : Call)
     × IsCalled names part named call × (IsImpossible (kind_spec kind) part call → ⊥)
+EndingFails kind names part s (Takes value moment) faults.Kind = holds_values kind ≡ false
+EndingFails kind names part s (Takes value moment) faults.Possible = (holds_values kind ≡ true)
+    × (TakesExceedPuts (reading_of kind) part (value ∷ []) moment → ⊥)
+EndingFails kind names part s (Find named values) faults.Kind = holds_values kind ≡ false
+EndingFails kind names part s (Find named values) (faults.Lacks at) = (holds_values kind ≡ true)
+    × (at ≡ s) × ((call : Call) → IsCalled names part named call → ⊥)
+EndingFails kind names part s (Find named values) faults.Possible = (holds_values kind ≡ true)
+    × (call : Call) × IsCalled names part named call
+    × (FindMissesPuts (reading_of kind) part values call → ⊥)
 EndingFails kind names part s (Closed entries) (faults.Closed fault) =
     IsFirstFault (kind_spec kind) part entries fault
 EndingFails kind names part s ending fault = ⊥

@@ -2,12 +2,12 @@
 
 ghost use Rattle.std.specs.Prelude.{◌≡◌, [], IfOk, IfErr};
 ghost use Rattle.refutation_text.specs.Said.{steps_said, ending_said};
-ghost use Rattle.refutation_text.specs.Reading.{IsTitle, IsNoTitle, AreSteps, AreEntries, AreNoEntries, IsEnd, IsNoEnd, IsBody, IsNoBody, IsRest};
+ghost use Rattle.refutation_text.specs.Reading.{IsTitle, IsNoTitle, AreSteps, AreEntries, AreNoEntries, IsEnd, IsNoEnd, IsRestOf, IsNoRestOf, IsBody, IsNoBody, IsRest};
 
 use crate::fields::entry_of;
 use crate::line::{opening_of, step_of};
 use crate::refutation::{Ending, Step};
-use book_base::{Call, ReadFault, TextFault, What};
+use book_base::{ReadFault, TextFault, What};
 use certificate_text::is_end;
 use refutations::Entry;
 use std::alloc::Global;
@@ -36,24 +36,30 @@ pub(crate) fn read_body(alloc: Global, lines: &mut Lines) -> Result<(Vec<Step>, 
         IsBody lines.old (steps_said steps.items) (ending_said ending) lines.new) }
     ensures refused { IfErr result (IsNoBody lines.old) }
 {
-    let (steps, named) = read_steps(alloc, lines)?;
-    match named {
-        Some(call) => {
+    let (steps, begun) = read_steps(alloc, lines)?;
+    let ending = read_ending(lines, begun)?;
+    Ok((steps, ending))
+}
+
+/// The ending that the lines give after the one that begins it.
+fn read_ending(lines: &mut Lines, begun: Ending) -> Result<Ending, ReadFault>
+    ensures found { IfOk result (λ ending.
+        IsRestOf (ending_said begun) lines.old (ending_said ending) lines.new) }
+    ensures refused { IfErr result (IsNoRestOf (ending_said begun) lines.old) }
+{
+    match begun {
+        Ending::Closed(entries) => Ok(Ending::Closed(read_entries(lines, entries)?)),
+        whole => {
             read_end(lines)?;
-            Ok((steps, Ending::Impossible(call)))
-        }
-        None => {
-            let entries = read_entries(alloc, lines)?;
-            Ok((steps, Ending::Closed(entries)))
+            Ok(whole)
         }
     }
 }
 
-/// The steps that the lines give, and what the line after them says: the call whose reply is
-/// impossible, or none, where entries follow.
-fn read_steps(alloc: Global, lines: &mut Lines) -> Result<(Vec<Step>, Option<Call>), ReadFault>
-    ensures found { IfOk result (λ (steps, named).
-        AreSteps lines.old (steps_said steps.items) named lines.new) }
+/// The steps that the lines give, and the ending that the line after them begins.
+fn read_steps(alloc: Global, lines: &mut Lines) -> Result<(Vec<Step>, Ending), ReadFault>
+    ensures found { IfOk result (λ (steps, begun).
+        AreSteps lines.old (steps_said steps.items) (ending_said begun) lines.new) }
     ensures refused { IfErr result (IsNoBody lines.old) }
 {
     let mut steps = Vec::new(alloc);
@@ -62,25 +68,29 @@ fn read_steps(alloc: Global, lines: &mut Lines) -> Result<(Vec<Step>, Option<Cal
         let line = lines.line()?;
         match step_of(alloc, line)? {
             Some(step) => steps.push(step)?,
-            None => match opening_of(line) {
-                Some(named) => return Ok((steps, named)),
-                None => {
-                    return Err(ReadFault::Text(TextFault {
-                        line: number,
-                        what: What::Op,
-                    }));
+            None => {
+                let opening = opening_of(alloc, line)?;
+                match opening {
+                    Some(begun) => return Ok((steps, begun)),
+                    None => {
+                        return Err(ReadFault::Text(TextFault {
+                            line: number,
+                            what: What::Op,
+                        }));
+                    }
                 }
-            },
+            }
         }
     }
 }
 
-/// The entries that the lines give, up to the end.
-fn read_entries(alloc: Global, lines: &mut Lines) -> Result<Vec<Entry>, ReadFault>
-    ensures found { IfOk result (λ entries. AreEntries lines.old entries.items lines.new) }
-    ensures refused { IfErr result (AreNoEntries lines.old) }
+/// Some entries, and those that the lines give, up to the end.
+fn read_entries(lines: &mut Lines, first: Vec<Entry>) -> Result<Vec<Entry>, ReadFault>
+    ensures found { IfOk result (λ entries.
+        AreEntries first.items lines.old entries.items lines.new) }
+    ensures refused { IfErr result (AreNoEntries first.items lines.old) }
 {
-    let mut entries = Vec::new(alloc);
+    let mut entries = first;
     loop {
         let line = lines.number();
         let words = Words::new(lines.line()?);
@@ -99,7 +109,7 @@ fn read_entries(alloc: Global, lines: &mut Lines) -> Result<Vec<Entry>, ReadFaul
     }
 }
 
-/// Reads the end of a refutation that names a call.
+/// Reads the end of a refutation whose ending has no entries.
 fn read_end(lines: &mut Lines) -> Result<(), TextFault>
     ensures found { IfOk result (λ _. IsEnd lines.old lines.new) }
     ensures refused { IfErr result (IsNoEnd lines.old) }

@@ -7,6 +7,9 @@ use thiserror::Error;
 /// The steps are tried first, then the ending, and then its entries.
 #[derive(Clone, Copy, Debug, PartialEq, Eq, Error)]
 pub enum RefutationFault {
+    /// The ending isn't for objects of this kind.
+    #[error("the ending isn't for objects of this kind")]
+    Kind,
     /// This step or ending names a caller that the book lacks, or a call that the part lacks.
     #[error("step {0} names what isn't there")]
     Lacks(u64),
@@ -16,8 +19,9 @@ pub enum RefutationFault {
     /// The call of this step `leave` isn't read-only.
     #[error("the call of step {0} isn't read-only")]
     Changes(u64),
-    /// Some state gives the call's operation its reply, or the call is unanswered.
-    #[error("the reply isn't impossible")]
+    /// What an ending without entries says isn't so: some state gives the call's operation its
+    /// reply, or the call is unanswered; or the counts are others.
+    #[error("what the ending says isn't so")]
     Possible,
     /// The entries make no closed list.
     #[error(transparent)]

@@ -1,12 +1,12 @@
 //! The words of a line after the title of a refutation, read as one form of line.
 
-ghost use Rattle.std.specs.Prelude.{◌≡◌, ◌≢◌, ℕ, ◌∷◌, [], List, map, decimal, codes, IfOk, IfSome, IfNone};
+ghost use Rattle.std.specs.Prelude.{◌≡◌, ◌≢◌, ◌↔◌, ℕ, ◌<◌, ◌^◌, ◌∷◌, ◌++◌, [], List, length, map, decimal, codes, IfOk, IfSome, IfNone, IsTrue};
 ghost use Rattle.book_base.specs.declared.call.Call.{Call};
 ghost use Rattle.refutations.specs.declared.entry.Entry.{Entry};
 ghost use Rattle.text_fields.specs.Counts.{AreNumbers, pair_words};
 ghost use Rattle.book_text.specs.CallLines.{place_words};
 ghost use Rattle.certificate_text.specs.Grammar.{IsNamed};
-ghost use Rattle.refutation_text.specs.Grammar.{AreCounts, IsEntry};
+ghost use Rattle.refutation_text.specs.Grammar.{AreCounts, AreValues, IsAnyCall, IsValueAt, IsEntry, takes_words, find_words};
 
 use crate::STEP_CALLERS;
 use book_base::{Call, Cut, NoMemory};
@@ -80,6 +80,91 @@ pub(crate) fn call_of(words: &mut Words, first: &[u8]) -> Option<Call>
         None => Some(call),
         Some(_) => None,
     }
+}
+
+/// The words `counts takes`, a value below 2^32 and a moment.
+pub(crate) fn takes_of(words: &mut Words) -> Option<(u64, u64)>
+    ensures found { IfSome result (λ (value, moment).
+        (value < 2 ^ 32) × (moment < 2 ^ 64) × (words.old ≡ takes_words value moment)) }
+    ensures none { IfNone result ((value moment : ℕ) → value < 2 ^ 32 → moment < 2 ^ 64
+        → words.old ≢ takes_words value moment) }
+{
+    take_word(words, b"counts")?;
+    take_word(words, b"takes")?;
+    let value = next_number(words, u64::from(u32::MAX))?;
+    let moment = next_number(words, u64::MAX)?;
+    match words.next() {
+        None => Some((value, moment)),
+        Some(_) => None,
+    }
+}
+
+/// The words `counts find`, a caller, a number, and rising values below 2^32, of which there is at
+/// least one.
+pub(crate) fn find_of(
+    alloc: Global,
+    words: &mut Words,
+) -> Result<Option<(u64, u64, Vec<u64>)>, NoMemory>
+    ensures found { IfOk result (λ found. IfSome found (λ (caller, number, values).
+        IsAnyCall (record { caller = caller; number = number }) × AreValues values.items
+        × (words.old
+        ≡ find_words (record { caller = caller; number = number }) values.items))) }
+    ensures none { IfOk result (λ found. IfNone found ((call : Call) (values : List ℕ)
+        → IsAnyCall call → AreValues values → words.old ≢ find_words call values)) }
+{
+    let Some((caller, number)) = find_call_of(words) else {
+        return Ok(None);
+    };
+    match numbers_of(alloc, words)? {
+        Some(values) => {
+            if !are_values(&values) {
+                return Ok(None);
+            }
+            Ok(Some((caller, number, values)))
+        }
+        None => Ok(None),
+    }
+}
+
+/// The words `counts find`, a caller and a number; the other words are left.
+fn find_call_of(words: &mut Words) -> Option<(u64, u64)>
+    ensures found { IfSome result (λ (caller, number).
+        IsAnyCall (record { caller = caller; number = number })
+        × (words.old ≡ find_words (record { caller = caller; number = number }) [] ++ words.new)) }
+    ensures none { IfNone result ((call : Call) (values : List ℕ) → IsAnyCall call
+        → words.old ≢ find_words call values) }
+{
+    take_word(words, b"counts")?;
+    take_word(words, b"find")?;
+    let caller = next_number(words, u64::MAX)?;
+    let number = next_number(words, u64::MAX)?;
+    Some((caller, number))
+}
+
+/// Whether there is a value, each is below 2^32, and they rise.
+fn are_values(values: &[u64]) -> bool
+    ensures { IsTrue result ↔ AreValues values.now }
+{
+    for k in 0..values.len() {
+        if !is_value_at(values, k) {
+            return false;
+        }
+    }
+    !values.is_empty()
+}
+
+/// Whether the value at a place is below 2^32, and above the one before.
+fn is_value_at(values: &[u64], k: usize) -> bool
+    requires { k < length values.now }
+    ensures { IsTrue result ↔ IsValueAt values.now k }
+{
+    if values[k] > u64::from(u32::MAX) {
+        return false;
+    }
+    if k == 0 {
+        return true;
+    }
+    values[k - 1] < values[k]
 }
 
 /// The number of an item and a caller, as an entry.

@@ -1,15 +1,14 @@
 //! A line after the title of a refutation, by itself.
 
-ghost use Rattle.std.specs.Prelude.{Option, IfOk, IfSome, IfNone};
-ghost use Rattle.book_base.specs.declared.call.Call.{Call};
+ghost use Rattle.std.specs.Prelude.{IfOk, IfSome, IfNone};
 ghost use Rattle.text_fields.specs.Lines.{words_of};
-ghost use Rattle.refutation_text.specs.Said.{StepSaid, StepLine, step_said};
+ghost use Rattle.refutation_text.specs.Said.{StepSaid, EndingSaid, StepLine, step_said, ending_said};
 ghost use Rattle.refutation_text.specs.Grammar.{IsLine};
-ghost use Rattle.refutation_text.specs.Reading.{opening_line};
+ghost use Rattle.refutation_text.specs.Reading.{opening_line, Opens};
 
-use crate::fields::{call_of, counts_of, keys_of};
-use crate::refutation::Step;
-use book_base::{Call, NoMemory};
+use crate::fields::{call_of, counts_of, find_of, keys_of, takes_of};
+use crate::refutation::{Ending, Step};
+use book_base::NoMemory;
 use std::alloc::Global;
 use text_fields::{Words, are_words};
 
@@ -36,19 +35,26 @@ pub(crate) fn step_of(alloc: Global, line: &[u8]) -> Result<Option<Step>, NoMemo
     }
 }
 
-/// The call whose reply is impossible by a line that begins an ending, or none, where entries
-/// follow it. `None` is answered of other lines.
-pub(crate) fn opening_of(line: &[u8]) -> Option<Option<Call>>
-    ensures found { IfSome result (λ named. IsLine (words_of line.now) (opening_line named)) }
-    ensures none { IfNone result ((named : Option Call)
-        → IsLine (words_of line.now) (opening_line named) → ⊥) }
+/// The ending that a line begins, with no entries as yet where entries follow. `None` is answered
+/// of other lines.
+pub(crate) fn opening_of(alloc: Global, line: &[u8]) -> Result<Option<Ending>, NoMemory>
+    ensures found { IfOk result (λ found. IfSome found (λ ending.
+        Opens (words_of line.now) (ending_said ending))) }
+    ensures none { IfOk result (λ found. IfNone found ((ending : EndingSaid)
+        → IsLine (words_of line.now) (opening_line ending) → ⊥)) }
 {
     let words = Words::new(line);
     if are_words(&mut words.copy(), b"closed", b"plain") {
-        return Some(None);
+        return Ok(Some(Ending::Closed(Vec::new(alloc))));
     }
-    match call_of(&mut words.copy(), b"impossible") {
-        Some(call) => Some(Some(call)),
-        None => None,
+    if let Some(call) = call_of(&mut words.copy(), b"impossible") {
+        return Ok(Some(Ending::Impossible(call)));
+    }
+    if let Some((value, moment)) = takes_of(&mut words.copy()) {
+        return Ok(Some(Ending::CountsTakes(value, moment)));
+    }
+    match find_of(alloc, &mut words.copy())? {
+        Some((caller, number, values)) => Ok(Some(Ending::CountsFind(caller, number, values))),
+        None => Ok(None),
     }
 }

@@ -22,6 +22,13 @@ pub enum Ending {
     /// This call is answered, and no state gives its operation this reply. The book need not have
     /// it.
     Impossible(Call),
+    /// Up to a moment, the second number, more takes that show a value, the first number, are due
+    /// than puts of it begin.
+    CountsTakes(u64, u64),
+    /// The call of the caller with the first number, and with the second number, is a take with the
+    /// reply `none`, and more answered puts of these values precede it than its view holds takes
+    /// that are unanswered or show one of these values. The book need not have it.
+    CountsFind(u64, u64, Vec<u64>),
     /// These entries make a closed list of pairs of calls and a state.
     Closed(Vec<Entry>),
 }

@@ -1,15 +1,16 @@
 //! What a refutation shows of its book.
 
-ghost use Rattle.std.specs.Prelude.{◌≡◌, ◌⊎◌, ◌↔◌, IfOk, IfErr, IfSome, IfNone, IsTrue, MatchResult};
+ghost use Rattle.std.specs.Prelude.{◌≡◌, ◌⊎◌, ◌↔◌, ℕ, IfOk, IfErr, IfSome, IfNone, IsTrue, MatchResult};
 ghost use Rattle.book_base.specs.declared.fault.TextFault.{TextFault};
+ghost use Rattle.book_base.specs.declared.call.Call.{Call};
 ghost use Rattle.book_base.specs.Book.{IsCall};
 ghost use Rattle.seq_objects.specs.Objects.{kind_spec};
 ghost use Rattle.refutations.specs.Impossible.{IsImpossible};
 ghost use Rattle.text_fields.specs.Faults.{IsFaultOf};
 ghost use Rattle.smaller_book.specs.Numbers.{numbers_in};
 ghost use Rattle.refutation_text.specs.RefutationRules.{IsFirstRefutationFault};
-ghost use Rattle.refutation_text.specs.Said.{Impossible, steps_said, ending_said};
-ghost use Rattle.refutation_text.specs.Steps.{AreNamesOf};
+ghost use Rattle.refutation_text.specs.Said.{Impossible, Takes, Find, steps_said, ending_said};
+ghost use Rattle.refutation_text.specs.Steps.{AreNamesOf, IsCalled};
 ghost use Rattle.refutation_text.specs.Verdicts.{IsShown, EndingFails, step_fault, IsVerdictOf, IsRefutationVerdict, IsOfIllegalBook};
 
 use crate::fault::RefutationFault;
@@ -17,7 +18,9 @@ use crate::part_steps::{StepFault, call_in, part_of};
 use crate::reader::read_refutation;
 use crate::refutation::{Ending, Refutation};
 use book_base::{Book, Call, NoMemory, ReadFault};
-use refutations::{check_closed, has_impossible_reply};
+use refutations::{
+    check_closed, find_misses_puts, has_impossible_reply, holds_values, takes_exceed_puts,
+};
 use seq_objects::Kind;
 use smaller_book::Smaller;
 use std::alloc::Global;
@@ -71,10 +74,16 @@ fn judge(alloc: Global, read: Refutation) -> Result<RefutationVerdict, NoMemory>
     ensures { IfOk result (IsVerdictOf read.kind read.book (steps_said read.steps.items)
         (ending_said read.ending)) }
 {
-    let steps = read.steps.len() as u64;
-    match part_of(alloc, read.kind, read.book, &read.steps)? {
+    let Refutation {
+        kind,
+        book,
+        steps,
+        ending,
+    } = read;
+    let count = steps.len() as u64;
+    match part_of(alloc, kind, book, &steps)? {
         Err((s, why)) => Ok(RefutationVerdict::Faulty(fault_of_step(s, why))),
-        Ok(left) => match fault_of_ending(alloc, read.kind, &left, steps, &read.ending)? {
+        Ok(left) => match fault_of_ending(alloc, kind, &left, count, &ending)? {
             Some(fault) => Ok(RefutationVerdict::Faulty(fault)),
             None => Ok(RefutationVerdict::Illegal),
         },
@@ -109,6 +118,10 @@ fn fault_of_ending(
 {
     match ending {
         Ending::Impossible(named) => Ok(fault_of_reply(kind, left, steps, *named)),
+        Ending::CountsTakes(value, moment) => fault_of_takes(alloc, kind, left, *value, *moment),
+        Ending::CountsFind(caller, number, values) => {
+            fault_of_find(alloc, kind, left, steps, *caller, *number, values)
+        }
         Ending::Closed(entries) => match check_closed(alloc, &kind, &left.book, entries)? {
             Ok(()) => Ok(None),
             Err(fault) => Ok(Some(RefutationFault::Closed(fault))),
@@ -140,4 +153,73 @@ fn is_impossible(kind: Kind, book: &Book, call: Call) -> bool
     ensures { IsTrue result ↔ IsImpossible (kind_spec kind) book.now call }
 {
     call.number < book.answers(call.caller) && has_impossible_reply(kind, book, call)
+}
+
+// Why counts of takes and puts of a value up to a moment don't refute a book.
+fn fault_of_takes(
+    alloc: Global,
+    kind: Kind,
+    left: &Smaller,
+    value: u64,
+    moment: u64,
+) -> Result<Option<RefutationFault>, NoMemory>
+    ensures fault { IfOk result (λ found. IfSome found (λ fault. (s : ℕ) → EndingFails kind
+        (numbers_in left.now.numbers.items) left.now.book s (Takes value moment) fault)) }
+    ensures shown { IfOk result (λ found. IfNone found (IsShown kind
+        (numbers_in left.now.numbers.items) left.now.book (Takes value moment))) }
+{
+    if !holds_values(kind) {
+        return Ok(Some(RefutationFault::Kind));
+    }
+    if takes_exceed_puts(alloc, kind, &left.book, &[value], moment)? {
+        Ok(None)
+    } else {
+        Ok(Some(RefutationFault::Possible))
+    }
+}
+
+// Why counts of puts before a call that finds nothing don't refute a book.
+fn fault_of_find(
+    alloc: Global,
+    kind: Kind,
+    left: &Smaller,
+    steps: u64,
+    caller: u64,
+    number: u64,
+    values: &[u64],
+) -> Result<Option<RefutationFault>, NoMemory>
+    requires { AreNamesOf (numbers_in left.now.numbers.items) left.now.book }
+    ensures fault { IfOk result (λ found. IfSome found (EndingFails kind
+        (numbers_in left.now.numbers.items) left.now.book steps
+        (Find (record { caller = caller; number = number }) values.now))) }
+    ensures shown { IfOk result (λ found. IfNone found (IsShown kind
+        (numbers_in left.now.numbers.items) left.now.book
+        (Find (record { caller = caller; number = number }) values.now))) }
+{
+    if !holds_values(kind) {
+        return Ok(Some(RefutationFault::Kind));
+    }
+    let Some(find) = any_call_in(left, caller, number) else {
+        return Ok(Some(RefutationFault::Lacks(steps)));
+    };
+    if find_misses_puts(alloc, kind, &left.book, values, find)? {
+        Ok(None)
+    } else {
+        Ok(Some(RefutationFault::Possible))
+    }
+}
+
+// The call of a part that is, in the book, the one with any caller and number.
+fn any_call_in(left: &Smaller, caller: u64, number: u64) -> Option<Call>
+    requires { AreNamesOf (numbers_in left.now.numbers.items) left.now.book }
+    ensures found { IfSome result (IsCalled (numbers_in left.now.numbers.items) left.now.book
+        (record { caller = caller; number = number })) }
+    ensures none { IfNone result ((call : Call) → IsCalled (numbers_in left.now.numbers.items)
+        left.now.book (record { caller = caller; number = number }) call → ⊥) }
+{
+    if caller >= u64::from(left.book.callers()) {
+        return None;
+    }
+    let caller = caller as u32;
+    call_in(left, Call { caller, number })
 }

@@ -18,6 +18,7 @@ abbrev pub fault_words : RefutationFault → List ℕ
 fault_words (faults.Lacks s) = codes "Lacks" ++ after_space s
 fault_words (faults.Open s) = codes "Open" ++ after_space s
 fault_words (faults.Changes s) = codes "Changes" ++ after_space s
+fault_words faults.Kind = codes "Kind"
 fault_words faults.Possible = codes "Possible"
 fault_words (faults.Closed (closed.Unlisted e)) = codes "Unlisted" ++ after_space e
 fault_words (faults.Closed (closed.Whole e)) = codes "Whole" ++ after_space e

@@ -46,6 +46,7 @@ fn put_fault(out: &mut Vec<u8>, fault: RefutationFault) -> Result<(), NoMemory>
     ensures { OnOk result (out.new.items ≡ out.old.items ++ fault_words fault) }
 {
     match fault {
+        RefutationFault::Kind => Ok(out.extend_from_slice(b"Kind")?),
         RefutationFault::Possible => Ok(out.extend_from_slice(b"Possible")?),
         RefutationFault::Lacks(s) => put_numbered(out, b"Lacks", s),
         RefutationFault::Open(s) => put_numbered(out, b"Open", s),

@@ -5,3 +5,6 @@ pub mod Storing
 pub mod Fitting
 pub mod Leading
 pub mod Judging
+pub mod Matching
+pub mod Counting
+pub mod Containers

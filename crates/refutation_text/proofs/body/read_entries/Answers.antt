@@ -14,7 +14,7 @@ pub returns-in_err-line-clause-refused : goal.returns-in_err-line-clause-refused
 returns-in_err-line-clause-refused c =
     let p = err_from_is_err_and c.from_residual.result c.from_residual.ensures.1 in
     let l = c.loop-entries in
-    rw (p.1, p.2) (λ steps. stops_later body_rules (InEntries steps [])
+    rw (p.1, p.2) (λ steps. stops_later body_rules (InEntries steps c.args.first.items)
     (InEntries steps l.entries.items) c.args.lines.now l.lines c.in_err-line.field-0.0
     (l.invariant steps) (stops_cut body_rules (InEntries steps l.entries.items) l.lines
     c.in_err-line.field-0.0 refl c.in_err-line.ensures.cut.0))
@@ -33,10 +33,11 @@ loop-entries-preserved c = λ steps.
       },
       refl,
     ) in
-    let both = goes_then body_rules (InEntries steps []) (InEntries steps old)
+    let both = goes_then body_rules (InEntries steps c.args.first.items) (InEntries steps old)
     (InEntries steps (old ++ entry ∷ [])) c.args.lines.now l.lines c.line.new.self
     (l.invariant steps) line in
-    subst (λ (entries : List Entry). GoesTo body_rules (InEntries steps []) c.args.lines.now
+    subst (λ (entries : List Entry).
+    GoesTo body_rules (InEntries steps c.args.first.items) c.args.lines.now
     (InEntries steps entries) c.line.new.self) (sym c.in_ok-push-in-Some.ensures.items) both
 
 pub returns-then-is_end-clause-found : goal.returns-then-is_end-clause-found
@@ -53,19 +54,21 @@ returns-then-is_end-clause-found c = λ steps.
       },
       refl,
     ) in
-    goes_then body_rules (InEntries steps []) (InEntries steps old)
+    goes_then body_rules (InEntries steps c.args.first.items) (InEntries steps old)
     (BodyRead steps (Closed old)) c.args.lines.now l.lines c.line.new.self (l.invariant steps) line
 
 pub returns-in-None-clause-refused : goal.returns-in-None-clause-refused
 returns-in-None-clause-refused c = λ steps.
     let l = c.loop-entries in
     let old : List Entry = l.entries.items in
-    rw c.number-line.ensures (stops_later body_rules (InEntries steps []) (InEntries steps old)
+    rw c.number-line.ensures
+    (stops_later body_rules (InEntries steps c.args.first.items) (InEntries steps old)
     c.args.lines.now l.lines _ (l.invariant steps)
     (stops_line body_rules (InEntries steps old) l.lines c.line.new.self
     c.in_ok-line.field-0.now Place refl c.in_ok-line.ensures.line
     (no_entry steps old (words_of c.in_ok-line.field-0.now)
-    (λ entry may text. c.in-None.ensures.none entry may (c.copy.ensures ∙ c.new-words.ensures ∙ text))
+    (λ entry may text.
+    c.in-None.ensures.none entry may (c.copy.ensures ∙ c.new-words.ensures ∙ text))
     (λ e. let is : c.is_end.result ≡ true =
     c.is_end.ensures.1 (c.copy-in-None.ensures ∙ c.new-words.ensures ∙ e) in
     absurd (cc (is, c.if-is_end.false))))))

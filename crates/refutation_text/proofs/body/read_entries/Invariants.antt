@@ -1,4 +1,4 @@
-use Rattle.std.proofs.Common.{[], List, length}
+use Rattle.std.proofs.Common.{List, length}
 use Rattle.text_fields.specs.Faults.{GoesTo}
 use Rattle.refutation_text.specs.Said.{StepSaid}
 use Rattle.refutation_text.specs.RefutationRules.{InEntries, body_rules}
@@ -6,7 +6,8 @@ use Rattle.refutation_text.proofs.body.read_entries.Given as goal
 
 abbrev pub invariant-loop-entries : goal.invariant-loop-entries
 invariant-loop-entries l = (steps : List StepSaid)
-    → GoesTo body_rules (InEntries steps []) l.fn.lines (InEntries steps l.entries.items) l.lines
+    → GoesTo body_rules (InEntries steps l.fn.first.items) l.fn.lines
+    (InEntries steps l.entries.items) l.lines
 
 abbrev pub decreases-loop-entries : goal.decreases-loop-entries
 decreases-loop-entries l = length l.lines.bytes

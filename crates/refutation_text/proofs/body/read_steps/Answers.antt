@@ -4,7 +4,7 @@ use Rattle.book_base.specs.declared.fault.What.TheVariants.{Op}
 use Rattle.text_fields.specs.Lines.{words_of}
 use Rattle.text_fields.specs.Faults.{GoesTo}
 use Rattle.text_fields.proofs.Sharp.{goes_then, goes_line, stops_line, stops_later}
-use Rattle.refutation_text.specs.Said.{StepSaid, StepLine, step_said, steps_said}
+use Rattle.refutation_text.specs.Said.{StepSaid, StepLine, step_said, steps_said, ending_said}
 use Rattle.refutation_text.specs.RefutationRules.{InSteps, body_rules}
 use Rattle.refutation_text.specs.Reading.{opening_line, ending_due}
 use Rattle.refutation_text.proofs.Parts.{no_step, opens}
@@ -27,23 +27,25 @@ loop-steps-preserved c =
     (sym (ap steps_said c.in_ok-push-in-Some.ensures.items ∙ map_push step_said l.steps.items step))
     both
 
-pub returns-in-Some-opening_of-clause-found : goal.returns-in-Some-opening_of-clause-found
-returns-in-Some-opening_of-clause-found c =
+pub returns-in-Some-opening-clause-found : goal.returns-in-Some-opening-clause-found
+returns-in-Some-opening-clause-found c =
     let l = c.loop-steps in
     let old : List StepSaid = steps_said l.steps.items in
-    let named = c.in-Some-opening_of.named in
-    let line = goes_line body_rules (InSteps old) (ending_due old named) l.lines
+    let begun = ending_said c.in-Some-opening.begun in
+    let found = rw c.in-Some-opening.is at c.in_ok-opening-in-None.ensures.found in
+    let line = goes_line body_rules (InSteps old) (ending_due old begun) l.lines
     c.line.new.self c.in_ok-line.line.now c.in_ok-line.ensures.line
-    (opening_line named, c.in-Some-opening_of.ensures.found, opens old named) in
-    goes_then body_rules (InSteps []) (InSteps old) (ending_due old named) c.args.lines.now
+    (opening_line begun, found.1, opens old begun found.0) in
+    goes_then body_rules (InSteps []) (InSteps old) (ending_due old begun) c.args.lines.now
     l.lines c.line.new.self l.invariant line
 
-pub returns-in-None-opening_of-clause-refused : goal.returns-in-None-opening_of-clause-refused
-returns-in-None-opening_of-clause-refused c =
+pub returns-in-None-opening-clause-refused : goal.returns-in-None-opening-clause-refused
+returns-in-None-opening-clause-refused c =
     let l = c.loop-steps in
     let old : List StepSaid = steps_said l.steps.items in
     let none = rw c.in-None.is at c.in_ok-step.ensures.none in
+    let opens_none = rw c.in-None-opening.is at c.in_ok-opening-in-None.ensures.none in
     rw c.number-number.ensures (stops_later body_rules (InSteps []) (InSteps old) c.args.lines.now
     l.lines _ l.invariant (stops_line body_rules (InSteps old) l.lines c.line.new.self
     c.in_ok-line.line.now Op refl c.in_ok-line.ensures.line
-    (no_step old (words_of c.in_ok-line.line.now) none c.in-None-opening_of.ensures.none)))
+    (no_step old (words_of c.in_ok-line.line.now) none opens_none)))

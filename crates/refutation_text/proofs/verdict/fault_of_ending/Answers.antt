@@ -1,0 +1,12 @@
+use Rattle.smaller_book.specs.Numbers.{numbers_in}
+use Rattle.refutation_text.specs.Said.{Takes}
+use Rattle.refutation_text.specs.Verdicts.{EndingFails}
+use Rattle.refutation_text.proofs.Judging.{for_steps}
+use Rattle.refutation_text.proofs.verdict.fault_of_ending.Goals as goal
+
+pub returns-in-CountsTakes-clause-fault : goal.returns-in-CountsTakes-clause-fault
+returns-in-CountsTakes-clause-fault c =
+    rw c.in-CountsTakes.is (for_steps c.fault_of_takes.result
+    (λ s. EndingFails c.args.kind (numbers_in c.args.left.now.numbers.items)
+    c.args.left.now.book s (Takes c.in-CountsTakes.value c.in-CountsTakes.moment))
+    c.fault_of_takes.ensures.fault c.args.steps)
