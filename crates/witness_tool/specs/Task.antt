@@ -2,7 +2,7 @@
 use Rattle.std.specs.Prelude.{ℕ, List, [], ◌∷◌, Option, Some, None, codes, if◌then◌else◌}
 use Rattle.std.specs.Str.{bytes_eq}
 use Rattle.witness_tool.specs.declared.task.Task.{Task}
-use Rattle.witness_tool.specs.declared.task.Task.TheVariants.{Picture, Smaller, Explain, Certificate}
+use Rattle.witness_tool.specs.declared.task.Task.TheVariants.{Picture, Smaller, Explain, Evidence}
 
 -- The tasks, each with its word.
 abbrev pub tasks : List (List ℕ × Task)
@@ -10,7 +10,7 @@ tasks =
     (codes "picture", Picture)
     ∷ (codes "smaller", Smaller)
     ∷ (codes "explain", Explain)
-    ∷ (codes "certificate", Certificate)
+    ∷ (codes "evidence", Evidence)
     ∷ []
 
 -- The task of the first row that has this word, where one has it.

@@ -1,5 +1,5 @@
 //! The program: it reads a book, or the whole output of a run, and writes of it what its command
-//! word asks for: a picture, a smaller book, an explanation or a certificate.
+//! word asks for: a picture, a smaller book, an explanation or evidence for its verdict.
 #![tactic(auto)]
 
 mod task;
@@ -15,7 +15,7 @@ use task::Task;
 const NO_WORDS: u8 = 7;
 
 /// The output for words that name no task.
-const USAGE: &[u8] = b"usage: witness_tool picture | smaller | explain | certificate\n";
+const USAGE: &[u8] = b"usage: witness_tool picture | smaller | explain | evidence\n";
 
 // The task that the command words name, where they are the one word of a task; or, where they can't
 // be had, the code that the program ends with.

@@ -1,10 +1,17 @@
 ghost use Rattle.std.specs.Prelude.{◌≡◌};
+ghost use Rattle.witness_tool.specs.Output.{not_found_text};
 
 use book_base::ReadFault;
-use byte_streams::{ProgramAnswer, TextProgram};
-use certificate_text::certify;
+use byte_streams::{INPUT_LIMIT, ProgramAnswer, TextProgram};
+use evidence_text::{Evidence, Limit, Limits, evidence_for};
 use given_book::{Explanation, explained_text, picture_text, smaller_text};
 use std::alloc::Global;
+
+/// How long a refutation may be: as long as the programs read one.
+const LIMITS: Limits = Limits {
+    items: 300_000,
+    bytes: INPUT_LIMIT as u64,
+};
 
 /// What the program makes of its input.
 #[derive(Clone, Copy)]
@@ -16,8 +23,8 @@ pub(crate) enum Task {
     /// Why the book has no legal order that the input gives: which rule of its kind it breaks, or how far a legal
     /// order could begin.
     Explain,
-    /// A certificate of the book whose text the input is.
-    Certificate,
+    /// Evidence for the verdict on the book whose text the input is.
+    Evidence,
 }
 
 impl Task {
@@ -32,7 +39,7 @@ impl Task {
             "picture" => Some(Task::Picture),
             "smaller" => Some(Task::Smaller),
             "explain" => Some(Task::Explain),
-            "certificate" => Some(Task::Certificate),
+            "evidence" => Some(Task::Evidence),
             _ => None,
         }
     }
@@ -58,10 +65,23 @@ impl TextProgram for Task {
                 Explanation::Illegal(line) => Ok(ProgramAnswer::Found(line)),
                 Explanation::NoneBroken(line) => Ok(ProgramAnswer::Fine(line)),
             },
-            Task::Certificate => match certify(alloc, bytes)? {
-                Some(text) => Ok(ProgramAnswer::Fine(text)),
-                None => Ok(ProgramAnswer::Found(b"illegal\n".to_vec(alloc)?)),
+            Task::Evidence => match evidence_for(alloc, bytes, LIMITS)? {
+                Evidence::Certificate(text) => Ok(ProgramAnswer::Fine(text)),
+                Evidence::Refutation(text) => Ok(ProgramAnswer::Found(text)),
+                Evidence::NotFound(limit) => {
+                    Ok(ProgramAnswer::Found(not_found(limit).to_vec(alloc)?))
+                }
             },
         }
+    }
+}
+
+// What is written of an illegal book where no refutation was found within a limit.
+fn not_found(limit: Limit) -> &'static [u8]
+    ensures { result.now ≡ not_found_text limit }
+{
+    match limit {
+        Limit::Items => b"illegal\nno refutation within 300000 items\n",
+        Limit::Bytes => b"illegal\nno refutation within 1048576 bytes\n",
     }
 }

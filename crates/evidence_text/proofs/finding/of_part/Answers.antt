@@ -1,0 +1,10 @@
+use Rattle.std.proofs.Common.{rules}
+use Rattle.evidence_text.specs.Found.{IsRefutationOf}
+use Rattle.evidence_text.proofs.RightTexts.{within}
+use Rattle.evidence_text.proofs.finding.of_part.Goals as goal
+
+pub returns-in-Some-2 : goal.returns-in-Some-2
+returns-in-Some-2 c =
+    let right : IsRefutationOf c.args.kind c.args.book.now c.in-Some-2.text.items = search rules in
+    within (IsRefutationOf c.args.kind c.args.book.now) (Unit {0}) c.args.limits c.in-Some-2.text
+    c.within.result right c.within.ensures.within c.within.ensures.met

@@ -1,0 +1,144 @@
+//! Refutations of a book without a legal order, as texts.
+
+ghost use Rattle.std.specs.Prelude.{◌≡◌, ◌<◌, ◌≤◌, length, [], IfOk, IfErr, IfSome};
+ghost use Rattle.std.specs.List.{AllByRecursion};
+ghost use Rattle.book_base.specs.declared.call.Call.{Call};
+ghost use Rattle.book_base.specs.Order.{HasLegalOrder};
+ghost use Rattle.seq_objects.specs.Objects.{kind_spec};
+ghost use Rattle.refutations.specs.Impossible.{IsImpossible};
+ghost use Rattle.refutation_text.specs.Said.{Impossible, steps_said};
+ghost use Rattle.refutation_text.specs.RefutationRules.{IsRefutationText};
+ghost use Rattle.evidence_text.specs.Written.{HasCounts};
+ghost use Rattle.evidence_text.specs.Found.{AreParts, IsRefutationOf, IsFinding, IsFirstNamed};
+
+use crate::evidence::{Limit, Limits};
+use crate::parts::{Parts, parts_of};
+use crate::writer::{Reason, write_refutation};
+use book_base::{Book, Call, NoMemory, ReadFault};
+use refutation_text::{RefutationVerdict, Step, refute};
+use refutations::{find_closed, first_impossible};
+use seq_objects::Kind;
+use smaller_book::Smaller;
+use std::alloc::Global;
+
+/// The text of a refutation of a book, or the limit that was met. A reply that no state gives is
+/// named without a step. Of other books a part is looked for of which few items have to be listed:
+/// first the smallest part that is found, and then those with fewer steps.
+pub(crate) fn refutation_of(
+    alloc: Global,
+    kind: Kind,
+    book: &Book,
+    limits: Limits,
+) -> Result<Result<Vec<u8>, Limit>, NoMemory>
+    // The book has no legal order.
+    requires { ¬ HasLegalOrder (kind_spec kind) book.now }
+    // A text is that of a right refutation of the book, within the limit of bytes. Where this limit
+    // was met, there is one whose text is longer.
+    ensures found { IfOk result (IsFinding kind book.now limits) }
+    // Where some reply is impossible, the refutation names the first such call, without a step.
+    ensures impossible { IfOk result (λ found. (call : Call)
+        → IsImpossible (kind_spec kind) book.now call → IsFirstNamed kind book.now limits found) }
+{
+    match first_impossible(kind, book) {
+        Some(call) => Ok(within(text_of_reply(alloc, kind, book, call)?, limits)),
+        None => {
+            let parts = parts_of(alloc, kind, book)?;
+            of_parts(alloc, kind, book, &parts, limits)
+        }
+    }
+}
+
+// The text, where it is within the limit of bytes.
+fn within(text: Vec<u8>, limits: Limits) -> Result<Vec<u8>, Limit>
+    ensures within { IfOk result
+        (λ found. (found ≡ text) × (length text.items ≤ limits.bytes)) }
+    ensures met { IfErr result (λ limit. (limit ≡ Limit.Bytes)
+        × (limits.bytes < length text.items)) }
+{
+    if text.len() as u64 <= limits.bytes {
+        Ok(text)
+    } else {
+        Err(Limit::Bytes)
+    }
+}
+
+// The text of the refutation that names a call whose reply is impossible.
+fn text_of_reply(alloc: Global, kind: Kind, book: &Book, call: Call) -> Result<Vec<u8>, NoMemory>
+    requires { IsImpossible (kind_spec kind) book.now call }
+    ensures text { IfOk result
+        (λ text. IsRefutationText text.items kind book.now [] (Impossible call)) }
+    ensures right { IfOk result (λ text. IsRefutationOf kind book.now text.items) }
+{
+    let _callers = book.callers();
+    let text = write_refutation(alloc, kind, book, &[], &Reason::Impossible(call))?;
+    Ok(text)
+}
+
+// A refutation that lists the items of some part, of which the last one is tried first.
+fn of_parts(
+    alloc: Global,
+    kind: Kind,
+    book: &Book,
+    parts: &Parts,
+    limits: Limits,
+) -> Result<Result<Vec<u8>, Limit>, NoMemory>
+    requires { AreParts kind parts.now }
+    ensures { IfOk result (IsFinding kind book.now limits) }
+{
+    let mut met = match of_part(alloc, kind, book, &parts.last, &parts.steps, limits)? {
+        Ok(text) => return Ok(Ok(text)),
+        Err(limit) => limit,
+    };
+    let count = parts.earlier.len();
+    for k in 0..count {
+        let part = &parts.earlier[count - 1 - k];
+        let steps = &parts.steps[..part.steps.min(parts.steps.len())];
+        match of_part(alloc, kind, book, &part.left, steps, limits)? {
+            Ok(text) => return Ok(Ok(text)),
+            Err(Limit::Bytes) => met = Limit::Bytes,
+            Err(Limit::Items) => {}
+        }
+    }
+    Ok(Err(met))
+}
+
+// A refutation that lists the items of a part, which these steps leave.
+fn of_part(
+    alloc: Global,
+    kind: Kind,
+    book: &Book,
+    left: &Smaller,
+    steps: &[Step],
+    limits: Limits,
+) -> Result<Result<Vec<u8>, Limit>, NoMemory>
+    requires { AllByRecursion HasCounts (steps_said steps.now) }
+    ensures { IfOk result (IsFinding kind book.now limits) }
+{
+    let Some(entries) = find_closed(alloc, &kind, &left.book, limits.items)? else {
+        return Ok(Err(Limit::Items));
+    };
+    match judged(alloc, kind, book, steps, &Reason::Closed(entries))? {
+        Some(text) => Ok(within(text, limits)),
+        None => Ok(Err(Limit::Items)),
+    }
+}
+
+// The text of a refutation, where it is right.
+fn judged(
+    alloc: Global,
+    kind: Kind,
+    book: &Book,
+    steps: &[Step],
+    reason: &Reason,
+) -> Result<Option<Vec<u8>>, NoMemory>
+    requires { AllByRecursion HasCounts (steps_said steps.now) }
+    ensures { IfOk result (λ found. IfSome found (λ text. IsRefutationOf kind book.now text.items)) }
+{
+    let text = write_refutation(alloc, kind, book, steps, reason)?;
+    match refute(alloc, &text) {
+        Ok(RefutationVerdict::Illegal) => Ok(Some(text)),
+        Ok(RefutationVerdict::Faulty(_)) => Ok(None),
+        Err(ReadFault::Text(_)) => Ok(None),
+        Err(ReadFault::NoMemory) => Err(NoMemory),
+    }
+}
