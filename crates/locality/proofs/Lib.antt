@@ -4,6 +4,7 @@ pub mod Sorting
 pub mod Ranking
 pub mod Gathering
 pub mod Renaming
+pub mod Merged
 pub mod Merging
 pub mod Products
 pub mod Parts

@@ -1,36 +1,29 @@
--- A legal order of a book from those of the parts of its keys. The rank of a place is the least
--- moment of an answered call from it on in its key's order, and a place from which on no call is
--- answered is left out. All places are sorted by rank.
-use Rattle.std.proofs.Common.{◌≡◌, ℕ, suc, ◌<◌, ◌≤◌, ◌∙◌, List, [], ◌++◌, map, filter, get_or, slice_get, slice_index, sum_by, Option, Some, unwrap_or, refl, sym, ap, subst, inl, inr, arith}
+-- A legal order of a book from those of the parts of its keys, merged. The size of a place is the
+-- moment of its call, where this is answered.
+use Rattle.std.proofs.Common.{◌≡◌, ℕ, suc, ◌<◌, ◌≤◌, ◌∙◌, List, [], map, get_or, slice_get, slice_index, sum_by, Option, Some, unwrap_or, refl, sym, ap, subst, inl, inr, arith}
 use Rattle.std.specs.Prelude.{option_map}
-use Rattle.std.specs.List.{AllByRecursion}
-use Rattle.std.proofs.lemmas.Bool.{cases_lt, cases_order, eq-eqb}
-use Rattle.std.proofs.lemmas.List.{map-append}
+use Rattle.std.proofs.lemmas.Bool.{cases_lt, cases_order}
 use Rattle.std.proofs.lemmas.List.Sums.{get_or-le-sum_by}
-use Rattle.std.proofs.lemmas.Option.{none-some, same_Some, slice_get_within, unwrap_or-slice_get}
+use Rattle.std.proofs.lemmas.Option.{same_Some, slice_get_within, unwrap_or-slice_get}
 use Rattle.list_laws.proofs.Options.{map_some}
-use mathlib.Core.List.{map-map}
 use Rattle.book_base.specs.declared.call.Call.{Call}
 use Rattle.book_base.specs.declared.call.Place.{Place}
 use Rattle.book_base.specs.declared.call.Record.{Record}
 use Rattle.book_base.specs.SeqSpec.{SeqSpec}
 use Rattle.book_base.specs.Cut.{Holds}
 use Rattle.book_base.specs.Book.{Page, page_of, answers_of, IsCall, IsAnswered, IsValid, operation_of, record_of, Precedes}
-use Rattle.book_base.specs.Sequential.{IsRunFrom, IsLegalRun}
 use Rattle.book_base.specs.Order.{call_at, step_at, StandsAt, HasLegalOrder}
 use Rattle.book_base.specs.Pruning.{HasOneOpen}
 use Rattle.book_base.proofs.PageLemmas.{caller_from_call}
 use Rattle.legal_orders.proofs.LegalOrder.{answer_stands}
 use Rattle.queue_pairs.specs.Moments.{moment_of}
 use Rattle.queue_pairs.proofs.Moments.{later_moment, held_unless_preceded}
-use Rattle.broken_rules.proofs.Stepping.{runs_before}
 use Rattle.smaller_book.proofs.Following.{some_that}
-use Rattle.locality.specs.Locality.{IsProduct, steps_of_key, Locality}
+use Rattle.locality.specs.Locality.{IsProduct, Locality}
 use Rattle.locality.proofs.Restricting.{legal_wholes_have_legal_parts}
-use Rattle.locality.proofs.Running.{runs_of_products}
-use Rattle.locality.proofs.Sorting.{all_from_indices, IsRankSorted, ranks_rise, sort_by_rank, sort_by_rank-sorted, filter-sort_by_rank, filter-index, filter-indices, filter-index_back}
-use Rattle.locality.proofs.Ranking.{ranked, ranked-sorted, ranked-prefix, ranked-at, sized_is_ranked}
-use Rattle.locality.proofs.Gathering.{gathered, has_tag, filter-gathered, filter-gathered_past, filter-map}
+use Rattle.locality.proofs.Sorting.{ranks_rise}
+use Rattle.locality.proofs.Ranking.{IsRankedAt, sized_is_ranked}
+use Rattle.locality.proofs.Merged.{ranked_of, merged, merged-sorted, from_merged, in_merged, before_in_key, merged_run}
 use Rattle.locality.proofs.Renaming.{map_at, at_map, place_was, IsOrderOfKey, order_was}
 
 -- ---- keys
@@ -58,67 +51,30 @@ below_bound key book call inside =
 abbrev moment_at : List Page → Place → Option ℕ
 moment_at book place = option_map moment_of (record_of book (call_at place))
 
--- The key of a ranked place.
-abbrev key_at : (ℕ → ℕ) → List Page → ℕ × Place → ℕ
-key_at key book y = key (step_at book y.1).0
-
 module _ (key : ℕ → ℕ) (book : List Page) (objects : ℕ → SeqSpec) (orders : ℕ → List Place)
     (valid : IsValid book) (one_open : HasOneOpen book)
     (are : (k : ℕ) → IsOrderOfKey key k book (objects k) (orders k)) where
-  -- the ranked places of a key's order
-  abbrev lists : ℕ → List (ℕ × Place)
-  lists k = ranked (moment_at book) (orders k)
+  own : (k j : ℕ) (place : Place) → slice_get (orders k) j ≡ Some place
+      → key (step_at book place).0 ≡ k
+  own k j place at = (are k).keys j place at
 
-  abbrev tag : ℕ × Place → ℕ
-  tag y = key_at key book y
+  abbrev bound : ℕ
+  bound = key_bound key book
 
   -- the ranked places of all keys, sorted by rank
-  abbrev merged : List (ℕ × Place)
-  merged = sort_by_rank (gathered lists (key_bound key book))
+  abbrev all : List (ℕ × Place)
+  all = merged key (step_at book) (moment_at book) orders bound own
 
-  own_keys : (k : ℕ) → AllByRecursion (λ y. tag y ≡ k) (lists k)
-  own_keys k = all_from_indices (λ (y : ℕ × Place). tag y ≡ k) (lists k) (λ j y at.
-      (are k).keys j y.1 (ranked-at (moment_at book) (orders k) j y at).0)
+  abbrev tag : ℕ × Place → ℕ
+  tag y = key (step_at book y.1).0
 
-  sorted : IsRankSorted merged
-  sorted = sort_by_rank-sorted (gathered lists (key_bound key book))
-
-  -- of the merged places, those of a key below the bound are the key's, in their order
-  merged_of_key : (k : ℕ) → k < key_bound key book → filter (has_tag tag k) merged ≡ lists k
-  merged_of_key k below =
-      let all = filter-gathered tag lists own_keys k (key_bound key book) below in
-      filter-sort_by_rank (has_tag tag k) (gathered lists (key_bound key book))
-      (subst IsRankSorted (sym all) (ranked-sorted (moment_at book) (orders k))) ∙ all
-
-  -- and no place has a key from the bound on
-  merged_past : (k : ℕ) → key_bound key book ≤ k → filter (has_tag tag k) merged ≡ []
-  merged_past k past =
-      let none = filter-gathered_past tag lists own_keys k (key_bound key book) past in
-      filter-sort_by_rank (has_tag tag k) (gathered lists (key_bound key book))
-      (subst IsRankSorted (sym none) tt) ∙ none
-
-  -- what a filter by a key keeps of the merged places stands in the key's list
-  kept_in_list : (k i : ℕ) (y : ℕ × Place) → slice_get (filter (has_tag tag k) merged) i ≡ Some y
-      → slice_get (lists k) i ≡ Some y
-  kept_in_list k i y at = elim (cases_lt k (key_bound key book)) [
-    | inl below ↦ ap (λ (ys : List (ℕ × Place)). slice_get ys i) (sym (merged_of_key k below)) ∙ at
-    | inr past ↦ absurd (none-some y
-        (ap (λ (ys : List (ℕ × Place)). slice_get ys i) (sym (merged_past k past)) ∙ at))
-  ]
-
-  -- a merged place stands in the list of its key
-  from_merged : (j : ℕ) (y : ℕ × Place) → slice_get merged j ≡ Some y
-      → (i : ℕ) × (slice_get (lists (tag y)) i ≡ Some y)
-  from_merged j y at =
-      let kept = filter-index (has_tag tag (tag y)) merged j y at
-      (eq-eqb (tag y) (tag y) refl) in
-      (kept.0, kept_in_list (tag y) kept.0 y kept.1)
-
-  -- and a place of a key's list is merged
-  in_merged : (k i : ℕ) (y : ℕ × Place) → k < key_bound key book
-      → slice_get (lists k) i ≡ Some y → (j : ℕ) × (slice_get merged j ≡ Some y)
-  in_merged k i y below at = filter-index_back (has_tag tag k) merged i y
-      (ap (λ (ys : List (ℕ × Place)). slice_get ys i) (merged_of_key k below) ∙ at)
+  -- a merged place is in the order of its key, with its rank
+  from_all : (j : ℕ) (y : ℕ × Place) → slice_get all j ≡ Some y
+      → (i : ℕ)
+      × (slice_get (ranked_of key (step_at book) (moment_at book) orders bound own (tag y)) i
+      ≡ Some y)
+      × IsRankedAt (moment_at book) (orders (tag y)) i y
+  from_all j y at = from_merged key (step_at book) (moment_at book) orders bound own j y at
 
   -- The view of an answered call holds a ranked place's call, and its moment is the rank.
   record IsHeld (y : ℕ × Place) : Type 0 where
@@ -128,10 +84,10 @@ module _ (key : ℕ → ℕ) (book : List Page) (objects : ℕ → SeqSpec) (ord
     holds : Holds answer.view (call_at y.1)
     moment : moment_of answer ≡ y.0
 
-  held : (j : ℕ) (y : ℕ × Place) → slice_get merged j ≡ Some y → IsHeld y
+  held : (j : ℕ) (y : ℕ × Place) → slice_get all j ≡ Some y → IsHeld y
   held j y at =
-      let there = from_merged j y at in
-      let mine = ranked-at (moment_at book) (orders (tag y)) there.0 y there.1 in
+      let there = from_all j y at in
+      let mine = there.2 in
       let last = mine.1 in
       let by : Call = call_at last.item in
       let found = map_some (record_of book by) moment_of y.0 last.sized in
@@ -148,11 +104,11 @@ module _ (key : ℕ → ℕ) (book : List Page) (objects : ℕ → SeqSpec) (ord
       }
 
   -- the rank of an answered call is at most its moment
-  rank-le : (j : ℕ) (y : ℕ × Place) (r : Record) → slice_get merged j ≡ Some y
+  rank-le : (j : ℕ) (y : ℕ × Place) (r : Record) → slice_get all j ≡ Some y
       → record_of book (call_at y.1) ≡ Some r → y.0 ≤ moment_of r
   rank-le j y r at known =
-      let there = from_merged j y at in
-      let mine = ranked-at (moment_at book) (orders (tag y)) there.0 y there.1 in
+      let there = from_all j y at in
+      let mine = there.2 in
       let least = sized_is_ranked (moment_at book) (orders (tag y)) there.0 y.1 (moment_of r)
       mine.0 (ap (option_map moment_of) known) in
       let same : ◌≡◌ {A = ℕ × Place} (least.0, y.1) y =
@@ -160,8 +116,8 @@ module _ (key : ℕ → ℕ) (book : List Page) (objects : ℕ → SeqSpec) (ord
       omega (arith, least.2, ap (λ (z : ℕ × Place). z.0) same)
 
   -- an answered call stands before each call that its view doesn't hold
-  stands_before : (j k : ℕ) (y z : ℕ × Place) (r : Record) → slice_get merged j ≡ Some y
-      → slice_get merged k ≡ Some z → record_of book (call_at y.1) ≡ Some r
+  stands_before : (j k : ℕ) (y z : ℕ × Place) (r : Record) → slice_get all j ≡ Some y
+      → slice_get all k ≡ Some z → record_of book (call_at y.1) ≡ Some r
       → slice_index r.view z.1.caller ≤ z.1.number → j < k
   stands_before j k y z r at bt known lacks =
       let other = held k z bt in
@@ -172,7 +128,8 @@ module _ (key : ℕ → ℕ) (book : List Page) (objects : ℕ → SeqSpec) (ord
         | inl less ↦ less
         | inr le ↦ absurd (omega (
           arith,
-          ranks_rise merged k j z y sorted le bt at,
+          ranks_rise all k j z y
+              (merged-sorted key (step_at book) (moment_at book) orders bound own) le bt at,
           rank-le j y r at known,
           later,
           other.moment,
@@ -180,14 +137,14 @@ module _ (key : ℕ → ℕ) (book : List Page) (objects : ℕ → SeqSpec) (ord
       ]
 
   -- an unanswered call that stands in the merged order is its caller's first unanswered one
-  number-le : (k : ℕ) (z : ℕ × Place) → slice_get merged k ≡ Some z
+  number-le : (k : ℕ) (z : ℕ × Place) → slice_get all k ≡ Some z
       → z.1.number ≤ answers_of book z.1.caller
   number-le k z at =
       let other = held k z at in
       omega (arith, other.holds, one_open other.by other.answer z.1.caller other.known)
 
   -- each earlier call of its caller is answered, and its view doesn't hold it
-  earlier_answered : (k : ℕ) (z : ℕ × Place) (a : Call) → slice_get merged k ≡ Some z
+  earlier_answered : (k : ℕ) (z : ℕ × Place) (a : Call) → slice_get all k ≡ Some z
       → a.caller ≡ z.1.caller → a.number < z.1.number
       → (r : Record) × (record_of book a ≡ Some r)
       × (slice_index r.view z.1.caller ≤ z.1.number)
@@ -210,8 +167,8 @@ module _ (key : ℕ → ℕ) (book : List Page) (objects : ℕ → SeqSpec) (ord
       )
 
   -- a call stands before each one that it precedes
-  keeps_precedence : (j k : ℕ) (y z : ℕ × Place) → slice_get merged j ≡ Some y
-      → slice_get merged k ≡ Some z → Precedes book (call_at y.1) (call_at z.1) → j < k
+  keeps_precedence : (j k : ℕ) (y z : ℕ × Place) → slice_get all j ≡ Some y
+      → slice_get all k ≡ Some z → Precedes book (call_at y.1) (call_at z.1) → j < k
   keeps_precedence j k y z at bt p = elim p [
     | inl answered ↦
         let known = some_that (record_of book (call_at y.1))
@@ -224,12 +181,12 @@ module _ (key : ℕ → ℕ) (book : List Page) (objects : ℕ → SeqSpec) (ord
 
   -- the order of the book
   abbrev order : List Place
-  order = map (λ (y : ℕ × Place). y.1) merged
+  order = map (λ (y : ℕ × Place). y.1) all
 
   stands_as : (j : ℕ) (call : Call) → StandsAt order j call
-      → (y : ℕ × Place) × (slice_get merged j ≡ Some y) × (call_at y.1 ≡ call)
+      → (y : ℕ × Place) × (slice_get all j ≡ Some y) × (call_at y.1 ≡ call)
   stands_as j call (place, at, is) =
-      let there = map_at (λ (y : ℕ × Place). y.1) merged j place at in
+      let there = map_at (λ (y : ℕ × Place). y.1) all j place at in
       (there.0, there.1, ap call_at there.2 ∙ is)
 
   -- each answered call stands in the order with its recorded reply
@@ -245,11 +202,12 @@ module _ (key : ℕ → ℕ) (book : List Page) (objects : ℕ → SeqSpec) (ord
       let found = (are k).answered call r known refl in
       let mine = sized_is_ranked (moment_at book) (orders k) found.0 place (moment_of r) found.1
       (ap (option_map moment_of) known) in
-      let there = in_merged k found.0 (mine.0, place) (below_bound key book call is_call) mine.1 in
-      (there.0, at_map (λ (y : ℕ × Place). y.1) merged there.0 (mine.0, place) there.1)
+      let there = in_merged key (step_at book) (moment_at book) orders bound own k found.0
+      (mine.0, place) (below_bound key book call is_call) mine.1 in
+      (there.0, at_map (λ (y : ℕ × Place). y.1) all there.0 (mine.0, place) there.1)
 
   -- before a call stand all earlier calls of its caller
-  earlier_stands : (k : ℕ) (z : ℕ × Place) (a : Call) → slice_get merged k ≡ Some z
+  earlier_stands : (k : ℕ) (z : ℕ × Place) (a : Call) → slice_get all k ≡ Some z
       → a.caller ≡ z.1.caller → a.number < z.1.number
       → (j : ℕ) × (j < k) × StandsAt order j a
   earlier_stands k z a at same less =
@@ -264,46 +222,14 @@ module _ (key : ℕ → ℕ) (book : List Page) (objects : ℕ → SeqSpec) (ord
       (found.0, stands_before found.0 k there.0 z known.0 there.1 at answer known.2, stands)
 
   -- no call stands at two places
-  stands_once : (j k : ℕ) (y z : ℕ × Place) → slice_get merged j ≡ Some y
-      → slice_get merged k ≡ Some z → call_at y.1 ≡ call_at z.1 → j < k → ⊥
+  stands_once : (j k : ℕ) (y z : ℕ × Place) → slice_get all j ≡ Some y
+      → slice_get all k ≡ Some z → call_at y.1 ≡ call_at z.1 → j < k → ⊥
   stands_once j k y z at bt same less =
-      let t : ℕ = tag z in
-      let keys : tag y ≡ t = ap (λ (c : Call). key (unwrap_or (operation_of book c) 0)) same in
-      let kept = filter-indices (has_tag tag t) merged j k y z less at bt
-      (eq-eqb (tag y) t keys) (eq-eqb t t refl) in
-      let first = ranked-at (moment_at book) (orders t) kept.0 y
-      (kept_in_list t kept.0 y kept.3) in
-      let second = ranked-at (moment_at book) (orders t) kept.1 z
-      (kept_in_list t kept.1 z kept.4) in
-      omega (arith, (are t).once kept.0 kept.1 y.1 z.1 first.0 second.0 same, kept.2)
-
-  -- the merged order's steps of a key are a run of the key's object
-  run_of_key : (k : ℕ) → IsLegalRun (objects k) (steps_of_key key k (map (step_at book) order))
-  run_of_key k =
-      let place : ℕ × Place → Place = λ y. y.1 in
-      let step : ℕ × Place → ℕ × ℕ = λ y. step_at book y.1 in
-      let same : steps_of_key key k (map (step_at book) order)
-      ≡ map step (filter (has_tag tag k) merged) =
-      ap (steps_of_key key k) (map-map (step_at book) place merged)
-      ∙ filter-map (λ (s : ℕ × ℕ). has_tag key k s.0) step merged in
-      subst (IsLegalRun (objects k)) (sym same) (elim (cases_lt k (key_bound key book)) [
-        | inl below ↦
-            let rest = ranked-prefix (moment_at book) (orders k) in
-            let whole : map (step_at book) (orders k)
-            ≡ map step (lists k) ++ map (step_at book) rest.0 =
-            ap (map (step_at book)) (sym rest.1)
-            ∙ (map-append (step_at book) (map place (lists k)) rest.0
-            ∙ ap (λ (ss : List (ℕ × ℕ)). ss ++ map (step_at book) rest.0)
-            (map-map (step_at book) place (lists k))) in
-            subst (λ (ys : List (ℕ × Place)). IsLegalRun (objects k) (map step ys))
-            (sym (merged_of_key k below))
-            (runs_before (objects k).next (objects k).init (map step (lists k))
-            (map (step_at book) rest.0)
-            (subst (IsLegalRun (objects k)) whole (are k).run))
-        | inr past ↦
-            subst (λ (ys : List (ℕ × Place)). IsLegalRun (objects k) (map step ys))
-            (sym (merged_past k past)) tt
-      ])
+      let keys : tag y ≡ tag z =
+      ap (λ (c : Call). key (unwrap_or (operation_of book c) 0)) same in
+      let kept = before_in_key key (step_at book) (moment_at book) orders bound own j k y z at bt
+      keys less in
+      omega (arith, (are (tag z)).once kept.0 kept.1 y.1 z.1 kept.3 kept.4 same, kept.2)
 
   merged_is_legal : (list_of : ℕ → List ℕ → List ℕ) (product : SeqSpec)
       → IsProduct key list_of objects product → HasLegalOrder product book
@@ -312,10 +238,9 @@ module _ (key : ℕ → ℕ) (book : List Page) (objects : ℕ → SeqSpec) (ord
     record {
       calls = λ k call stands.
           let there = stands_as k call stands in
-          let mine = from_merged k there.0 there.1 in
+          let mine = from_all k there.0 there.1 in
           subst (IsCall book) there.2
-          ((are (tag there.0)).calls mine.0 there.0.1
-          (ranked-at (moment_at book) (orders (tag there.0)) mine.0 there.0 mine.1).0);
+          ((are (tag there.0)).calls mine.0 there.0.1 mine.2.0);
       once = λ j k call first second.
           let y = stands_as j call first in
           let z = stands_as k call second in
@@ -335,9 +260,8 @@ module _ (key : ℕ → ℕ) (book : List Page) (objects : ℕ → SeqSpec) (ord
           omega (arith, less, ap (λ (c : Call). c.number) z.2) in
           earlier_stands k z.0 a z.1 (sym (ap (λ (c : Call). c.caller) z.2)) below;
       answered = answered_stands;
-      run = (runs_of_products key list_of objects product product.init (map (step_at book) order)
-          is).1 (λ k. subst (λ (list : List ℕ). IsRunFrom (objects k).next list
-          (steps_of_key key k (map (step_at book) order))) (sym (is.init k)) (run_of_key k));
+      run = merged_run key (step_at book) (moment_at book) orders bound own list_of objects product
+          is (λ k. (are k).run);
       precedence = λ j k a b first second p.
           let y = stands_as j a first in
           let z = stands_as k b second in

@@ -1,0 +1,5 @@
+pub mod Parts
+pub mod Growing
+pub mod Orders
+pub mod Merging
+pub mod KindProducts
