@@ -1,15 +1,12 @@
 -- Items of lists.
-use Rattle.std.proofs.Common.{◌≡◌, ◌⊎◌, ℕ, zero, suc, ◌+◌, Bool, true, false, ◌&&◌, List, [], ◌∷◌, ◌++◌, map, length, take, drop, Some, slice_get, refl, sym, ap, subst, ◌∙◌, inl, inr, if◌then◌else◌, nat_eq, append_assoc, append-nil}
+use Rattle.std.proofs.Common.{◌≡◌, ◌≢◌, ◌⊎◌, ℕ, zero, suc, ◌+◌, Bool, true, false, not, ◌&&◌, ◌==◌, List, [], ◌∷◌, ◌++◌, map, length, Option, Some, None, IfSome, IfNone, Result, Ok, Err, OnOk, slice_get, slice_set, refl, sym, ap, subst, ◌∙◌, inl, inr, arith, if◌then◌else◌, append_assoc, append-nil}
 use Rattle.std.specs.Prelude.{◌||◌}
-use Rattle.std.specs.List.{list_any, insert, filter}
+use Rattle.std.specs.List.{list_any, list_all, filter}
 use Rattle.std.specs.Option.{option_map}
-use Rattle.std.specs.Cmp.Lexicographic.{pointwise}
-use Rattle.std.proofs.lemmas.Bool.{cases_Bool, eqb-true}
-use Rattle.std.proofs.lemmas.List.{take-append-drop}
+use Rattle.std.proofs.lemmas.Bool.{cases_Bool, eqb-true, eqb-false}
 use Rattle.std.proofs.lemmas.Option.{none-some, same_Some, slice_get-map, slice_get_within}
 use Rattle.list_laws.proofs.Prefixes.{slice_get-append_within}
 use Rattle.residue_laws.proofs.Appending.{get-right, get-cases, map-both}
-use Rattle.indexmap.specs.IndexSet.{insert_key}
 use Rattle.late_residue.specs.Reached.{Has, Grows}
 
 pub and_left : (a b : Bool) → (a && b) ≡ true → a ≡ true
@@ -52,31 +49,6 @@ map-from f (x ∷ xs) (suc k) y at = map-from f xs k y at
 
 pub has-map : {X Y : Type 0} (f : X → Y) (xs : List X) (x : X) → Has xs x → Has (map f xs) (f x)
 has-map f xs x (k, at) = (k, map-at f xs k x at)
-
--- an item that is put in, and those before it, are the items of a list
-pub has-insert : {X : Type 0} (xs : List X) (i : ℕ) (y x : X)
-    → (y ≡ x) ⊎ Has xs x → Has (insert xs i y) x
-has-insert xs i y x (inl is) =
-    has-right (take i xs) (y ∷ drop i xs) x (0, ap (λ v. Some v) is)
-has-insert {X} xs i y x (inr has) =
-    let parts : Has (take i xs ++ drop i xs) x =
-    subst (λ (l : List X). Has l x) (sym (take-append-drop i xs)) has in
-    elim (has-cases (take i xs) (drop i xs) x parts) [
-      | inl left ↦ has-left (take i xs) (y ∷ drop i xs) x left
-      | inr (k, right) ↦ has-right (take i xs) (y ∷ drop i xs) x (suc k, right)
-    ]
-
-pub insert-has : {X : Type 0} (xs : List X) (i : ℕ) (y x : X)
-    → Has (insert xs i y) x → (y ≡ x) ⊎ Has xs x
-insert-has {X} xs i y x has = elim (has-cases (take i xs) (y ∷ drop i xs) x has) [
-  | inl left ↦ inr (subst (λ (l : List X). Has l x) (take-append-drop i xs)
-      (has-left (take i xs) (drop i xs) x left))
-  | inr part ↦ elim (has-cons y (drop i xs) x part) [
-    | inl is ↦ inl is
-    | inr right ↦ inr (subst (λ (l : List X). Has l x) (take-append-drop i xs)
-        (has-right (take i xs) (drop i xs) x right))
-  ]
-]
 
 -- the items of a list that pass a test
 pub filter-has : {X : Type 0} (p : X → Bool) (xs : List X) (x : X) → Has (filter p xs) x
@@ -140,6 +112,46 @@ has-any {X} p (y ∷ ys) x has pass = elim (cases_Bool (p y)) [
       ])
 ]
 
+pub both_true : (a b : Bool) → a ≡ true → b ≡ true → (a && b) ≡ true
+both_true a b first second = subst (λ (c : Bool). (c && b) ≡ true) (sym first) second
+
+-- what all items of a list pass
+pub all-has : {X : Type 0} (p : X → Bool) (xs : List X) → list_all p xs ≡ true → (x : X) → Has xs x
+    → p x ≡ true
+all-has p [] e x has = absurd (has-none x has)
+all-has p (y ∷ ys) e x has = elim (has-cons y ys x has) [
+  | inl is ↦ ap p (sym is) ∙ and_left (p y) (list_all p ys) e
+  | inr rest ↦ all-has p ys (and_right (p y) (list_all p ys) e) x rest
+]
+
+pub has-all : {X : Type 0} (p : X → Bool) (xs : List X) → ((x : X) → Has xs x → p x ≡ true)
+    → list_all p xs ≡ true
+has-all p [] all = refl
+has-all p (y ∷ ys) all = both_true (p y) (list_all p ys) (all y (0, refl))
+    (has-all p ys (λ x (k, at). all x (suc k, at)))
+
+eqb_itself : (n : ℕ) → (n == n) ≡ true
+eqb_itself n = elim (cases_Bool (n == n)) [
+  | inl is ↦ is
+  | inr not_so ↦ absurd (eqb-false n n not_so refl)
+]
+
+pub eqb-same : (m n : ℕ) → m ≡ n → (m == n) ≡ true
+eqb-same m n e = subst (λ (k : ℕ). (m == k) ≡ true) e (eqb_itself m)
+
+pub some_of : {X : Type 0} (P : X → Type 0) (o : Option X) (x : X) → o ≡ Some x → IfSome o P → P x
+some_of P o x is h = subst (λ (v : Option _). IfSome v P) is h
+
+pub none_of : {X : Type 0} (P : Type 0) (o : Option X) → o ≡ None → IfNone o P → P
+none_of P o is h = subst (λ (v : Option _). IfNone v P) is h
+
+pub on_ok : {X E : Type 0} {A B : Type 0} (r : Result X E) → (A → B) → OnOk r A → OnOk r B
+on_ok (Ok x) f h = f h
+on_ok (Err e) f h = tt
+
+pub not_true : (b : Bool) → b ≡ false → b ≡ true → ⊥
+not_true b is_not is = let clash : true ≡ false = sym is ∙ is_not in absurd cc
+
 -- lists that grow
 pub grows-not : {X : Type 0} (xs : List X) → Grows xs xs
 grows-not xs = ([], sym (append-nil xs))
@@ -164,63 +176,36 @@ pub grows-map : {X Y : Type 0} (f : X → Y) (old new : List X) → Grows old ne
 grows-map {X} f old new (more, is) =
     (map f more, ap (λ (l : List X). map f l) is ∙ map-both f old more)
 
--- an insertion into a set whose test finds no others equal than those with the same images
-module _ {X Y : Type 0} (E : X → X → Bool) (f : X → Y)
-    (same : (a b : X) → E a b ≡ true → f a ≡ f b) where
-  found-image : (xs : List X) (x : X) → list_any (E x) xs ≡ true → Has (map f xs) (f x)
-  found-image xs x e =
-      let found = any-has (E x) xs e in
-      subst (λ (v : Y). Has (map f xs) v) (sym (same x found.0 found.2))
-      (has-map f xs found.0 found.1)
+-- the places of a list of which an item is replaced
+pub set-from : {X : Type 0} (xs : List X) (i : ℕ) (v : X) (k : ℕ) (x : X)
+    → slice_get (slice_set xs i v) k ≡ Some x
+    → ((k ≡ i) × (v ≡ x)) ⊎ ((k ≢ i) × (slice_get xs k ≡ Some x))
+set-from [] i v k x at = absurd (none-some x at)
+set-from (y ∷ ys) zero v zero x at = inl (refl, same_Some v x at)
+set-from (y ∷ ys) zero v (suc k) x at = inr ((λ (e : suc k ≡ zero). omega arith), at)
+set-from (y ∷ ys) (suc i) v zero x at = inr ((λ (e : zero ≡ suc i). omega arith), at)
+set-from (y ∷ ys) (suc i) v (suc k) x at = elim (set-from ys i v k x at) [
+  | inl (same, is) ↦ inl (ap suc same, is)
+  | inr (apart, old) ↦ inr ((λ (e : suc k ≡ suc i). apart (omega arith)), old)
+]
 
-  pub insert-image : (old new : List X) (x : X) → new ≡ insert_key E old x
-      → Grows old new × Has (map f new) (f x)
-      × ((y : Y) → Has (map f new) y → Has (map f old) y ⊎ (f x ≡ y))
-  insert-image old new x is = by (list_any (E x) old) refl
-    where
-      by : (b : Bool) → list_any (E x) old ≡ b → Grows old new × Has (map f new) (f x)
-          × ((y : Y) → Has (map f new) y → Has (map f old) y ⊎ (f x ≡ y))
-      by true there =
-          let stays : new ≡ old = is ∙ ap (λ c. if c then old else old ++ x ∷ []) there in (
-            subst (λ (l : List X). Grows old l) (sym stays) (grows-not old),
-            subst (λ (l : List X). Has (map f l) (f x)) (sym stays) (found-image old x there),
-            λ y has. inl (subst (λ (l : List X). Has (map f l) y) stays has),
-          )
-      by false absent =
-          let more : new ≡ old ++ x ∷ [] = is ∙ ap (λ c. if c then old else old ++ x ∷ []) absent
-          in
-          let images : map f new ≡ map f old ++ f x ∷ [] =
-          ap (λ (l : List X). map f l) more ∙ map-both f old (x ∷ []) in (
-            (x ∷ [], more),
-            subst (λ (l : List Y). Has l (f x)) (sym images)
-                (has-right (map f old) (f x ∷ []) (f x) (0, refl)),
-            λ y has. elim (has-cases (map f old) (f x ∷ []) y
-                (subst (λ (l : List Y). Has l y) images has)) [
-                  | inl before ↦ inl before
-                  | inr last ↦ elim (has-cons (f x) [] y last) [
-                    | inl is ↦ inr is
-                    | inr none ↦ absurd (has-none y none)
-                  ]
-                ],
-          )
+pub set-to : {X : Type 0} (xs : List X) (i : ℕ) (v : X) (k : ℕ) (x : X)
+    → slice_get xs k ≡ Some x → k ≢ i → slice_get (slice_set xs i v) k ≡ Some x
+set-to [] i v k x at apart = absurd (none-some x at)
+set-to (y ∷ ys) zero v zero x at apart = absurd (apart refl)
+set-to (y ∷ ys) zero v (suc k) x at apart = at
+set-to (y ∷ ys) (suc i) v zero x at apart = at
+set-to (y ∷ ys) (suc i) v (suc k) x at apart =
+    set-to ys i v k x at (λ (e : k ≡ i). apart (ap suc e))
 
--- lists that a test finds pointwise equal have the same images
-pub same_images : {X Y : Type 0} (E : X → X → Bool) (f : X → Y)
-    → ((a b : X) → E a b ≡ true → f a ≡ f b) → (xs ys : List X) → pointwise E xs ys ≡ true
-    → map f xs ≡ map f ys
-same_images E f same [] [] e = refl
-same_images E f same [] (y ∷ ys) e = absurd cc
-same_images E f same (x ∷ xs) [] e = absurd cc
-same_images {X} {Y} E f same (x ∷ xs) (y ∷ ys) e =
-    ap (λ (v : Y). v ∷ map f xs) (same x y (and_left (E x y) (pointwise E xs ys) e))
-    ∙ ap (λ (vs : List Y). f y ∷ vs)
-    (same_images E f same xs ys (and_right (E x y) (pointwise E xs ys) e))
+pub set-at : {X : Type 0} (xs : List X) (i : ℕ) (v x : X) → slice_get xs i ≡ Some x
+    → slice_get (slice_set xs i v) i ≡ Some v
+set-at [] i v x at = absurd (none-some x at)
+set-at (y ∷ ys) zero v x at = refl
+set-at (y ∷ ys) (suc i) v x at = set-at ys i v x at
 
-pub same_numbers : (xs ys : List ℕ) → pointwise nat_eq xs ys ≡ true → xs ≡ ys
-same_numbers [] [] e = refl
-same_numbers [] (y ∷ ys) e = absurd cc
-same_numbers (x ∷ xs) [] e = absurd cc
-same_numbers (x ∷ xs) (y ∷ ys) e =
-    ap (λ (v : ℕ). v ∷ xs) (eqb-true x y (and_left (nat_eq x y) (pointwise nat_eq xs ys) e))
-    ∙ ap (λ (vs : List ℕ). y ∷ vs)
-    (same_numbers xs ys (and_right (nat_eq x y) (pointwise nat_eq xs ys) e))
+pub length-set : {X : Type 0} (xs : List X) (i : ℕ) (v : X)
+    → length (slice_set xs i v) ≡ length xs
+length-set [] i v = refl
+length-set (y ∷ ys) zero v = refl
+length-set (y ∷ ys) (suc i) v = ap suc (length-set ys i v)

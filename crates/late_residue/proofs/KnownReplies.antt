@@ -6,45 +6,21 @@ use Rattle.book_base.specs.SeqSpec.{SeqSpec}
 use Rattle.streams.specs.Stream.{StreamEvent}
 use Rattle.streams.specs.StreamOrder.{StreamPlace, IsAmong, IsLegalStreamOrder}
 use Rattle.residue_laws.specs.Residue.{Configuration, IsInResidue}
-use Rattle.residue_laws.specs.Step.{AreAlike, ArePlaced, IsWithout}
-use Rattle.residue_laws.proofs.Placing.{among-cons, follow_on}
+use Rattle.residue_laws.specs.Step.{ArePlaced, IsWithout}
+use Rattle.residue_laws.proofs.Placing.{follow_on}
 use Rattle.late_residue.specs.declared.open_call.OpenCall.{OpenCall}
 use Rattle.late_residue.specs.Reached.{Has}
-use Rattle.late_residue.specs.Known.{MayHaveReply, AgreesWithKnown}
-use Rattle.late_residue.specs.Placing.{with_call, IsLeft}
+use Rattle.late_residue.specs.Meaning.{AreOnce}
+use Rattle.late_residue.specs.Known.{MayHaveReply, IsKnownPlace, AgreesWithKnown}
 use Rattle.late_residue.specs.LateOnes.{AreOpen}
+use Rattle.late_residue.proofs.Meanings.{same_place}
 
-pub agree-alike : (calls : List OpenCall) (one other : Configuration) → AreAlike one other
-    → AgreesWithKnown calls one → AgreesWithKnown calls other
-agree-alike calls one other alike agrees place among =
-    agrees place ((alike.0 place).1 among)
-
--- a configuration agrees after a call is placed with a reply that it may have
-pub agree-placed : (stream : List StreamEvent) (calls : List OpenCall) → AreOpen stream calls
-    → (next : List ℕ → ℕ → List ℕ × ℕ) (at after : Configuration) (one : OpenCall)
-    → Has calls one → MayHaveReply one (next at.list one.op).1
-    → AreAlike (with_call next at one) after
-    → AgreesWithKnown calls at → AgreesWithKnown calls after
-agree-placed stream calls are next at after one has may alike agrees place among two also same
-    known is =
-    let first : StreamPlace = record { call = one.call; reply = (next at.list one.op).1 } in
-    elim (among-cons first at.placed place ((alike.0 place).1 among)) [
-      | inl equal ↦
-          let calls_are : two.call ≡ one.call =
-          same ∙ sym (ap (λ (p : StreamPlace). p.call) equal) in
-          sym (ap (λ (p : StreamPlace). p.reply) equal)
-          ∙ may known (sym (are.same two one also has calls_are) ∙ is)
-      | inr old ↦ agrees place old two also same known is
-    ]
-
--- what is left of a configuration that agrees agrees
-pub agree-left : (next : List ℕ → ℕ → List ℕ × ℕ) (calls : List OpenCall) (one : OpenCall)
-    (reply : ℕ) (at after : Configuration) → IsLeft next one reply at after
-    → AgreesWithKnown calls at → AgreesWithKnown calls after
-agree-left next calls one reply at after (inl (placed, without)) agrees place among =
-    agrees place ((without.0 place).0 among).0
-agree-left next calls one reply at after (inr (lacks, replies, alike)) agrees place among =
-    agrees place ((alike.0 place).1 among)
+-- the place of an open call with a reply that it may have agrees
+pub known-placed : (stream : List StreamEvent) (calls : List OpenCall) → AreOpen stream calls
+    → (one : OpenCall) (reply : ℕ) → Has calls one → MayHaveReply one reply
+    → IsKnownPlace calls (record { call = one.call; reply = reply })
+known-placed stream calls are one reply has may two also same known is =
+    may known (sym (are.same two one also has same) ∙ is)
 
 -- of an order in which each call stands once, two places of one call have one reply
 pub one_reply : (spec : SeqSpec) (stream : List StreamEvent) (order : List StreamPlace)
@@ -79,3 +55,10 @@ pub agree-before : (next : List ℕ → ℕ → List ℕ × ℕ) (stream : List 
     → AgreesWithKnown calls at
 agree-before next stream calls at after rest placed agrees place among =
     agrees place (((follow_on next stream at after rest placed).placed place).1 (inl among))
+
+-- a configuration of the residue has no call with two replies
+pub once_in_residue : (spec : SeqSpec) (stream : List StreamEvent) (at : Configuration)
+    → IsInResidue spec stream at → AreOnce at.placed
+once_in_residue spec stream at (order, reaches) a b first second same =
+    same_place a b same (one_reply spec stream order reaches.legal a b
+    ((reaches.placed a).0 first).0 ((reaches.placed b).0 second).0 same)

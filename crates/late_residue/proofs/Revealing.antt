@@ -1,102 +1,24 @@
 -- What is left of a late residue where a reply becomes known.
-use Rattle.std.proofs.Common.{◌≡◌, ◌∙◌, ℕ, zero, suc, Bool, true, not, ◌==◌, ◌||◌, List, [], ◌∷◌, map, Some, slice_get, if◌then◌else◌, refl, sym, ap, subst, inl, inr, arith}
+use Rattle.std.proofs.Common.{◌≡◌, ◌∙◌, ℕ, suc, ◌+◌, ◌<◌, ◌≤◌, Bool, true, false, not, ◌==◌, ◌||◌, List, [], ◌∷◌, map, length, Some, slice_get, slice_set, if◌then◌else◌, refl, sym, ap, subst, inl, inr, arith}
 use Rattle.std.specs.List.{filter, list_all}
-use Rattle.std.proofs.lemmas.Bool.{cases_Bool, cases_eq, eqb-true}
-use Rattle.std.proofs.lemmas.Option.{none-some, same_Some}
+use Rattle.std.proofs.lemmas.Bool.{cases_Bool, cases_eq, cases_lt, eqb-true}
+use Rattle.std.proofs.lemmas.Option.{same_Some, slice_get_within}
 use Rattle.book_base.specs.SeqSpec.{SeqSpec}
 use Rattle.streams.specs.Stream.{StreamEvent}
 use Rattle.streams.specs.StreamOrder.{StreamPlace, IsAmong}
 use Rattle.residue_laws.specs.Residue.{Configuration}
-use Rattle.residue_laws.specs.Step.{AreAlike}
+use Rattle.residue_laws.proofs.Placing.{among-cons, nothing_among, follow_on}
 use Rattle.late_residue.specs.declared.open_call.OpenCall.{OpenCall}
 use Rattle.late_residue.specs.declared.reached.Placed.{Placed}
 use Rattle.late_residue.specs.declared.reached.Reached.{Reached}
-use Rattle.late_residue.specs.Reached.{Has, place_of, configuration_of, configurations_of}
-use Rattle.late_residue.specs.Known.{MayHaveReply, with_reply, AgreesWithKnown}
-use Rattle.late_residue.specs.LateOnes.{AreListed, AreLate}
-use Rattle.late_residue.proofs.Items.{and_left, and_right, map-at, map-from, has-cons, has-none, has-map, filter-has, has-filter}
-use Rattle.late_residue.proofs.Views.{eqb-same, both_true}
-
--- the places of a list of which some are left out come from increasing places of it
-kept_place : {X : Type 0} (p : X → Bool) (xs : List X) (j k : ℕ) (x y : X)
-    → slice_get (filter p xs) j ≡ Some x → slice_get (filter p xs) k ≡ Some y
-    → (m : ℕ) × (n : ℕ) × (slice_get xs m ≡ Some x) × (slice_get xs n ≡ Some y)
-    × (m ≡ n → j ≡ k)
-kept_place p [] j k x y first second = absurd (none-some x first)
-kept_place {X} p (z ∷ zs) j k x y first second = elim (cases_Bool (p z)) [
-  | inl e ↦ by (λ m n one other. kept_place p zs m n x y one other) j k
-      (subst (λ (b : Bool). slice_get (if b then z ∷ filter p zs else filter p zs) j ≡ Some x) e
-      first)
-      (subst (λ (b : Bool). slice_get (if b then z ∷ filter p zs else filter p zs) k ≡ Some y) e
-      second)
-  | inr e ↦
-      let found = kept_place p zs j k x y
-      (subst (λ (b : Bool). slice_get (if b then z ∷ filter p zs else filter p zs) j ≡ Some x) e
-      first)
-      (subst (λ (b : Bool). slice_get (if b then z ∷ filter p zs else filter p zs) k ≡ Some y) e
-      second) in (
-        suc found.0,
-        suc found.1,
-        found.2,
-        found.3,
-        λ (same : suc found.0 ≡ suc found.1).
-            let less : found.0 ≡ found.1 = omega (arith, same) in found.4 less,
-      )
-]
-  where
-    by : ((j k : ℕ) → slice_get (filter p zs) j ≡ Some x → slice_get (filter p zs) k ≡ Some y
-        → (m : ℕ) × (n : ℕ) × (slice_get zs m ≡ Some x) × (slice_get zs n ≡ Some y)
-        × (m ≡ n → j ≡ k))
-        → (j k : ℕ) → slice_get (z ∷ filter p zs) j ≡ Some x
-        → slice_get (z ∷ filter p zs) k ≡ Some y
-        → (m : ℕ) × (n : ℕ) × (slice_get (z ∷ zs) m ≡ Some x) × (slice_get (z ∷ zs) n ≡ Some y)
-        × (m ≡ n → j ≡ k)
-    by rest zero zero one other = (0, 0, one, other, λ same. refl)
-    by rest zero (suc k) one other =
-        let kept = filter-has p zs y (k, other) in (
-          0,
-          suc kept.0.0,
-          one,
-          kept.0.1,
-          λ (same : 0 ≡ suc kept.0.0). absurd (omega (arith, same)),
-        )
-    by rest (suc j) zero one other =
-        let kept = filter-has p zs x (j, one) in (
-          suc kept.0.0,
-          0,
-          kept.0.1,
-          other,
-          λ (same : suc kept.0.0 ≡ 0). absurd (omega (arith, same)),
-        )
-    by rest (suc j) (suc k) one other =
-        let found = rest j k one other in (
-          suc found.0,
-          suc found.1,
-          found.2,
-          found.3,
-          λ (same : suc found.0 ≡ suc found.1).
-              let less : found.0 ≡ found.1 = omega (arith, same) in
-              let equal : j ≡ k = found.4 less in omega (arith, equal),
-        )
-
-listed-filter : (p : Reached → Bool) (ones : List Reached) → AreListed (configurations_of ones)
-    → AreListed (configurations_of (filter p ones))
-listed-filter p ones listed = record {
-  apart = λ j k one other first second alike.
-      let a = map-from configuration_of (filter p ones) j one first in
-      let b = map-from configuration_of (filter p ones) k other second in
-      let places = kept_place p ones j k a.0 b.0 a.1 b.1 in
-      places.4 (listed.apart places.0 places.1 (configuration_of a.0) (configuration_of b.0)
-      (map-at configuration_of ones places.0 a.0 places.2)
-      (map-at configuration_of ones places.1 b.0 places.3)
-      (subst (λ (c : Configuration). AreAlike c (configuration_of b.0)) (sym a.2)
-      (subst (λ (c : Configuration). AreAlike one c) (sym b.2) alike)));
-  ascend = λ at (k, has).
-      let a = map-from configuration_of (filter p ones) k at has in
-      let kept = filter-has p ones a.0 (k, a.1) in
-      listed.ascend at (subst (λ (c : Configuration). Has (configurations_of ones) c) a.2
-      (has-map configuration_of ones a.0 kept.0));
-}
+use Rattle.late_residue.specs.Description.{Description}
+use Rattle.late_residue.specs.Reached.{Has, place_of, description_of, descriptions_of}
+use Rattle.late_residue.specs.Meaning.{Means}
+use Rattle.late_residue.specs.Known.{MayHaveReply, with_reply, IsKnownPlace, AgreesWithKnown}
+use Rattle.late_residue.specs.Placing.{IsForgotten, AreAllForgotten}
+use Rattle.late_residue.specs.LateOnes.{AreLate}
+use Rattle.late_residue.proofs.Items.{eqb-same, map-at, map-from, has-map, filter-has, has-filter, set-from, set-to, set-at, all-has, has-all}
+use Rattle.late_residue.proofs.Meanings.{least}
 
 -- a call is placed at a configuration with this reply or not at all
 abbrev pub HasOnly : ℕ → ℕ → Configuration → Type 0
@@ -166,70 +88,95 @@ module _ (call reply : ℕ) (calls : List OpenCall)
       (ap (λ (c : OpenCall). c.call) now ∙ (is ∙ sym same)) reply
       (ap (λ (c : OpenCall). c.reply) now)
 
-  only-alike : (one other : Configuration) → AreAlike one other → HasOnly call reply other
-      → HasOnly call reply one
-  only-alike one other alike only place among = only place ((alike.0 place).0 among)
-
-  -- what a test leaves of a late residue that asks for the reply of an open call
+  -- what is left of a late residue where the optional places with other replies go too
   pub reveals : (spec : SeqSpec) (stream : List StreamEvent) (found : OpenCall) → Has calls found
-      → found.call ≡ call → (test : Reached → Bool)
-      → ((r : Reached) → test r ≡ true → HasOnly call reply (configuration_of r))
-      → ((r : Reached) → HasOnly call reply (configuration_of r) → test r ≡ true)
-      → (ones : List Reached) → AreLate spec stream calls (configurations_of ones)
-      → AreLate spec stream later (configurations_of (filter test ones))
-  reveals spec stream found has named test sound complete ones late = record {
-    late = λ at in_left. late.late at (kept at in_left).0;
-    agree = λ at in_left.
-        agree-more at (late.agree at (kept at in_left).0) (kept at in_left).1;
-    whole = λ at is agrees.
-        let one = late.whole at is (agree-less at agrees) in
-        let from = map-from configuration_of ones one.1.0 one.0 one.1.1 in
-        let only : HasOnly call reply (configuration_of from.0) =
-        only-alike (configuration_of from.0) at
-        (subst (λ (c : Configuration). AreAlike c at) (sym from.2) one.2)
-        (only-later at found has named agrees) in
-        let left : Has (configurations_of (filter test ones)) (configuration_of from.0) =
-        has-map configuration_of (filter test ones) from.0
-        (has-filter test ones from.0 (one.1.0, from.1) (complete from.0 only)) in (
-          one.0,
-          subst (λ (c : Configuration). Has (configurations_of (filter test ones)) c) from.2 left,
-          one.2,
-        );
-    listed = listed-filter test ones late.listed;
+      → found.call ≡ call → (ones new : List Description)
+      → ((one : Description) → Has new one → (old : Description) × Has ones old
+      × HasOnly call reply (least old) × IsForgotten call reply old one)
+      → ((old : Description) → Has ones old → HasOnly call reply (least old)
+      → (one : Description) × Has new one × IsForgotten call reply old one)
+      → AreLate spec stream calls ones → AreLate spec stream later new
+  reveals spec stream found has named ones new back each late = record {
+    reached = λ one is.
+        let old = back one is in
+        let sound = late.reached old.0 old.1 in
+        record {
+          each = λ at means. sound.each at (old_means old.0 one old.3 at means);
+          agree = λ place among. elim among [
+            | inl placed ↦
+                let there = subst (λ (ps : List StreamPlace). IsAmong ps place) old.3.placed placed in
+                agree-more (record { placed = place ∷ []; list = [] })
+                (λ p h. elim (among-cons place [] p h) [
+                  | inl same ↦ subst (λ (q : StreamPlace). IsKnownPlace calls q) same
+                      (sound.agree place (inl there))
+                  | inr none ↦ absurd (nothing_among p none)
+                ])
+                (λ p h e. elim (among-cons place [] p h) [
+                  | inl same ↦ old.2 p
+                      (subst (λ (q : StreamPlace). IsAmong old.0.placed q) same there) e
+                  | inr none ↦ absurd (nothing_among p none)
+                ]) place (0, refl)
+            | inr optional ↦
+                let there = (old.3.optional place).0 optional in
+                agree-more (record { placed = place ∷ []; list = [] })
+                (λ p h. elim (among-cons place [] p h) [
+                  | inl same ↦ subst (λ (q : StreamPlace). IsKnownPlace calls q) same
+                      (sound.agree place (inr there.0))
+                  | inr none ↦ absurd (nothing_among p none)
+                ])
+                (λ p h. elim (among-cons place [] p h) [
+                  | inl same ↦ subst
+                      (λ (q : StreamPlace). q.call ≡ call → q.reply ≡ reply) same there.1
+                  | inr none ↦ absurd (nothing_among p none)
+                ]) place (0, refl)
+          ];
+          once = λ a b first second. sound.once a b
+              (subst (λ (ps : List StreamPlace). IsAmong ps a) old.3.placed first)
+              (subst (λ (ps : List StreamPlace). IsAmong ps b) old.3.placed second);
+        };
+    whole = λ at residue agrees.
+        let led = late.whole at residue (agree-less at agrees) in
+        let only : HasOnly call reply led.0 = λ place among.
+        only-later at found has named agrees place
+        (((follow_on spec.next stream led.0 at led.2.0 led.2.1).placed place).1 (inl among)) in
+        let one = each led.1.0 led.1.1 (λ place among. only place (led.1.2.placed place among)) in
+        (led.0, (one.0, one.1, new_means led.1.0 one.0 one.2 led.0 only led.1.2), led.2);
   }
     where
-      kept : (at : Configuration) → Has (configurations_of (filter test ones)) at
-          → Has (configurations_of ones) at × HasOnly call reply at
-      kept at (k, is) =
-          let from = map-from configuration_of (filter test ones) k at is in
-          let passed = filter-has test ones from.0 (k, from.1) in (
-            subst (λ (c : Configuration). Has (configurations_of ones) c) from.2
-                (has-map configuration_of ones from.0 passed.0),
-            subst (λ (c : Configuration). HasOnly call reply c) from.2
-                (sound from.0 passed.1),
-          )
+      old_means : (old one : Description) → IsForgotten call reply old one → (at : Configuration)
+          → Means one at → Means old at
+      old_means old one forgot at means = record {
+        list = means.list ∙ forgot.list;
+        placed = λ p among. means.placed p
+            (subst (λ (ps : List StreamPlace). IsAmong ps p) (sym forgot.placed) among);
+        either = λ p among. elim (means.either p among) [
+          | inl placed ↦ inl (subst (λ (ps : List StreamPlace). IsAmong ps p) forgot.placed placed)
+          | inr optional ↦ inr ((forgot.optional p).0 optional).0
+        ];
+        once = means.once;
+      }
 
--- the test of a configuration of the code
+      new_means : (old one : Description) → IsForgotten call reply old one → (at : Configuration)
+          → HasOnly call reply at → Means old at → Means one at
+      new_means old one forgot at only means = record {
+        list = means.list ∙ sym forgot.list;
+        placed = λ p among. means.placed p
+            (subst (λ (ps : List StreamPlace). IsAmong ps p) forgot.placed among);
+        either = λ p among. elim (means.either p among) [
+          | inl placed ↦ inl (subst (λ (ps : List StreamPlace). IsAmong ps p) (sym forgot.placed)
+              placed)
+          | inr optional ↦ inr ((forgot.optional p).1 (optional, only p among))
+        ];
+        once = means.once;
+      }
+
+-- the test of a description of the code
 abbrev pub only_test : ℕ → ℕ → Reached → Bool
 only_test call reply r =
     list_all (λ (p : Placed). not (p.call == call) || p.reply == reply) r.placed.items
 
-all-has : {X : Type 0} (p : X → Bool) (xs : List X) → list_all p xs ≡ true → (x : X) → Has xs x
-    → p x ≡ true
-all-has p [] e x has = absurd (has-none x has)
-all-has p (y ∷ ys) e x has = elim (has-cons y ys x has) [
-  | inl is ↦ ap p (sym is) ∙ and_left (p y) (list_all p ys) e
-  | inr rest ↦ all-has p ys (and_right (p y) (list_all p ys) e) x rest
-]
-
-has-all : {X : Type 0} (p : X → Bool) (xs : List X) → ((x : X) → Has xs x → p x ≡ true)
-    → list_all p xs ≡ true
-has-all p [] all = refl
-has-all p (y ∷ ys) all = both_true (p y) (list_all p ys) (all y (0, refl))
-    (has-all p ys (λ x (k, at). all x (suc k, at)))
-
 pub only_sound : (call reply : ℕ) (r : Reached) → only_test call reply r ≡ true
-    → HasOnly call reply (configuration_of r)
+    → HasOnly call reply (least (description_of r))
 only_sound call reply r e place (k, at) same =
     let from = map-from place_of r.placed.items k place at in
     let passes : (not (from.0.call == call) || from.0.reply == reply) ≡ true =
@@ -241,7 +188,7 @@ only_sound call reply r e place (k, at) same =
     subst (λ (b : Bool). (not b || from.0.reply == reply) ≡ true) is passes in
     ap (λ (p : StreamPlace). p.reply) (sym from.2) ∙ eqb-true from.0.reply reply second
 
-pub only_complete : (call reply : ℕ) (r : Reached) → HasOnly call reply (configuration_of r)
+pub only_complete : (call reply : ℕ) (r : Reached) → HasOnly call reply (least (description_of r))
     → only_test call reply r ≡ true
 only_complete call reply r only =
     has-all (λ (p : Placed). not (p.call == call) || p.reply == reply) r.placed.items
@@ -254,3 +201,198 @@ only_complete call reply r only =
       | inr differs ↦
           subst (λ (b : Bool). (not b || p.reply == reply) ≡ true) (sym differs) refl
     ])
+
+-- the test of an optional place of the code
+abbrev pub place_test : ℕ → ℕ → Placed → Bool
+place_test call reply p = not (p.call == call) || p.reply == reply
+
+or_second : (a b : Bool) → a ≡ true → (not a || b) ≡ true → b ≡ true
+or_second a b is e = subst (λ (c : Bool). (not c || b) ≡ true) is e
+
+or_first : (a b : Bool) → (a ≡ true → b ≡ true) → (not a || b) ≡ true
+or_first true b both = both refl
+or_first false b both = refl
+
+pub forgotten : (call reply : ℕ) (placed items left : List Placed) (list : List ℕ)
+    → left ≡ filter (place_test call reply) items
+    → IsForgotten call reply
+    (record { placed = map place_of placed; optional = map place_of items; list = list })
+    (record { placed = map place_of placed; optional = map place_of left; list = list })
+forgotten call reply placed items left list is = record {
+  list = refl;
+  placed = refl;
+  optional = λ q. (
+    λ (k, at).
+        let from = map-from place_of left k q at in
+        let there : Has (filter (place_test call reply) items) from.0 =
+        subst (λ (l : List Placed). Has l from.0) is (k, from.1) in
+        let kept = filter-has (place_test call reply) items from.0 there in (
+          subst (λ (s : StreamPlace). IsAmong (map place_of items) s) from.2
+              (has-map place_of items from.0 kept.0),
+          λ (same : q.call ≡ call).
+              let named : (from.0.call == call) ≡ true = eqb-same from.0.call call
+              (ap (λ (s : StreamPlace). s.call) from.2 ∙ same) in
+              ap (λ (s : StreamPlace). s.reply) (sym from.2)
+              ∙ eqb-true from.0.reply reply
+              (or_second (from.0.call == call) (from.0.reply == reply) named kept.1),
+        ),
+    λ ((k, at), only).
+        let from = map-from place_of items k q at in
+        let passes : place_test call reply from.0 ≡ true =
+        or_first (from.0.call == call) (from.0.reply == reply) (λ named.
+        eqb-same from.0.reply reply (ap (λ (s : StreamPlace). s.reply) from.2
+        ∙ only (sym (ap (λ (s : StreamPlace). s.call) from.2) ∙ eqb-true from.0.call call named))) in
+        subst (λ (s : StreamPlace). IsAmong (map place_of left) s) from.2
+        (has-map place_of left from.0 (subst (λ (l : List Placed). Has l from.0) (sym is)
+        (has-filter (place_test call reply) items from.0 (k, from.1) passes))),
+  );
+}
+
+-- The descriptions at the places below a number are forgotten, and the others are the same.
+abbrev pub IsForgottenAt : ℕ → ℕ → ℕ → ℕ → Reached → Reached → Type 0
+IsForgottenAt call reply k j r s =
+    (j < k → IsForgotten call reply (description_of r) (description_of s)) × (k ≤ j → s ≡ r)
+
+pub record AreForgottenSoFar (call reply : ℕ) (old new : List Reached) (k : ℕ) : Type 0 where
+  pub back : (j : ℕ) (s : Reached) → slice_get new j ≡ Some s
+      → (r : Reached) × (slice_get old j ≡ Some r) × IsForgottenAt call reply k j r s
+  pub each : (j : ℕ) (r : Reached) → slice_get old j ≡ Some r
+      → (s : Reached) × (slice_get new j ≡ Some s) × IsForgottenAt call reply k j r s
+
+pub forgotten_none : (call reply : ℕ) (old : List Reached) → AreForgottenSoFar call reply old old 0
+forgotten_none call reply old = record {
+  back = λ j s at. (s, at, (λ less. absurd (omega (arith, less)), λ above. refl));
+  each = λ j r at. (r, at, (λ less. absurd (omega (arith, less)), λ above. refl));
+}
+
+not_past : (j k : ℕ) → j ≡ k → k + 1 ≤ j → ⊥
+not_past j k same past = omega (arith, same, past)
+
+still_below : (j k : ℕ) → j < k + 1 → (j ≡ k → ⊥) → j < k
+still_below j k less apart = elim (cases_lt j k) [
+  | inl below ↦ below
+  | inr above ↦ let same : j ≡ k = omega (arith, less, above) in absurd (apart same)
+]
+
+still_past : (j k : ℕ) → k + 1 ≤ j → k ≤ j
+still_past j k past = omega (arith, past)
+
+pub forgotten_next : (call reply : ℕ) (old ones new : List Reached) (k : ℕ) (r s : Reached)
+    → AreForgottenSoFar call reply old ones k → slice_get ones k ≡ Some r
+    → new ≡ slice_set ones k s → IsForgotten call reply (description_of r) (description_of s)
+    → AreForgottenSoFar call reply old new (k + 1)
+forgotten_next call reply old ones new k r s so_far there is forgot = record {
+  back = λ j x at. elim (set-from ones k s j x
+      (subst (λ (l : List Reached). slice_get l j ≡ Some x) is at)) [
+        | inl (same, equal) ↦
+            let was = so_far.back k r there in
+            let before : r ≡ was.0 = was.2.1 (omega arith) in (
+              was.0,
+              subst (λ (i : ℕ). slice_get old i ≡ Some was.0) (sym same) was.1,
+              (
+                λ less. subst (λ (y : Reached).
+                    IsForgotten call reply (description_of was.0) (description_of y)) equal
+                    (subst (λ (y : Reached).
+                    IsForgotten call reply (description_of y) (description_of s)) before forgot),
+                λ past. absurd (not_past j k same past),
+              ),
+            )
+        | inr (apart, old_at) ↦
+            let was = so_far.back j x old_at in (
+              was.0,
+              was.1,
+              (
+                λ less. was.2.0 (still_below j k less apart),
+                λ past. was.2.1 (still_past j k past),
+              ),
+            )
+      ];
+  each = λ j a at.
+      let now = so_far.each j a at in
+      elim (cases_eq j k) [
+        | inl same ↦
+            let here : slice_get ones k ≡ Some now.0 =
+            subst (λ (i : ℕ). slice_get ones i ≡ Some now.0) same now.1 in
+            let low : k ≤ j = omega (arith, same) in
+            let before : r ≡ a = same_Some r now.0 (sym there ∙ here) ∙ now.2.1 low in (
+              s,
+              subst (λ (l : List Reached). slice_get l j ≡ Some s) (sym is)
+                  (subst (λ (i : ℕ). slice_get (slice_set ones k s) i ≡ Some s) (sym same)
+                  (set-at ones k s r there)),
+              (
+                λ less. subst (λ (y : Reached).
+                    IsForgotten call reply (description_of y) (description_of s)) before forgot,
+                λ past. absurd (not_past j k same past),
+              ),
+            )
+        | inr apart ↦ (
+          now.0,
+          subst (λ (l : List Reached). slice_get l j ≡ Some now.0) (sym is)
+              (set-to ones k s j now.0 now.1 apart),
+          (
+            λ less. now.2.0 (still_below j k less apart),
+            λ past. now.2.1 (still_past j k past),
+          ),
+        )
+      ];
+}
+
+pub all_forgotten : (call reply : ℕ) (old new : List Reached) (k : ℕ)
+    → AreForgottenSoFar call reply old new k → length old ≤ k
+    → AreAllForgotten call reply (descriptions_of old) (descriptions_of new)
+all_forgotten call reply old new k so_far whole = record {
+  back = λ one (j, at).
+      let from = map-from description_of new j one at in
+      let was = so_far.back j from.0 from.1 in
+      let within : j < length old = slice_get_within old j was.0 was.1 in
+      let past : j < k = omega (arith, within, whole) in (
+        description_of was.0,
+        (j, map-at description_of old j was.0 was.1),
+        subst (λ (d : Description). IsForgotten call reply (description_of was.0) d) from.2
+            (was.2.0 past),
+      );
+  each = λ one (j, at).
+      let from = map-from description_of old j one at in
+      let now = so_far.each j from.0 from.1 in
+      let within : j < length old = slice_get_within old j from.0 from.1 in
+      let past : j < k = omega (arith, within, whole) in (
+        description_of now.0,
+        (j, map-at description_of new j now.0 now.1),
+        subst (λ (d : Description). IsForgotten call reply d (description_of now.0)) from.2
+            (now.2.0 past),
+      );
+}
+
+-- what is left of a late residue, by the code's test and by what is forgotten then
+pub reveals_all : (call reply : ℕ) (calls : List OpenCall)
+    → ((one : OpenCall) → Has calls one → one.call ≡ call → MayHaveReply one reply)
+    → (spec : SeqSpec) (stream : List StreamEvent) (found : OpenCall) → Has calls found
+    → found.call ≡ call → (ones kept new : List Reached)
+    → kept ≡ filter (only_test call reply) ones
+    → AreAllForgotten call reply (descriptions_of kept) (descriptions_of new)
+    → AreLate spec stream calls (descriptions_of ones)
+    → AreLate spec stream (map (with_reply call reply) calls) (descriptions_of new)
+reveals_all call reply calls may spec stream found has named ones kept new is forgot late =
+    reveals call reply calls may spec stream found has named (descriptions_of ones)
+    (descriptions_of new)
+    (λ one there.
+    let old = forgot.back one there in
+    let from = map-from description_of kept old.1.0 old.0 old.1.1 in
+    let passed = filter-has (only_test call reply) ones from.0
+    (subst (λ (l : List Reached). Has l from.0) is (old.1.0, from.1)) in (
+      old.0,
+      subst (λ (d : Description). Has (descriptions_of ones) d) from.2
+          (has-map description_of ones from.0 passed.0),
+      subst (λ (d : Description). HasOnly call reply (least d)) from.2
+          (only_sound call reply from.0 passed.1),
+      old.2,
+    ))
+    (λ old (k, at) only.
+    let from = map-from description_of ones k old at in
+    let passes = only_complete call reply from.0
+    (subst (λ (d : Description). HasOnly call reply (least d)) (sym from.2) only) in
+    let there : Has kept from.0 = subst (λ (l : List Reached). Has l from.0) (sym is)
+    (has-filter (only_test call reply) ones from.0 (k, from.1) passes) in
+    forgot.each old (subst (λ (d : Description). Has (descriptions_of kept) d) from.2
+    (has-map description_of kept from.0 there)))
+    late

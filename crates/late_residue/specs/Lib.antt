@@ -1,4 +1,6 @@
+pub mod Description
 pub mod Reached
+pub mod Meaning
 pub mod Known
 pub mod Placing
 pub mod LateOnes

@@ -1,21 +1,28 @@
--- What placed calls and a return make of configurations, by the open calls.
-use Rattle.std.specs.Prelude.{◌≡◌, ◌≢◌, ◌⊎◌, ℕ, ◌<◌, List, [], ◌∷◌, ⊤}
+-- What placed calls and a return make of descriptions, by the open calls.
+use Rattle.std.specs.Prelude.{◌≡◌, ◌≢◌, ◌↔◌, ◌⊎◌, ℕ, ◌<◌, List, ◌∷◌, Some, slice_get}
+use Rattle.book_base.specs.Reaching.{Leaves}
+use Rattle.book_base.specs.SeqSpec.{SeqSpec}
+use Rattle.streams.specs.Stream.{StreamEvent}
 use Rattle.streams.specs.StreamOrder.{StreamPlace, IsAmong}
-use Rattle.residue_laws.specs.Residue.{Configuration}
+use Rattle.residue_laws.specs.Residue.{Configuration, IsInResidue}
 use Rattle.residue_laws.specs.Step.{AreAlike, IsWithout}
 use Rattle.late_residue.specs.declared.open_call.OpenCall.{OpenCall}
-use Rattle.late_residue.specs.Reached.{Has, HasAlike}
-use Rattle.late_residue.specs.Known.{MayHaveReply}
+use Rattle.late_residue.specs.Description.{Description}
+use Rattle.late_residue.specs.Reached.{Has}
+use Rattle.late_residue.specs.Meaning.{IsPlaceOf, AreOnce, Means, AreMeant}
+use Rattle.late_residue.specs.Known.{MayHaveReply, IsKnownPlace}
+
+-- a call is among some places, with some reply
+abbrev pub AreOf : List StreamPlace → ℕ → Type 0
+AreOf places call = (reply : ℕ) × IsAmong places (record { call = call; reply = reply })
 
 -- a call is placed at a configuration, with some reply
 abbrev pub IsPlacedAt : Configuration → ℕ → Type 0
-IsPlacedAt at call = (reply : ℕ) × IsAmong at.placed (record { call = call; reply = reply })
+IsPlacedAt at call = AreOf at.placed call
 
--- the calls of some places ascend
-abbrev pub Ascend : List StreamPlace → Type 0
-Ascend [] = ⊤
-Ascend (first ∷ rest) =
-    ((later : StreamPlace) → IsAmong rest later → first.call < later.call) × Ascend rest
+-- An operation overwrites: it makes the same list of each list, and has the same reply.
+abbrev pub Overwrites : (List ℕ → ℕ → List ℕ × ℕ) → ℕ → Type 0
+Overwrites next op = (one other : List ℕ) → next one op ≡ next other op
 
 -- the configuration after an open call is placed with the reply that the object gives
 abbrev pub with_call : (List ℕ → ℕ → List ℕ × ℕ) → Configuration → OpenCall → Configuration
@@ -24,40 +31,101 @@ with_call next at one = record {
   list = (next at.list one.op).0;
 }
 
--- Before a call returns, an open call may be placed at a configuration: it is another one, it isn't
--- placed there, and it may have the reply that the object gives.
-pub record MayBePlaced (next : List ℕ → ℕ → List ℕ × ℕ) (calls : List OpenCall) (returning : ℕ)
+-- some places are others without those of a call
+abbrev pub AreOthers : ℕ → List StreamPlace → List StreamPlace → Type 0
+AreOthers call with without = (place : StreamPlace)
+    → (IsAmong without place ↔ IsAmong with place × (place.call ≢ call))
+
+-- a description is another one without the places of a call
+pub record IsWithoutCall (call : ℕ) (with without : Description) : Type 0 where
+  pub list : without.list ≡ with.list
+  pub placed : AreOthers call with.placed without.placed
+  pub optional : AreOthers call with.optional without.optional
+
+-- A description is another one after an open call is placed with the reply that the object gives:
+-- the call is optional no more.
+pub record IsPlacedOn (next : List ℕ → ℕ → List ℕ × ℕ) (from : Description) (one : OpenCall)
+    (after : Description) : Type 0 where
+  pub list : after.list ≡ (next from.list one.op).0
+  pub placed : (place : StreamPlace) → (IsAmong after.placed place
+      ↔ (record { call = one.call; reply = (next from.list one.op).1 } ≡ place)
+      ⊎ IsAmong from.placed place)
+  pub optional : AreOthers one.call from.optional after.optional
+
+-- a description is another one with one place more that is optional
+pub record IsAllowed (one : StreamPlace) (from after : Description) : Type 0 where
+  pub list : after.list ≡ from.list
+  pub placed : after.placed ≡ from.placed
+  pub optional : (place : StreamPlace)
+      → (IsAmong after.optional place ↔ (one ≡ place) ⊎ IsAmong from.optional place)
+
+-- a description is another one without the optional places of a call with another reply than this one
+pub record IsForgotten (call reply : ℕ) (from after : Description) : Type 0 where
+  pub list : after.list ≡ from.list
+  pub placed : after.placed ≡ from.placed
+  pub optional : (place : StreamPlace) → (IsAmong after.optional place
+      ↔ IsAmong from.optional place × (place.call ≡ call → place.reply ≡ reply))
+
+-- Descriptions are others without the optional places of a call with another reply than this one.
+pub record AreAllForgotten (call reply : ℕ) (from after : List Description) : Type 0 where
+  pub back : (one : Description) → Has after one
+      → (old : Description) × Has from old × IsForgotten call reply old one
+  pub each : (old : Description) → Has from old
+      → (one : Description) × Has after one × IsForgotten call reply old one
+
+-- An open call may be placed at a configuration: it isn't placed there, and it may have the reply
+-- that the object gives.
+pub record MayBePlaced (next : List ℕ → ℕ → List ℕ × ℕ) (calls : List OpenCall)
     (at : Configuration) (one : OpenCall) : Type 0 where
   pub is_open : Has calls one
-  pub other : one.call ≢ returning
   pub unplaced : IsPlacedAt at one.call → ⊥
   pub reply : MayHaveReply one (next at.list one.op).1
 
--- To a list of configurations belong those to which one more call leads from a configuration at
--- which the call that returns isn't placed.
-abbrev pub LeadsInto : (List ℕ → ℕ → List ℕ × ℕ) → List OpenCall → ℕ → List Configuration
-    → Configuration → Type 0
-LeadsInto next calls returning ones at = (IsPlacedAt at returning → ⊥) → (one : OpenCall)
-    → MayBePlaced next calls returning at one → HasAlike ones (with_call next at one)
+-- A description is sound for a property of configurations: all that it means have the property, each
+-- of its places agrees with what is known, and no call is placed with two replies.
+pub record IsSound (property : Configuration → Type 0) (calls : List OpenCall)
+    (one : Description) : Type 0 where
+  pub each : (at : Configuration) → Means one at → property at
+  pub agree : (place : StreamPlace) → IsPlaceOf one place → IsKnownPlace calls place
+  pub once : AreOnce one.placed
 
--- Configurations are closed: each call that may be placed at one of them before the return leads to
--- one of them.
-abbrev pub AreClosed : (List ℕ → ℕ → List ℕ × ℕ) → List OpenCall → ℕ → List Configuration → Type 0
-AreClosed next calls returning ones = (at : Configuration) → Has ones at
-    → LeadsInto next calls returning ones at
+-- all of some descriptions are sound for a property
+abbrev pub AreSound : (Configuration → Type 0) → List OpenCall → List Description → Type 0
+AreSound property calls ones = (one : Description) → Has ones one → IsSound property calls one
 
--- An open call returns with a reply at a configuration, and another one is left. The call is placed
--- there with this reply, or it isn't placed there and the object gives it this reply.
-abbrev pub IsLeft : (List ℕ → ℕ → List ℕ × ℕ) → OpenCall → ℕ → Configuration → Configuration → Type 0
-IsLeft next one reply at after =
-    (IsAmong at.placed (record { call = one.call; reply = reply }) × IsWithout one.call at after)
-    ⊎ ((IsPlacedAt at one.call → ⊥) × ((next at.list one.op).1 ≡ reply)
-    × AreAlike (record { placed = at.placed; list = (next at.list one.op).0 }) after)
+-- A configuration is reached by a call that is placed last, from one of the residue.
+abbrev pub IsReachedBy : SeqSpec → List StreamEvent → OpenCall → Configuration → Type 0
+IsReachedBy spec stream one at = (before : Configuration) × IsInResidue spec stream before
+    × (IsPlacedAt before one.call → ⊥) × AreAlike (with_call spec.next before one) at
 
--- some configurations are those that are left of others by a return
-pub record AreLeft (next : List ℕ → ℕ → List ℕ × ℕ) (one : OpenCall) (reply : ℕ)
-    (ones left : List Configuration) : Type 0 where
-  pub from : (after : Configuration) → Has left after
-      → (at : Configuration) × Has ones at × IsLeft next one reply at after
-  pub all : (at after : Configuration) → Has ones at → IsLeft next one reply at after
-      → HasAlike left after
+-- A configuration is left by the return of an open call with a reply, of one of the residue at which
+-- the call is placed with this reply.
+abbrev pub IsLeftBy : SeqSpec → List StreamEvent → OpenCall → ℕ → Configuration → Type 0
+IsLeftBy spec stream one reply after = (at : Configuration) × IsInResidue spec stream at
+    × IsAmong at.placed (record { call = one.call; reply = reply }) × IsWithout one.call at after
+
+-- A configuration is handled before an open call returns with a reply. Where the call is placed with
+-- this reply, what is left of the configuration is meant by those that are left. Where it isn't
+-- placed, the configuration is meant by those that calls are still placed at; or the call changes no
+-- list at which it has the reply, and the configuration is meant by those that are left.
+pub record IsHandled (next : List ℕ → ℕ → List ℕ × ℕ) (returning : OpenCall) (reply : ℕ)
+    (ones left : List Description) (at : Configuration) : Type 0 where
+  pub returned : IsAmong at.placed (record { call = returning.call; reply = reply })
+      → (after : Configuration) → IsWithout returning.call at after → AreMeant left after
+  pub further : (IsPlacedAt at returning.call → ⊥)
+      → AreMeant ones at ⊎ (Leaves next returning.op reply × AreMeant left at)
+
+-- all that a description means is handled
+abbrev pub IsTaken : (List ℕ → ℕ → List ℕ × ℕ) → OpenCall → ℕ → List Description
+    → List Description → Description → Type 0
+IsTaken next returning reply ones left one = (at : Configuration) → Means one at
+    → IsHandled next returning reply ones left at
+
+-- Of the first open calls, as many as a number says, each that may be placed at a configuration that
+-- a description means leads to one that is handled.
+abbrev pub LeadsOn : (List ℕ → ℕ → List ℕ × ℕ) → List OpenCall → OpenCall → ℕ → List Description
+    → List Description → ℕ → Description → Type 0
+LeadsOn next calls returning reply ones left number one = (at : Configuration) → Means one at
+    → (j : ℕ) (call : OpenCall) → j < number → slice_get calls j ≡ Some call
+    → MayBePlaced next calls at call
+    → IsHandled next returning reply ones left (with_call next at call)

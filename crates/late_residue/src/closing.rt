@@ -1,162 +1,246 @@
-ghost use Rattle.std.specs.Prelude.{◌≡◌, ◌⊎◌, false, ◌<◌, ◌≤◌, length, slice_get, Some, IfOk, OnOk, IsTrue};
+ghost use Rattle.std.specs.Prelude.{◌≡◌, ◌⊎◌, ℕ, ◌+◌, false, [], ◌∷◌, ◌<◌, ◌≤◌, List, length, slice_get, Some, IfOk, OnOk, IsTrue};
 ghost use Rattle.book_base.specs.declared.TheConstants.{MAX_ROOM};
 ghost use Rattle.residue_laws.specs.Residue.{Configuration};
-ghost use Rattle.late_residue.specs.Reached.{Has, HasAlike, Grows, configuration_of, configurations_of};
-ghost use Rattle.late_residue.specs.Placing.{Ascend, IsPlacedAt, MayBePlaced, with_call, LeadsInto, AreClosed, AreLeft};
-ghost use Rattle.late_residue.specs.LateOnes.{AreListed, AreAdded, AreCopied};
+ghost use Rattle.late_residue.specs.Description.{Description};
+ghost use Rattle.late_residue.specs.Reached.{Has, Grows, description_of, descriptions_of};
+ghost use Rattle.late_residue.specs.Meaning.{Means, AreMeant, Serves};
+ghost use Rattle.late_residue.specs.Placing.{IsPlacedAt, MayBePlaced, IsHandled, IsTaken, LeadsOn, with_call};
+ghost use Rattle.late_residue.specs.LateOnes.{AreAdded, AreApart};
 
 use crate::open_call::OpenCall;
-use crate::reached::Reached;
+use crate::overwriting::Overwriting;
+use crate::reached::{Placed, Reached};
+use crate::widening::expanded;
 use book_base::{GrowsByOne, NoMemory};
-use indexmap::IndexSet;
 use std::alloc::Global;
 
-/// Adds all configurations to which calls that are placed lead from these before a call returns, and
-/// answers whether there are no more than the limit, and no list is too long. That call isn't
-/// placed, nothing is placed where it is placed already, and no call is placed with another reply
-/// than the known one.
-pub fn close<O: GrowsByOne>(
+/// Places open calls at these descriptions, one after another, before a call returns with a reply,
+/// and puts what is left after the return. The answer is whether there are no more descriptions than
+/// the limit, and no list is too long.
+pub fn close<O: Overwriting>(
     alloc: Global,
     object: &O,
     calls: &[OpenCall],
-    returning: u64,
-    ones: &mut IndexSet<Reached>,
+    returning: &OpenCall,
+    reply: u64,
+    ones: &mut Vec<Reached>,
+    left: &mut Vec<Reached>,
     limit: usize,
 ) -> Result<bool, NoMemory>
-    ensures added { AreAdded (O.spec object.now) calls.now returning ones.old.keys ones.new.keys }
-    ensures closed { IfOk result (λ all. IsTrue all → AreClosed (O.spec object.now).next calls.now
-        returning (configurations_of ones.new.keys)) }
-    ensures short { IfOk result (λ all. IsTrue all → (at : Configuration)
-        → Has (configurations_of ones.new.keys) at → (IsPlacedAt at returning → ⊥)
-        → length at.list < MAX_ROOM) }
-    ensures beyond { IfOk result (λ all. all ≡ false → (limit < length ones.new.keys)
-        ⊎ ((at : Configuration) × Has (configurations_of ones.new.keys) at
-        × (MAX_ROOM ≤ length at.list))) }
+    requires { (one : Description) → Has (descriptions_of ones.old.items) one
+        → IsTaken (O.spec object.now).next returning.now reply (descriptions_of ones.old.items)
+        (descriptions_of left.old.items) one }
+    ensures added { IfOk result (λ all. AreAdded (O.spec object.now) calls.now returning.now reply []
+        (descriptions_of ones.old.items) (descriptions_of left.old.items)
+        (descriptions_of ones.new.items) (descriptions_of left.new.items)) }
+    ensures closed { IfOk result (λ all. IsTrue all → (one : Description)
+        → Has (descriptions_of ones.new.items) one
+        → LeadsOn (O.spec object.now).next calls.now returning.now reply
+        (descriptions_of ones.new.items) (descriptions_of left.new.items) (length calls.now) one) }
+    ensures beyond { IfOk result (λ all. all ≡ false
+        → (limit < length (descriptions_of ones.new.items))
+        ⊎ ((one : Description) × Has (descriptions_of ones.new.items) one
+        × (MAX_ROOM ≤ length one.list))) }
 {
     for k in 0..limit {
         if k >= ones.len() {
             return Ok(true);
         }
-        if !expand(alloc, object, calls, returning, ones, k)? {
+        if !expand(alloc, object, calls, returning, reply, ones, left, k)? {
             return Ok(false);
         }
     }
     Ok(ones.len() <= limit)
 }
 
-// Adds the configurations to which one more call leads from that at an index, and answers whether
-// its list isn't too long for that.
-fn expand<O: GrowsByOne>(
+// Places each open call at the description at an index, and answers whether its list isn't too long
+// for that.
+fn expand<O: Overwriting>(
     alloc: Global,
     object: &O,
     calls: &[OpenCall],
-    returning: u64,
-    ones: &mut IndexSet<Reached>,
+    returning: &OpenCall,
+    reply: u64,
+    ones: &mut Vec<Reached>,
+    left: &mut Vec<Reached>,
     k: usize,
 ) -> Result<bool, NoMemory>
-    requires { k < length ones.old.keys }
-    ensures added { AreAdded (O.spec object.now) calls.now returning ones.old.keys ones.new.keys }
-    ensures leads { IfOk result (λ all. IsTrue all → (at : Configuration)
-        → slice_get (configurations_of ones.old.keys) k ≡ Some at
-        → LeadsInto (O.spec object.now).next calls.now returning
-        (configurations_of ones.new.keys) at) }
-    ensures short { IfOk result (λ all. IsTrue all → (at : Configuration)
-        → slice_get (configurations_of ones.old.keys) k ≡ Some at → (IsPlacedAt at returning → ⊥)
-        → length at.list < MAX_ROOM) }
-    ensures long { IfOk result (λ all. all ≡ false → (at : Configuration)
-        × Has (configurations_of ones.new.keys) at × (MAX_ROOM ≤ length at.list)) }
+    requires within { k < length ones.old.items }
+    requires taken { (one : Description) → Has (descriptions_of ones.old.items) one
+        → IsTaken (O.spec object.now).next returning.now reply (descriptions_of ones.old.items)
+        (descriptions_of left.old.items) one }
+    ensures added { IfOk result (λ all. AreAdded (O.spec object.now) calls.now returning.now reply []
+        (descriptions_of ones.old.items) (descriptions_of left.old.items)
+        (descriptions_of ones.new.items) (descriptions_of left.new.items)) }
+    ensures leads { IfOk result (λ all. IsTrue all → (one : Description)
+        → slice_get (descriptions_of ones.old.items) k ≡ Some one
+        → LeadsOn (O.spec object.now).next calls.now returning.now reply
+        (descriptions_of ones.new.items) (descriptions_of left.new.items) (length calls.now) one) }
+    ensures long { IfOk result (λ all. all ≡ false → (one : Description)
+        × Has (descriptions_of ones.new.items) one × (MAX_ROOM ≤ length one.list)) }
 {
-    let one = &ones[k];
-    if one.places(returning) {
-        return Ok(true);
-    }
-    if !one.is_short() {
+    if !ones[k].is_short() {
         return Ok(false);
     }
     for call in calls {
-        place(alloc, object, calls, returning, ones, k, call)?;
+        place(alloc, object, calls, returning, reply, ones, left, k, call)?;
     }
     Ok(true)
 }
 
-// Adds the configuration to which an open call leads from that at an index, where it may be placed
-// there.
-fn place<O: GrowsByOne>(
+// Places an open call at the description at an index, where it may be placed there.
+fn place<O: Overwriting>(
     alloc: Global,
     object: &O,
     calls: &[OpenCall],
-    returning: u64,
-    ones: &mut IndexSet<Reached>,
+    returning: &OpenCall,
+    reply: u64,
+    ones: &mut Vec<Reached>,
+    left: &mut Vec<Reached>,
     k: usize,
     call: &OpenCall,
 ) -> Result<(), NoMemory>
-    requires within { k < length ones.old.keys }
+    requires within { k < length ones.old.items }
     requires is_open { Has calls.now call.now }
-    requires lacking { (at : Configuration) → slice_get (configurations_of ones.old.keys) k ≡ Some at
-        → IsPlacedAt at returning → ⊥ }
-    requires short { (at : Configuration) → slice_get (configurations_of ones.old.keys) k ≡ Some at
-        → length at.list < MAX_ROOM }
-    ensures added { AreAdded (O.spec object.now) calls.now returning ones.old.keys ones.new.keys }
-    ensures leads { OnOk result ((at : Configuration)
-        → slice_get (configurations_of ones.old.keys) k ≡ Some at
-        → MayBePlaced (O.spec object.now).next calls.now returning at call.now
-        → HasAlike (configurations_of ones.new.keys)
-        (with_call (O.spec object.now).next at call.now)) }
+    requires short { (one : Description)
+        → slice_get (descriptions_of ones.old.items) k ≡ Some one → length one.list < MAX_ROOM }
+    requires taken { (one : Description) → Has (descriptions_of ones.old.items) one
+        → IsTaken (O.spec object.now).next returning.now reply (descriptions_of ones.old.items)
+        (descriptions_of left.old.items) one }
+    ensures added { OnOk result (AreAdded (O.spec object.now) calls.now returning.now reply []
+        (descriptions_of ones.old.items) (descriptions_of left.old.items)
+        (descriptions_of ones.new.items) (descriptions_of left.new.items)) }
+    ensures leads { OnOk result ((one : Description)
+        → slice_get (descriptions_of ones.old.items) k ≡ Some one → (at : Configuration)
+        → Means one at → MayBePlaced (O.spec object.now).next calls.now at call.now
+        → IsHandled (O.spec object.now).next returning.now reply (descriptions_of ones.new.items)
+        (descriptions_of left.new.items) (with_call (O.spec object.now).next at call.now)) }
 {
     let one = &ones[k];
-    if call.call == returning || one.places(call.call) {
+    if one.places(call.call) {
         return Ok(());
     }
-    match one.after(alloc, object, call)? {
-        Some(next) => put(ones, next),
+    if stays(alloc, object, one, call)? {
+        return Ok(());
+    }
+    match expanded(alloc, object, calls, one, call)? {
+        Some(next) => take(object, alloc, returning, reply, next, ones, left),
         None => Ok(()),
     }
 }
 
-// Puts a configuration in, where none that is equal to it is in.
-fn put(ones: &mut IndexSet<Reached>, one: Reached) -> Result<(), NoMemory>
-    ensures grows { Grows ones.old.keys ones.new.keys }
-    ensures has { OnOk result (Has (configurations_of ones.new.keys) (configuration_of one)) }
-    ensures cases { (at : Configuration) → Has (configurations_of ones.new.keys) at
-        → Has (configurations_of ones.old.keys) at ⊎ (configuration_of one ≡ at) }
-    ensures listed { Ascend (configuration_of one).placed
-        → AreListed (configurations_of ones.old.keys) → AreListed (configurations_of ones.new.keys) }
+// Whether a call leaves the list of a description, is optional there with its reply, and doesn't
+// overwrite. It isn't placed then, since the description serves for what this would lead to.
+fn stays<O: Overwriting>(
+    alloc: Global,
+    object: &O,
+    one: &Reached,
+    call: &OpenCall,
+) -> Result<bool, NoMemory>
+    requires { length one.now.list.items < MAX_ROOM }
+    ensures { IfOk result (λ stays. IsTrue stays → (at : Configuration)
+        → Means (description_of one.now) at → (IsPlacedAt at call.now.call → ⊥)
+        → Means (description_of one.now) (with_call (O.spec object.now).next at call.now)) }
 {
-    ones.insert(one)?;
+    if object.overwrites(call.op) {
+        return Ok(false);
+    }
+    let (reply, stays) = one.step(alloc, object, call.op)?;
+    Ok(
+        stays
+            && one.may_have(Placed {
+                call: call.call,
+                reply,
+            }),
+    )
+}
+
+/// Takes a description before a call returns with a reply. What is left of it, where the call may be
+/// placed there with this reply, goes to those that are left. It goes itself to those at which calls
+/// are still placed, where the call may be placed later.
+pub fn take<O: GrowsByOne>(
+    object: &O,
+    alloc: Global,
+    returning: &OpenCall,
+    reply: u64,
+    one: Reached,
+    ones: &mut Vec<Reached>,
+    left: &mut Vec<Reached>,
+) -> Result<(), NoMemory>
+    ensures added { OnOk result ((calls : List OpenCall) → AreAdded (O.spec object.now) calls
+        returning.now reply (description_of one ∷ [])
+        (descriptions_of ones.old.items) (descriptions_of left.old.items)
+        (descriptions_of ones.new.items) (descriptions_of left.new.items)) }
+    ensures taken { OnOk result (IsTaken (O.spec object.now).next returning.now reply
+        (descriptions_of ones.new.items)
+        (descriptions_of left.new.items) (description_of one)) }
+{
+    let place = Placed {
+        call: returning.call,
+        reply,
+    };
+    if one.has(place) {
+        put(left, one.without(alloc, returning.call)?)?;
+        return Ok(());
+    }
+    if one.places(returning.call) {
+        return Ok(());
+    }
+    if !one.may_have(place) {
+        put(ones, one)?;
+        return Ok(());
+    }
+    put(left, one.without(alloc, returning.call)?)?;
+    if object.leaves(returning.op, reply) {
+        return Ok(());
+    }
+    put(ones, one)?;
     Ok(())
 }
 
-/// The configurations that are left of these where an open call returns with a reply.
-pub fn after_return<O: GrowsByOne>(
-    alloc: Global,
-    object: &O,
-    returning: &OpenCall,
-    reply: u64,
-    ones: &IndexSet<Reached>,
-) -> Result<IndexSet<Reached>, NoMemory>
-    requires { (at : Configuration) → Has (configurations_of ones.now.keys) at
-        → (IsPlacedAt at returning.now.call → ⊥) → length at.list < MAX_ROOM }
-    ensures left { IfOk result (λ left. AreLeft (O.spec object.now).next returning.now reply
-        (configurations_of ones.now.keys) (configurations_of left.keys)) }
-    ensures listed { IfOk result (λ left. AreListed (configurations_of ones.now.keys)
-        → AreListed (configurations_of left.keys)) }
+// Puts a description in, where none that is in serves for it.
+fn put(ones: &mut Vec<Reached>, one: Reached) -> Result<(), NoMemory>
+    ensures grows { OnOk result (Grows (descriptions_of ones.old.items)
+        (descriptions_of ones.new.items)) }
+    ensures means { OnOk result ((at : Configuration) → Means (description_of one) at
+        → AreMeant (descriptions_of ones.new.items) at) }
+    ensures cases { OnOk result ((other : Description) → Has (descriptions_of ones.new.items) other
+        → Has (descriptions_of ones.old.items) other ⊎ (description_of one ≡ other)) }
+    ensures apart { OnOk result (AreApart (descriptions_of ones.old.items)
+        → AreApart (descriptions_of ones.new.items)) }
 {
-    let mut left = IndexSet::new(alloc);
-    for k in 0..ones.len() {
-        if let Some(next) = ones[k].returned(alloc, object, returning, reply)? {
-            put(&mut left, next)?;
-        }
+    if serve(ones, &one) {
+        return Ok(());
     }
-    Ok(left)
+    ones.push(one)?;
+    Ok(())
 }
 
-/// A copy of some configurations.
-pub fn copy_of(alloc: Global, ones: &IndexSet<Reached>) -> Result<IndexSet<Reached>, NoMemory>
-    ensures { IfOk result (λ copy. AreCopied ones.now.keys copy.keys (length ones.now.keys)) }
+/// Those of some descriptions for which no later one serves.
+pub fn pruned(alloc: Global, ones: &[Reached]) -> Result<Vec<Reached>, NoMemory>
+    ensures means { IfOk result (λ pruned. (at : Configuration)
+        → AreMeant (descriptions_of ones.now) at → AreMeant (descriptions_of pruned.items) at) }
+    ensures from { IfOk result (λ pruned. (one : Description)
+        → Has (descriptions_of pruned.items) one → Has (descriptions_of ones.now) one) }
 {
-    let mut copy = IndexSet::new(alloc);
+    let mut pruned = Vec::new(alloc);
     for k in 0..ones.len() {
-        put(&mut copy, ones[k].copy(alloc)?)?;
+        put(&mut pruned, ones[ones.len() - 1 - k].copy(alloc)?)?;
     }
-    Ok(copy)
+    Ok(pruned)
+}
+
+// Whether one of some descriptions serves for another one.
+fn serve(ones: &[Reached], one: &Reached) -> bool
+    ensures some { IsTrue result → (other : Description) × Has (descriptions_of ones.now) other
+        × Serves other (description_of one.now) }
+    ensures none { result ≡ false → (other : Description) → Has (descriptions_of ones.now) other
+        → Serves other (description_of one.now) → ⊥ }
+{
+    for k in 0..ones.len() {
+        if ones[k].serves(one) {
+            return true;
+        }
+    }
+    false
 }

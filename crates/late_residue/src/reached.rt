@@ -1,66 +1,76 @@
-ghost use Rattle.std.specs.Prelude.{◌≡◌, ◌↔◌, ◌+◌, ◌<◌, ◌≤◌, [], ◌∷◌, length, IfOk, IfSome, IfNone, IsTrue, filter, insert, count_by, nat_lt, not, ◌==◌, ◌&&◌, ◌||◌};
+ghost use Rattle.std.specs.Prelude.{◌≡◌, ◌↔◌, ◌⊎◌, ◌+◌, ◌<◌, [], length, IfOk, OnOk, IfSome, IfNone, IsTrue, filter, not, ◌==◌, ◌&&◌, ◌||◌};
 ghost use Rattle.std.specs.List.{list_any, list_all};
 ghost use Rattle.book_base.specs.declared.TheConstants.{MAX_ROOM};
-ghost use Rattle.streams.specs.StreamOrder.{IsAmong};
-ghost use Rattle.residue_laws.specs.Residue.{Configuration};
-ghost use Rattle.residue_laws.specs.Step.{AreAlike, IsWithout};
-ghost use Rattle.late_residue.specs.Reached.{place_of, configuration_of};
+ghost use Rattle.streams.specs.StreamOrder.{StreamPlace, IsAmong};
+ghost use Rattle.late_residue.specs.Description.{Description};
+ghost use Rattle.late_residue.specs.Reached.{place_of, description_of};
+ghost use Rattle.late_residue.specs.Meaning.{Serves};
 ghost use Rattle.late_residue.specs.Known.{MayHaveReply};
-ghost use Rattle.late_residue.specs.Placing.{Ascend, IsPlacedAt, with_call, IsLeft};
+ghost use Rattle.late_residue.specs.Placing.{AreOf, IsWithoutCall, IsPlacedOn, IsAllowed, IsForgotten};
 
 use crate::open_call::OpenCall;
-use book_base::{GrowsByOne, MAX_ROOM, NoMemory, State};
+use book_base::{GrowsByOne, MAX_ROOM, NoMemory, OpWord, State};
 use std::alloc::Global;
 
 /// A call that is placed in an order, and the reply that it gets there.
-#[derive(Clone, Copy, PartialEq, Eq, Hash)]
+#[derive(Clone, Copy)]
 pub struct Placed {
     pub call: u64,
     pub reply: u64,
 }
 
-/// A configuration that a legal order reaches: the placed calls that haven't returned, by their
-/// numbers, and the object's list.
-#[derive(Drop, PartialEq, Eq, Hash)]
+/// Configurations that legal orders reach: each has the placed calls, and those of the optional ones
+/// that it happens to have, no call with two replies; and the object's list is the same.
+#[derive(Drop)]
 pub struct Reached {
     pub placed: Vec<Placed>,
+    pub optional: Vec<Placed>,
     pub list: Vec<u64>,
 }
 
 impl Reached {
     /// The configuration at which no call is placed, at the list of a state.
     pub fn first(alloc: Global, state: &State) -> Result<Reached, NoMemory>
-        ensures { IfOk result (λ first. configuration_of first
-            ≡ record { placed = []; list = state.now.words }) }
+        ensures { IfOk result (λ first. description_of first
+            ≡ record { placed = []; optional = []; list = state.now.words }) }
     {
         Ok(Reached {
             placed: Vec::new(alloc),
+            optional: Vec::new(alloc),
             list: copy_of(alloc, state.words())?,
         })
     }
 
-    /// A copy of the configuration.
+    /// A copy of the description.
     pub fn copy(&self, alloc: Global) -> Result<Reached, NoMemory>
-        ensures { IfOk result (λ copy. configuration_of copy ≡ configuration_of self.now) }
+        ensures { IfOk result (λ copy. description_of copy ≡ description_of self.now) }
     {
         Ok(Reached {
             placed: places_of(alloc, &self.placed)?,
+            optional: places_of(alloc, &self.optional)?,
             list: copy_of(alloc, &self.list)?,
         })
     }
 
     /// Whether a call is placed here.
     pub fn places(&self, call: u64) -> bool
-        ensures { IsTrue result ↔ IsPlacedAt (configuration_of self.now) call }
+        ensures { IsTrue result ↔ AreOf (description_of self.now).placed call }
     {
         names(&self.placed, call)
     }
 
     /// Whether a call is placed here with this reply.
     pub fn has(&self, place: Placed) -> bool
-        ensures { IsTrue result ↔ IsAmong (configuration_of self.now).placed (place_of place) }
+        ensures { IsTrue result ↔ IsAmong (description_of self.now).placed (place_of place) }
     {
         holds(&self.placed, place)
+    }
+
+    /// Whether a call is optional here with this reply.
+    pub fn may_have(&self, place: Placed) -> bool
+        ensures { IsTrue result ↔ IsAmong (description_of self.now).optional (place_of place) }
+    {
+        holds(&self.optional, place)
     }
 
     /// Whether a call is placed here with this reply or not at all.
@@ -73,127 +83,116 @@ impl Reached {
             .all(|place| place.call != call || place.reply == reply)
     }
 
+    /// Lets go of the optional places of a call with another reply than this one.
+    pub fn forget(&mut self, call: u64, reply: u64)
+        ensures { IsForgotten call reply (description_of self.old) (description_of self.new) }
+    {
+        self.optional
+            .retain(|place| place.call != call || place.reply == reply);
+    }
+
     /// Whether the list has fewer words than a state may have.
     pub fn is_short(&self) -> bool
-        ensures { IsTrue result ↔ (length (configuration_of self.now).list < MAX_ROOM) }
+        ensures { IsTrue result ↔ (length (description_of self.now).list < MAX_ROOM) }
     {
         (self.list.len() as u64) < MAX_ROOM
     }
 
-    /// The configuration after an open call is placed here, or `None` where the object gives the
-    /// call another reply than the known one.
+    /// Whether this serves for another one: it means all that the other one means.
+    pub fn serves(&self, other: &Reached) -> bool
+        ensures { IsTrue result ↔ Serves (description_of self.now) (description_of other.now) }
+    {
+        if !are_same(&self.list, &other.list) {
+            return false;
+        }
+        if !are_held(&self.placed, &other.placed) {
+            return false;
+        }
+        if !are_held(&other.optional, &self.optional) {
+            return false;
+        }
+        are_either(&other.placed, &self.placed, &self.optional)
+    }
+
+    /// The reply that the object gives to an operation here, and whether the list stays.
+    pub fn step<O: GrowsByOne>(
+        &self,
+        alloc: Global,
+        object: &O,
+        op: OpWord,
+    ) -> Result<(u64, bool), NoMemory>
+        requires { length self.now.list.items < MAX_ROOM }
+        ensures reply { IfOk result
+            (λ step. step.0 ≡ ((O.spec object.now).next self.now.list.items op).1) }
+        ensures stays { IfOk result (λ step. IsTrue step.1
+            → ((O.spec object.now).next self.now.list.items op).0 ≡ self.now.list.items) }
+    {
+        let mut state = self.state(alloc)?;
+        let reply = object.step(&mut state, op);
+        let stays = state.words() == &self.list[..];
+        Ok((reply, stays))
+    }
+
+    /// The description after an open call is placed here, or `None` where the object gives the call
+    /// another reply than the known one.
     pub fn after<O: GrowsByOne>(
         &self,
         alloc: Global,
         object: &O,
         call: &OpenCall,
     ) -> Result<Option<Reached>, NoMemory>
-        requires short { length self.now.list.items < MAX_ROOM }
-        ensures after { IfOk result (λ found. IfSome found (λ after. AreAlike
-            (with_call (O.spec object.now).next (configuration_of self.now) call.now)
-            (configuration_of after))) }
+        requires { length self.now.list.items < MAX_ROOM }
+        ensures after { IfOk result (λ found. IfSome found (λ after.
+            IsPlacedOn (O.spec object.now).next (description_of self.now) call.now
+            (description_of after))) }
         ensures reply { IfOk result (λ found. IfSome found (λ after.
             MayHaveReply call.now ((O.spec object.now).next self.now.list.items call.now.op).1)) }
         ensures none { IfOk result (λ found. IfNone found
             (MayHaveReply call.now ((O.spec object.now).next self.now.list.items call.now.op).1
             → ⊥)) }
-        ensures ascend { IfOk result (λ found. IfSome found (λ after.
-            Ascend (configuration_of self.now).placed
-            → (IsPlacedAt (configuration_of self.now) call.now.call → ⊥)
-            → Ascend (configuration_of after).placed)) }
     {
         let mut state = self.state(alloc)?;
         let reply = object.step(&mut state, call.op);
         if !call.may_have(reply) {
             return Ok(None);
         }
-        let place = Placed {
+        let mut placed = places_of(alloc, &self.placed)?;
+        placed.push(Placed {
             call: call.call,
             reply,
-        };
+        })?;
         Ok(Some(Reached {
-            placed: with_place(alloc, &self.placed, place)?,
+            placed,
+            optional: others(alloc, &self.optional, call.call)?,
             list: copy_of(alloc, state.words())?,
         }))
     }
 
-    /// The configuration that is left where an open call returns with a reply, or `None` where the
-    /// call has another reply here.
-    pub fn returned<O: GrowsByOne>(
-        &self,
-        alloc: Global,
-        object: &O,
-        call: &OpenCall,
-        reply: u64,
-    ) -> Result<Option<Reached>, NoMemory>
-        requires { (IsPlacedAt (configuration_of self.now) call.now.call → ⊥)
-            → length self.now.list.items < MAX_ROOM }
-        ensures left { IfOk result (λ left. IfSome left (λ after.
-            IsLeft (O.spec object.now).next call.now reply (configuration_of self.now)
-            (configuration_of after))) }
-        ensures none { IfOk result (λ left. IfNone left ((after : Configuration)
-            → IsLeft (O.spec object.now).next call.now reply (configuration_of self.now) after
-            → ⊥)) }
-        ensures ascend { IfOk result (λ left. IfSome left (λ after.
-            Ascend (configuration_of self.now).placed → Ascend (configuration_of after).placed)) }
-    {
-        let place = Placed {
-            call: call.call,
-            reply,
-        };
-        if self.has(place) {
-            return Ok(Some(self.without(alloc, call.call)?));
-        }
-        if self.places(call.call) {
-            return Ok(None);
-        }
-        self.answered(alloc, object, call, reply)
-    }
-
-    // The configuration at which a call isn't placed any more.
-    fn without(&self, alloc: Global, call: u64) -> Result<Reached, NoMemory>
-        ensures without { IfOk result
-            (λ without. IsWithout call (configuration_of self.now) (configuration_of without)) }
-        ensures ascend { IfOk result (λ without.
-            Ascend (configuration_of self.now).placed
-            → Ascend (configuration_of without).placed) }
+    /// The description without a call.
+    pub fn without(&self, alloc: Global, call: u64) -> Result<Reached, NoMemory>
+        ensures { IfOk result
+            (λ without. IsWithoutCall call (description_of self.now) (description_of without)) }
     {
         Ok(Reached {
             placed: others(alloc, &self.placed, call)?,
+            optional: others(alloc, &self.optional, call)?,
             list: copy_of(alloc, &self.list)?,
         })
     }
 
-    // The configuration after an open call is placed here and returns with a reply at once, or
-    // `None` where it has another reply here.
-    fn answered<O: GrowsByOne>(
-        &self,
-        alloc: Global,
-        object: &O,
-        call: &OpenCall,
-        reply: u64,
-    ) -> Result<Option<Reached>, NoMemory>
-        requires { length self.now.list.items < MAX_ROOM }
-        ensures some { IfOk result (λ left. IfSome left (λ after.
-            ((O.spec object.now).next self.now.list.items call.now.op).1 ≡ reply
-            × (configuration_of after ≡ record {
-              placed = (configuration_of self.now).placed;
-              list = ((O.spec object.now).next self.now.list.items call.now.op).0;
-            }))) }
-        ensures none { IfOk result (λ left. IfNone left
-            (((O.spec object.now).next self.now.list.items call.now.op).1 ≡ reply → ⊥)) }
+    /// Makes a place optional.
+    pub fn allow(&mut self, place: Placed) -> Result<(), NoMemory>
+        ensures { OnOk result (IsAllowed (place_of place) (description_of self.old)
+            (description_of self.new)) }
     {
-        let mut state = self.state(alloc)?;
-        if object.step(&mut state, call.op) != reply {
-            return Ok(None);
+        if self.may_have(place) {
+            return Ok(());
         }
-        Ok(Some(Reached {
-            placed: places_of(alloc, &self.placed)?,
-            list: copy_of(alloc, state.words())?,
-        }))
+        self.optional.push(place)?;
+        Ok(())
     }
 
-    // A state with the configuration's list, and with room for one word more.
+    // A state with the description's list, and with room for one word more.
     fn state(&self, alloc: Global) -> Result<State, NoMemory>
         requires { length self.now.list.items < MAX_ROOM }
         ensures { IfOk result (λ state. state ≡ record {
@@ -216,12 +215,39 @@ fn names(placed: &[Placed], call: u64) -> bool
     placed.iter().any(|place| place.call == call)
 }
 
+// Whether some words are others.
+fn are_same(words: &[u64], others: &[u64]) -> bool
+    ensures { IsTrue result ↔ (words.now ≡ others.now) }
+{
+    words == others
+}
+
 // Whether a place is one of some places.
 fn holds(placed: &[Placed], place: Placed) -> bool
     ensures { result ≡ list_any
         (λ other. other.call == place.call && other.reply == place.reply) placed.now }
 {
     placed.iter().any(|other| other.call == place.call && other.reply == place.reply)
+}
+
+// Whether all of some places are among others.
+fn are_held(places: &[Placed], others: &[Placed]) -> bool
+    ensures { result ≡ list_all (λ place. list_any
+        (λ other. other.call == place.call && other.reply == place.reply) others.now) places.now }
+{
+    places.iter().all(|place| holds(others, *place))
+}
+
+// Whether all of some places are among two others.
+fn are_either(places: &[Placed], ones: &[Placed], others: &[Placed]) -> bool
+    ensures { result ≡ list_all (λ place. list_any
+        (λ other. other.call == place.call && other.reply == place.reply) ones.now
+        || list_any
+        (λ other. other.call == place.call && other.reply == place.reply) others.now) places.now }
+{
+    places
+        .iter()
+        .all(|place| holds(ones, *place) || holds(others, *place))
 }
 
 // A copy of some words.
@@ -254,18 +280,4 @@ fn others(alloc: Global, placed: &[Placed], call: u64) -> Result<Vec<Placed>, No
         }
     }
     Ok(others)
-}
-
-// Some places with one more, which comes after all of calls with lesser numbers.
-fn with_place(alloc: Global, placed: &[Placed], place: Placed) -> Result<Vec<Placed>, NoMemory>
-    ensures { IfOk result (λ with. with.items
-        ≡ insert placed.now (count_by (λ other. nat_lt other.call place.call) placed.now) place) }
-{
-    let position = placed
-        .iter()
-        .filter(|other| other.call < place.call)
-        .count();
-    let mut with = places_of(alloc, placed)?;
-    with.insert(position, place)?;
-    Ok(with)
 }

@@ -1,6 +1,11 @@
 pub mod Places
 pub mod Extending
 pub mod Tables
-pub mod Verdicts
-pub mod Taken
+pub mod Late
 pub mod Expecting
+pub mod Partly
+pub mod Lookups
+pub mod Keyed
+pub mod Held
+pub mod Taken
+pub mod Judged

@@ -1,4 +1,4 @@
--- The places of lists of which an item is taken out or replaced.
+-- The places of lists of which an item is taken out.
 use Rattle.std.proofs.Common.{◌≡◌, ◌≢◌, ◌⊎◌, ℕ, zero, suc, ◌+◌, ◌-◌, ◌<◌, ◌≤◌, List, [], ◌∷◌, length, get_or, Some, slice_get, slice_set, refl, sym, ap, ◌∙◌, inl, inr, arith}
 use Rattle.std.specs.List.{remove}
 use Rattle.std.proofs.lemmas.Bool.{cases_lt}
@@ -47,30 +47,3 @@ remove-to {X} xs i j x inside at apart =
                 ∙ (ap (λ (k : ℕ). get_or xs k x) next ∙ item)),
           )
     ]
-
-pub set-from : {X : Type 0} (xs : List X) (i : ℕ) (v : X) (k : ℕ) (x : X)
-    → slice_get (slice_set xs i v) k ≡ Some x
-    → ((k ≡ i) × (v ≡ x)) ⊎ ((k ≢ i) × (slice_get xs k ≡ Some x))
-set-from [] i v k x at = absurd (none-some x at)
-set-from (y ∷ ys) zero v zero x at = inl (refl, same_Some v x at)
-set-from (y ∷ ys) zero v (suc k) x at = inr ((λ (e : suc k ≡ zero). omega arith), at)
-set-from (y ∷ ys) (suc i) v zero x at = inr ((λ (e : zero ≡ suc i). omega arith), at)
-set-from (y ∷ ys) (suc i) v (suc k) x at = elim (set-from ys i v k x at) [
-  | inl (same, is) ↦ inl (ap suc same, is)
-  | inr (apart, old) ↦ inr ((λ (e : suc k ≡ suc i). apart (omega arith)), old)
-]
-
-pub set-to : {X : Type 0} (xs : List X) (i : ℕ) (v : X) (k : ℕ) (x : X)
-    → slice_get xs k ≡ Some x → k ≢ i → slice_get (slice_set xs i v) k ≡ Some x
-set-to [] i v k x at apart = absurd (none-some x at)
-set-to (y ∷ ys) zero v zero x at apart = absurd (apart refl)
-set-to (y ∷ ys) zero v (suc k) x at apart = at
-set-to (y ∷ ys) (suc i) v zero x at apart = at
-set-to (y ∷ ys) (suc i) v (suc k) x at apart =
-    set-to ys i v k x at (λ (e : k ≡ i). apart (ap suc e))
-
-pub set-at : {X : Type 0} (xs : List X) (i : ℕ) (v x : X) → slice_get xs i ≡ Some x
-    → slice_get (slice_set xs i v) i ≡ Some v
-set-at [] i v x at = absurd (none-some x at)
-set-at (y ∷ ys) zero v x at = refl
-set-at (y ∷ ys) (suc i) v x at = set-at ys i v x at

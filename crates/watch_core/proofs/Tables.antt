@@ -9,10 +9,10 @@ use Rattle.streams.proofs.Returning.{get-longer, returns-longer}
 use Rattle.streams.proofs.Pushing.{no_return-called, no_return-lost, returns_now, no_other_returns, called_cases, old_call}
 use Rattle.late_residue.specs.declared.open_call.OpenCall.{OpenCall}
 use Rattle.late_residue.specs.Reached.{Has}
-use Rattle.late_residue.proofs.Items.{has-left, has-right, has-cases, has-cons, has-none}
+use Rattle.late_residue.proofs.Items.{has-left, has-right, has-cases, has-cons, has-none, set-from, set-to, set-at}
 use Rattle.late_residue.proofs.Taking.{one_waits}
-use Rattle.watch_core.specs.Table.{Waits, IsTable}
-use Rattle.watch_core.proofs.Places.{remove-from, remove-to, set-from, set-to, set-at}
+use Rattle.watch_core.specs.Table.{Waits, IsTable, Derives}
+use Rattle.watch_core.proofs.Places.{remove-from, remove-to}
 use Rattle.watch_core.proofs.Extending.{waiting-longer, waiting-shorter, waiting_now, waits_not}
 
 -- calls each of which stands once have one reply at most
@@ -25,11 +25,6 @@ same_replies calls once one other (j, first) (k, second) e =
     let places : j ≡ k = once j k one other first second e in
     ap (λ (c : OpenCall). c.reply) (same_Some one other
     (sym (subst (λ (i : ℕ). slice_get calls i ≡ Some one) places first) ∙ second))
-
--- what is known of calls is known of others
-abbrev pub Derives : List OpenCall → List OpenCall → Type 0
-Derives calls more = (one : OpenCall) → Has more one → (reply : ℕ) → one.reply ≡ Some reply
-    → (old : OpenCall) × Has calls old × (old.call ≡ one.call) × (old.reply ≡ Some reply)
 
 -- the empty stream has the empty table
 pub table_none : IsTable [] []
@@ -74,7 +69,8 @@ module _ (stream : List StreamEvent) (calls : List OpenCall) (table : IsTable st
           subst (λ (c : ℕ). IsCalledAt stream c found.0.process op) (sym found.2)
               (subst (λ (p : ℕ). IsCalledAt stream call p op) (sym same) called),
           subst (λ (c : ℕ). (k : ℕ) (event : StreamEvent) → c < k → k < length stream
-              → slice_get stream k ≡ Some event → process_of event ≡ found.0.process → ⊥) (sym found.2)
+              → slice_get stream k ≡ Some event → process_of event ≡ found.0.process → ⊥)
+              (sym found.2)
               (λ k event past below at is. quiet k event past below at (is ∙ same)),
         ),
       )
@@ -359,7 +355,8 @@ module _ (stream : List StreamEvent) (calls : List OpenCall) (table : IsTable st
               get-longer stream (Returned one.process reply ∷ []) other.call _
               (table.are_open.called other (old.0, old.1));
           pending = λ other (k, is) (end, last, h). let old = return_cases k other is in
-              elim (no_other_returns stream one.process one.call reply waits other.call end last h) [
+              elim (no_other_returns stream one.process one.call reply waits other.call
+              end last h) [
                 | inl before ↦ table.are_open.pending other (old.0, old.1) (end, last, before)
                 | inr (same, equal, place) ↦
                     old.2 (table.once old.0 at other one old.1 here same)

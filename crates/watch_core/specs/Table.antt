@@ -19,3 +19,8 @@ pub record IsTable (stream : List StreamEvent) (calls : List OpenCall) : Type 0 
       → IsWaiting stream one.process one.call
   pub lost : (one : OpenCall) → Has calls one → one.is_lost ≡ true
       → IsWaiting stream one.process one.call → ⊥
+
+-- What is known of calls is known of others with the same numbers.
+abbrev pub Derives : List OpenCall → List OpenCall → Type 0
+Derives calls more = (one : OpenCall) → Has more one → (reply : ℕ) → one.reply ≡ Some reply
+    → (old : OpenCall) × Has calls old × (old.call ≡ one.call) × (old.reply ≡ Some reply)

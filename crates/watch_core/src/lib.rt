@@ -3,6 +3,12 @@
 #![tactic(auto)]
 
 mod event;
+mod key;
+mod part;
+mod parts;
+mod pending;
+#[cfg(test)]
+mod tests;
 mod verdict;
 mod watch;
 

@@ -1,27 +1,34 @@
-ghost use Rattle.std.specs.Prelude.{◌≡◌, ◌↔◌, IsTrue, ℕ, ◌+◌, ◌<◌, ◌≤◌, ◌^◌, [], ◌∷◌, ◌++◌, false, List, length, slice_get, IfOk, IfErr, IfSome, IfNone, OnOk, OnErr, max};
-ghost use Rattle.seq_objects.specs.Objects.{kind_spec};
+ghost use Rattle.std.specs.Prelude.{◌≡◌, ◌↔◌, IsTrue, ℕ, ◌+◌, ◌-◌, ◌<◌, ◌≤◌, ◌^◌, [], ◌∷◌, ◌++◌, false, List, length, drop, Some, None, IfOk, IfErr, OnOk, OnErr, max, min};
 ghost use Rattle.streams.specs.Stream.{StreamEvent, Called, Returned, Lost, IsValidStream, IsWaiting, Returns};
-ghost use Rattle.late_residue.specs.declared.open_call.OpenCall.{OpenCall};
 ghost use Rattle.watch_core.specs.Event.{event_of};
-ghost use Rattle.late_residue.specs.Reached.{Has};
-ghost use Rattle.watch_core.specs.Table.{Waits, IsTable};
+ghost use Rattle.watch_core.specs.Table.{Waits};
+ghost use Rattle.seq_objects.specs.Objects.{kind_spec};
+ghost use Rattle.stream_locality.specs.KindKeys.{key_of_kind};
+ghost use Rattle.watch_core.specs.Parts.{IsNextOfKey, TakeEvent, configurations_of};
 ghost use Rattle.watch_core.specs.Verdict.{IsVerdict, IsRefusal};
 ghost use Rattle.watch_core.specs.declared.TheConstants.{MAX_OPEN};
-ghost use Rattle.watch_core.specs.Watch.{IsHeld, IsSeen, HasTaken};
+ghost use Rattle.watch_core.specs.Watch.{IsHeld, HasTaken};
 
 use crate::MAX_OPEN;
 use crate::event::Event;
+use crate::key::key_of;
+use crate::part::Part;
+use crate::parts::{call_in, copy_of, count_of, expect_in, lose_in, return_in};
+use crate::pending::pending;
 use crate::verdict::{Refused, Verdict};
 use book_base::{NoMemory, OpWord};
-use late_residue::{LateResidue, OpenCall};
+use indexmap::IndexMap;
+use late_residue::OpenCall;
 use seq_objects::Kind;
 use std::alloc::Global;
 use std::marker::Model;
 
-/// A watch of one object of a kind.
+/// A watch of one object of a kind. Of a set and of a map it watches each key alone, since these
+/// have a legal order of a stream exactly where they have one of each key's part (Herlihy and Wing
+/// 1990).
 ///
-/// Its memory depends on the calls that are open and on what the object can hold now, and not on how
-/// many events it has taken.
+/// Its memory depends on the calls that are open, on what the object can hold now, and on how many
+/// different keys its calls have had, and not on how many events it has taken.
 #[derive(Drop)]
 pub struct Watch {
     alloc: Global,
@@ -30,7 +37,7 @@ pub struct Watch {
     taken: u64,
     seen: u64,
     calls: Vec<OpenCall>,
-    residue: LateResidue,
+    parts: IndexMap<u64, Part>,
     last: Option<Verdict>,
 }
 
@@ -45,14 +52,14 @@ impl Model for Watch {
       taken = w.taken;
       seen = w.seen;
       calls = w.calls.items;
-      residue = w.residue;
+      parts = w.parts.entries;
       last = w.last;
     } };
 }
 
 impl Watch {
-    /// A watch of an object that has had no call. It holds at most `limit` configurations, each of
-    /// which is one of the ways in which the events so far may have taken effect.
+    /// A watch of an object that has had no call. At a return it places open calls of the key at no
+    /// more than `limit` descriptions of the ways in which the key's events may have taken effect.
     pub fn new(alloc: Global, kind: Kind, limit: usize) -> Result<Watch, NoMemory>
         // The watch has taken no event.
         ensures fresh { IfOk result (λ watch. (later : List StreamEvent)
@@ -69,7 +76,7 @@ impl Watch {
             taken: 0,
             seen: 0,
             calls: Vec::new(alloc),
-            residue: LateResidue::new(alloc, &kind)?,
+            parts: IndexMap::new(alloc),
             last: None,
         })
     }
@@ -92,7 +99,7 @@ impl Watch {
             taken: self.taken,
             seen: self.seen,
             calls,
-            residue: self.residue.copy(self.alloc)?,
+            parts: copy_of(self.alloc, &self.parts)?,
             last: self.last,
         })
     }
@@ -110,7 +117,7 @@ impl Watch {
         // legal order, or names the events one of which is the first with which there is none, or
         // the event before which the limit was met.
         ensures { (stream later : List StreamEvent) → HasTaken self.now stream later
-            → IsVerdict (kind_spec self.now.kind) self.now.limit stream later result }
+            → IsVerdict self.now.kind self.now.limit stream later result }
     {
         match self.last {
             Some(verdict) => verdict,
@@ -118,11 +125,12 @@ impl Watch {
         }
     }
 
-    /// How many configurations the watch holds.
+    /// How many descriptions of configurations the watch holds, of all keys together, or
+    /// `usize::MAX` where it holds more.
     pub fn configurations(&self) -> usize
-        ensures { result ≡ length self.now.residue }
+        ensures { result ≡ min (configurations_of self.now.parts) (2 ^ 64 - 1) }
     {
-        self.residue.len()
+        count_of(&self.parts)
     }
 
     /// How many calls are open, lost ones too.
@@ -162,11 +170,11 @@ impl Watch {
         }
     }
 
-    /// Tells with which reply the pending call of a process will return, at the latest by the event of
-    /// a number, counted from 1. The answer is whether the process has a pending call.
+    /// Tells with which reply the pending call of a process will return, at the latest by the event
+    /// of a number, counted from 1. The answer is whether the process has a pending call.
     pub fn expect(&mut self, process: u64, reply: u64, by: u64) -> bool
-        // Where the call does so in the later events, the watch has taken what it had taken, and knows
-        // of the reply.
+        // Where the call does so in the later events, the watch has taken what it had taken, and
+        // knows of the reply.
         ensures expected { (stream later near far : List StreamEvent)
             → HasTaken self.old stream later → later ≡ near ++ far → by ≡ length (stream ++ near)
             → ((call : ℕ) → IsWaiting stream process call
@@ -183,9 +191,12 @@ impl Watch {
         let Some(at) = pending(&self.calls, process) else {
             return false;
         };
-        let call = self.calls[at].call;
-        self.calls[at].reply = Some(reply);
-        self.residue.reveal(call, reply);
+        expect_in(
+            &mut self.parts,
+            key_of(self.kind, self.calls[at].op),
+            process,
+            reply,
+        );
         self.seen = greater(self.seen, by);
         true
     }
@@ -219,6 +230,17 @@ impl Watch {
         if self.calls.push(call).is_err() {
             return Err(Refused::NoMemory);
         }
+        if let Err(NoMemory) = note_call(
+            self.alloc,
+            self.kind,
+            self.last,
+            &mut self.parts,
+            process,
+            op,
+        ) {
+            self.calls.pop();
+            return Err(Refused::NoMemory);
+        }
         self.taken += 1;
         self.seen = greater(self.seen, self.taken);
         Ok(())
@@ -240,6 +262,11 @@ impl Watch {
         let Some(at) = pending(&self.calls, process) else {
             return Err(Refused::Idle);
         };
+        lose_in(
+            &mut self.parts,
+            key_of(self.kind, self.calls[at].op),
+            process,
+        );
         self.calls[at].is_lost = true;
         self.taken += 1;
         self.seen = greater(self.seen, self.taken);
@@ -262,41 +289,24 @@ impl Watch {
         let Some(at) = pending(&self.calls, process) else {
             return Err(Refused::Idle);
         };
-        let last = match self.last {
-            Some(verdict) => Some(verdict),
-            None => judge(
-                self.alloc,
-                self.kind,
-                self.limit,
-                self.taken,
-                self.seen,
-                &self.calls,
-                at,
-                reply,
-                &mut self.residue,
-            )?,
-        };
+        let last = judge(
+            self.alloc,
+            self.kind,
+            self.limit,
+            self.taken,
+            self.seen,
+            self.last,
+            &mut self.parts,
+            key_of(self.kind, self.calls[at].op),
+            process,
+            reply,
+        )?;
         self.last = last;
         self.calls.remove(at);
         self.taken += 1;
         self.seen = greater(self.seen, self.taken);
         Ok(())
     }
-}
-
-// The index of the pending call of a process among the open calls.
-fn pending(calls: &[OpenCall], process: u64) -> Option<usize>
-    ensures some { IfSome result (λ at. (one : OpenCall) × (slice_get calls.now at ≡ Some one)
-        × (one.process ≡ process) × (one.is_lost ≡ false)) }
-    ensures none { IfNone result ((one : OpenCall) → Has calls.now one → one.process ≡ process
-        → one.is_lost ≡ false → ⊥) }
-{
-    for at in 0..calls.len() {
-        if calls[at].process == process && !calls[at].is_lost {
-            return Some(at);
-        }
-    }
-    None
 }
 
 // The greater one of two numbers.
@@ -306,36 +316,56 @@ fn greater(one: u64, other: u64) -> u64
     if one < other { other } else { one }
 }
 
-// Takes the return of the open call at an index, after `taken` events, where replies are known from
-// the events up to `seen`, and answers the verdict where it is final now.
+// A process calls an operation, where the verdict isn't final.
+fn note_call(
+    alloc: Global,
+    kind: Kind,
+    last: Option<Verdict>,
+    parts: &mut IndexMap<u64, Part>,
+    process: u64,
+    op: OpWord,
+) -> Result<(), NoMemory>
+    ensures taken { OnOk result (last ≡ None → TakeEvent (kind_spec kind) (key_of_kind kind op)
+        (Called process op) parts.old.entries parts.new.entries) }
+    ensures same { OnErr result (parts.new.entries ≡ parts.old.entries) }
+{
+    if last.is_some() {
+        return Ok(());
+    }
+    call_in(alloc, kind, parts, key_of(kind, op), process, op)
+}
+
+// Takes the return of the pending call of a process, which has a key, after `taken` events, where
+// replies are known from the events up to `seen`, and answers the verdict where it is final then.
 fn judge(
     alloc: Global,
     kind: Kind,
     limit: usize,
     taken: u64,
     seen: u64,
-    calls: &[OpenCall],
-    at: usize,
+    last: Option<Verdict>,
+    parts: &mut IndexMap<u64, Part>,
+    key: u64,
+    process: u64,
     reply: u64,
-    residue: &mut LateResidue,
 ) -> Result<Option<Verdict>, NoMemory>
-    requires within { at < length calls.now }
-    requires count { taken + 1 < 2 ^ 64 }
-    ensures held { IfOk result (λ last. (stream later : List StreamEvent) (one : OpenCall)
-        → slice_get calls.now at ≡ Some one → one.is_lost ≡ false → IsTable stream calls.now
-        → IsValidStream (stream ++ Returned one.process reply ∷ []) → taken ≡ length stream
-        → IsSeen stream (Returned one.process reply ∷ later) calls.now seen
-        → IsHeld (kind_spec kind) limit stream (Returned one.process reply ∷ later) calls.now
-        residue.old None
-        → IsHeld (kind_spec kind) limit (stream ++ Returned one.process reply ∷ []) later calls.now
-        residue.new last) }
-    ensures err { OnErr result (residue.new ≡ residue.old) }
+    requires { taken + 1 < 2 ^ 64 }
+    ensures held { IfOk result (λ next. (stream later near far : List StreamEvent)
+        → IsNextOfKey kind key stream (Returned process reply)
+        → IsValidStream (stream ++ Returned process reply ∷ []) → taken ≡ length stream
+        → Returned process reply ∷ later ≡ near ++ far → seen ≡ length (stream ++ near)
+        → IsHeld kind limit stream (Returned process reply ∷ later) near parts.old.entries last
+        → IsHeld kind limit (stream ++ Returned process reply ∷ []) later (drop 1 near)
+        parts.new.entries next) }
+    ensures same { OnErr result (parts.new.entries ≡ parts.old.entries) }
 {
-    let returning = calls[at];
-    if !residue.take_return(alloc, &kind, calls, &returning, reply, limit)? {
-        return Ok(Some(Verdict::Unsure(taken + 1)));
+    if last.is_some() {
+        return Ok(last);
     }
-    if residue.is_empty() {
+    let Some(is_empty) = return_in(alloc, kind, limit, parts, key, process, reply)? else {
+        return Ok(Some(Verdict::Unsure(taken + 1)));
+    };
+    if is_empty {
         return Ok(Some(Verdict::Illegal(taken + 1, greater(seen, taken + 1))));
     }
     Ok(None)

@@ -32,7 +32,8 @@ cons_of (x ∷ rest) some = (x, rest, refl)
 
 module _ (spec : SeqSpec) (limit : ℕ) (before events stream : List StreamEvent)
     (whole : stream ≡ before ++ events) (legal illegal : ℕ) (order : legal < illegal)
-    (within : illegal ≤ length events) (narrowed : IsNarrowed spec before events legal illegal) where
+    (within : illegal ≤ length events)
+    (narrowed : IsNarrowed spec before events legal illegal) where
   middle : List StreamEvent
   middle = drop legal (take illegal events)
 
@@ -88,7 +89,8 @@ pub record FindsIn (ahead : Lookahead) (legal illegal : ℕ) : Type 0 where
       → (HasLegalStreamOrder (kind_spec ahead.watch.kind) stream → ⊥) → legal < illegal
   pub narrowed : (stream : List StreamEvent) → (runs : IsRunning ahead stream)
       → (HasLegalStreamOrder (kind_spec ahead.watch.kind) stream → ⊥)
-      → IsNarrowed (kind_spec ahead.watch.kind) runs.before (events_of ahead.log.items) legal illegal
+      → IsNarrowed (kind_spec ahead.watch.kind) runs.before
+      (events_of ahead.log.items) legal illegal
 
 pub long_log : (items : List Event) → length (events_of items) ≡ length items
 long_log items = length-map items event_of
@@ -148,23 +150,23 @@ module _ (ahead : Lookahead) (slice : List Event) (middle : ℕ)
 
   pub replayed : (verdict : Verdict)
       → ((s : List StreamEvent) → HasTaken ahead.base s (events_of slice)
-      → IsVerdict (kind_spec ahead.base.kind) ahead.base.limit (s ++ events_of slice) [] verdict)
+      → IsVerdict ahead.base.kind ahead.base.limit (s ++ events_of slice) [] verdict)
       → (stream : List StreamEvent) → (runs : IsRunning ahead stream)
-      → IsVerdict (kind_spec ahead.watch.kind) ahead.watch.limit
+      → IsVerdict ahead.watch.kind ahead.watch.limit
       (runs.before ++ take middle (events_of ahead.log.items)) [] verdict
   replayed verdict said stream runs =
-      subst (λ (l : List StreamEvent). IsVerdict (kind_spec ahead.watch.kind) ahead.watch.limit
+      subst (λ (l : List StreamEvent). IsVerdict ahead.watch.kind ahead.watch.limit
       (runs.before ++ l) [] verdict) (sym taken_slice)
-      (subst (λ (n : ℕ). IsVerdict (kind_spec ahead.watch.kind) n
+      (subst (λ (n : ℕ). IsVerdict ahead.watch.kind n
       (runs.before ++ events_of slice) [] verdict) runs.base_limit
-      (subst (λ (k : Kind). IsVerdict (kind_spec k) ahead.base.limit
+      (subst (λ (k : Kind). IsVerdict k ahead.base.limit
       (runs.before ++ events_of slice) [] verdict) runs.base_kind
       (said runs.before (base_slice stream runs))))
 
 -- the verdict of a replay is that of the first events of a log
 abbrev pub Replays : Lookahead → ℕ → Verdict → Type 0
 Replays ahead middle verdict = (stream : List StreamEvent) → (runs : IsRunning ahead stream)
-    → IsVerdict (kind_spec ahead.watch.kind) ahead.watch.limit
+    → IsVerdict ahead.watch.kind ahead.watch.limit
     (runs.before ++ take middle (events_of ahead.log.items)) [] verdict
 
 pub finds_legal : (ahead : Lookahead) (legal illegal middle number : ℕ)
@@ -201,13 +203,13 @@ finds_illegal ahead legal illegal middle first last finds more less said = recor
 }
 
 -- with some beginning of a stream the limit is met
-abbrev pub MeetsLimit : SeqSpec → ℕ → List StreamEvent → Type 0
-MeetsLimit spec limit stream = (front : List StreamEvent) × (rest : List StreamEvent)
-    × (number : ℕ) × (stream ≡ front ++ rest) × IsUnsureAt spec limit front number
+abbrev pub MeetsLimit : Kind → ℕ → List StreamEvent → Type 0
+MeetsLimit kind limit stream = (front : List StreamEvent) × (rest : List StreamEvent)
+    × (number : ℕ) × (stream ≡ front ++ rest) × IsUnsureAt kind limit front number
 
 pub finds_unsure : (ahead : Lookahead) (middle number : ℕ) → Replays ahead middle (Unsure number)
     → (stream : List StreamEvent) → IsRunning ahead stream
-    → MeetsLimit (kind_spec ahead.watch.kind) ahead.watch.limit stream
+    → MeetsLimit ahead.watch.kind ahead.watch.limit stream
 finds_unsure ahead middle number said stream runs =
     let events = events_of ahead.log.items in
     let front = runs.before ++ take middle events in (
@@ -215,7 +217,7 @@ finds_unsure ahead middle number said stream runs =
       drop middle events,
       number,
       runs.whole ∙ sym (parted runs.before middle events),
-      subst (λ (s : List StreamEvent). IsUnsureAt (kind_spec ahead.watch.kind) ahead.watch.limit s
+      subst (λ (s : List StreamEvent). IsUnsureAt ahead.watch.kind ahead.watch.limit s
           number) (append-nil front) (said stream runs),
     )
 
@@ -225,8 +227,8 @@ pub found_final : (ahead : Lookahead) (legal illegal received : ℕ) (verdict : 
     → verdict ≡ Illegal (before + (legal + 1)) (before + illegal))
     → (stream : List StreamEvent) → IsRunning ahead stream
     → (HasLegalStreamOrder (kind_spec ahead.watch.kind) stream → ⊥) → received ≡ length stream
-    → (illegal ≤ legal + 1) ⊎ MeetsLimit (kind_spec ahead.watch.kind) ahead.watch.limit stream
-    → IsFinal (kind_spec ahead.watch.kind) ahead.watch.limit stream verdict
+    → (illegal ≤ legal + 1) ⊎ MeetsLimit ahead.watch.kind ahead.watch.limit stream
+    → IsFinal ahead.watch.kind ahead.watch.limit stream verdict
 found_final ahead legal illegal received verdict finds is stream runs none count exact =
     let spec = kind_spec ahead.watch.kind in
     let limit = ahead.watch.limit in
@@ -238,7 +240,7 @@ found_final ahead legal illegal received verdict finds is stream runs none count
     let long : received ≡ n + length ahead.log.items =
     count ∙ (ap (λ (l : List StreamEvent). length l) runs.whole
     ∙ (length-append runs.before events ∙ ap (λ (m : ℕ). n + m) (long_log ahead.log.items))) in
-    subst (λ (v : Verdict). IsFinal spec limit stream v) (sym (is n long apart)) (
+    subst (λ (v : Verdict). IsFinal ahead.watch.kind limit stream v) (sym (is n long apart)) (
       illegal_between spec limit runs.before events stream runs.whole legal illegal apart within
           (finds.narrowed stream runs none),
       elim exact [
@@ -249,7 +251,8 @@ found_final ahead legal illegal received verdict finds is stream runs none count
     )
 
 -- the first items of two lists, beyond the first list
-take_after : {X : Type 0} (xs ys : List X) (m : ℕ) → take (length xs + m) (xs ++ ys) ≡ xs ++ take m ys
+take_after : {X : Type 0} (xs ys : List X) (m : ℕ)
+    → take (length xs + m) (xs ++ ys) ≡ xs ++ take m ys
 take_after [] ys m = let e : 0 + m ≡ m = omega arith in ap (λ (n : ℕ). take n ys) e
 take_after (x ∷ xs) ys m =
     let e : suc (length xs) + m ≡ suc (length xs + m) = omega arith in

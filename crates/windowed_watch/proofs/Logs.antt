@@ -59,7 +59,8 @@ stepped before items coming t d event old new less here rest step has =
     (subst (λ (l : List StreamEvent).
     HasTaken new ((before ++ take t (events_of items)) ++ event_of event ∷ []) l) (sym last)
     (step (before ++ take t (events_of items))
-    (subst (λ (l : List StreamEvent). HasTaken old (before ++ take t (events_of items)) l) next has)))
+    (subst
+    (λ (l : List StreamEvent). HasTaken old (before ++ take t (events_of items)) l) next has)))
 
 -- where a watch can take the events of a stream, it can take the next one of a log
 pub takable_next : (before : List StreamEvent) (items : List Event) (t : ℕ) (d : Event)
@@ -170,7 +171,8 @@ module _ (before : List StreamEvent) (items more : List Event) (from k taken : �
   pub watch_later : (watch : Watched)
       → HasTaken watch (before ++ take taken events) (drop taken events)
       → HasTaken watch (later ++ take k (events_of more)) (drop k (events_of more))
-  watch_later watch has = subst (λ (s : List StreamEvent). HasTaken watch s (drop k (events_of more)))
+  watch_later watch has =
+      subst (λ (s : List StreamEvent). HasTaken watch s (drop k (events_of more)))
       taken_same (subst (λ (l : List StreamEvent). HasTaken watch (before ++ take taken events) l)
       left_same has)
 

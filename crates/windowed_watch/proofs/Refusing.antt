@@ -3,10 +3,8 @@ use Rattle.std.proofs.Common.{◌≡◌, ◌∙◌, ℕ, ◌<◌, ◌≤◌, ◌
 use Rattle.std.proofs.lemmas.List.{append_cancel_left}
 use Rattle.std.proofs.lemmas.Option.{same_Some, slice_get_within, slice_get-get_or}
 use Rattle.list_laws.proofs.Pigeonhole.{pigeonhole}
-use Rattle.list_laws.proofs.Places.{slice_get-push_last, append_cases}
-use Rattle.list_laws.proofs.Prefixes.{slice_get-append_within}
-use Rattle.streams.specs.Stream.{StreamEvent, Called, Ends, process_of, IsValidStream}
-use Rattle.streams.proofs.Returning.{get-longer}
+use Rattle.list_laws.proofs.Places.{append_cases}
+use Rattle.streams.specs.Stream.{StreamEvent, Called, process_of, IsValidStream}
 use Rattle.streams.proofs.Pushing.{valid-prefix}
 use Rattle.late_residue.specs.declared.open_call.OpenCall.{OpenCall}
 use Rattle.watch_core.specs.declared.TheConstants.{MAX_OPEN}
@@ -16,7 +14,8 @@ use Rattle.watch_core.specs.Table.{Waits, IsTable}
 use Rattle.watch_core.specs.Verdict.{IsRefusal}
 use Rattle.watch_core.specs.Watch.{Watched, HasTaken}
 use Rattle.watch_core.proofs.Tables.{table_none, table_call}
-use Rattle.watch_core.proofs.Verdicts.{valid_none}
+use Rattle.watch_core.proofs.Late.{valid_none}
+use Rattle.watch_core.proofs.Partly.{call_free, end_waits}
 use Rattle.windowed_watch.specs.Ahead.{IsNarrow, IsTakable}
 use Rattle.windowed_watch.proofs.Further.{taken_further}
 
@@ -49,33 +48,6 @@ tables_as_long stream one other first second =
     let one_call : b ≡ d = same_Some b d (sym there ∙ beside) in
     first.once i k a c at here (same ∙ (ap (λ (o : OpenCall). o.call) one_call ∙ sym equal)))
 
--- a process doesn't wait where the valid stream goes on with its call
-calls_free : (stream : List StreamEvent) (process op : ℕ)
-    → IsValidStream (stream ++ Called process op ∷ []) → Waits stream process → ⊥
-calls_free stream process op valid (call, (word, called, quiet)) =
-    let longer = stream ++ Called process op ∷ [] in
-    let between = valid.calls call (length stream) process word op
-    (slice_get_within stream call _ called) (get-longer stream (Called process op ∷ []) call _ called)
-    (slice_get-push_last stream (Called process op)) in
-    let before : between.0 < length stream = between.3 in
-    quiet between.0 between.1 between.2 before
-    (sym (slice_get-append_within stream (Called process op ∷ []) between.0 before) ∙ between.4)
-    between.5
-
--- a process waits where the valid stream goes on with the end of its call
-ends_waiting : (stream : List StreamEvent) (event : StreamEvent)
-    → IsValidStream (stream ++ event ∷ []) → Ends event → Waits stream (process_of event)
-ends_waiting stream event valid ends =
-    let before = valid.ends (length stream) event (slice_get-push_last stream event) ends in (
-      before.0,
-      (
-        before.1,
-        sym (slice_get-append_within stream (event ∷ []) before.0 before.2) ∙ before.3,
-        λ k other after within there mine. before.4 k other after within
-            (get-longer stream (event ∷ []) k other there) mine,
-      ),
-    )
-
 -- where a valid stream goes on with an event and few calls are open, the event is refused for want
 -- of memory alone
 pub refused_never : (stream : List StreamEvent) (event : StreamEvent) (calls : List OpenCall)
@@ -83,14 +55,14 @@ pub refused_never : (stream : List StreamEvent) (event : StreamEvent) (calls : L
     → length (stream ++ event ∷ []) < 2 ^ 64 → IsTable stream calls
     → IsRefusal stream (length calls) event why → why ≡ refused.NoMemory
 refused_never stream event calls refused.Busy valid narrow short table ((process, op, is), waits) =
-    absurd (calls_free stream process op
+    absurd (call_free stream process op
     (subst (λ (e : StreamEvent). IsValidStream (stream ++ e ∷ [])) is valid)
     (subst (λ (e : StreamEvent). Waits stream (process_of e)) is waits))
 refused_never stream event calls refused.Idle valid narrow short table (ends, free) =
-    absurd (free (ends_waiting stream event valid ends))
+    absurd (free (end_waits stream event valid ends))
 refused_never stream event calls refused.Open valid narrow short table ((process, op, is), many) =
     let longer = subst (λ (e : StreamEvent). IsNarrow (stream ++ e ∷ [])) is narrow in
-    let more = table_call stream calls table process op (calls_free stream process op
+    let more = table_call stream calls table process op (call_free stream process op
     (subst (λ (e : StreamEvent). IsValidStream (stream ++ e ∷ [])) is valid)) in
     let new : OpenCall =
     record { call = length stream; process = process; op = op; is_lost = false; reply = None } in

@@ -1,6 +1,6 @@
 -- Watches and the events that they will take.
 use Rattle.std.specs.Prelude.{◌≡◌, ◌⊎◌, ℕ, ◌<◌, ◌≤◌, ◌^◌, List, ◌++◌, length, map, take, drop, Some, slice_get}
-use Rattle.book_base.specs.SeqSpec.{SeqSpec}
+use Rattle.seq_objects.specs.declared.kind.Kind.{Kind}
 use Rattle.seq_objects.specs.Objects.{kind_spec}
 use Rattle.streams.specs.Stream.{StreamEvent, process_of, IsValidStream}
 use Rattle.streams.specs.StreamOrder.{HasLegalStreamOrder}
@@ -47,8 +47,8 @@ pub record IsWithin (ahead : Lookahead) : Type 0 where
   pub taken : ahead.taken ≤ length ahead.log.items
   pub next : ahead.next.taken ≤ ahead.next.seen
 
--- A watch has taken the events before a log and the first `taken` ones of the log, and knows replies
--- from those up to `seen` alone.
+-- A watch has taken the events before a log and the first `taken` ones of the log, and knows
+-- replies from those up to `seen` alone.
 abbrev pub IsAt : List StreamEvent → List StreamEvent → ℕ → ℕ → Watched → Type 0
 IsAt before events taken seen watch =
     HasTaken watch (before ++ take taken events) (drop taken (take seen events))
@@ -72,16 +72,17 @@ pub record IsRunning (ahead : Lookahead) (stream : List StreamEvent) : Type 0 wh
   pub watch : HasTaken ahead.watch (before ++ take ahead.taken (events_of ahead.log.items))
       (drop ahead.taken (events_of ahead.log.items))
 
--- The two numbers are those of one event, unless with some beginning of the stream the limit is met.
-abbrev pub IsExact : SeqSpec → ℕ → List StreamEvent → ℕ → ℕ → Type 0
-IsExact spec limit stream first last = (first ≡ last)
+-- The two numbers are those of one event, unless with some beginning of the stream the limit is
+-- met.
+abbrev pub IsExact : Kind → ℕ → List StreamEvent → ℕ → ℕ → Type 0
+IsExact kind limit stream first last = (first ≡ last)
     ⊎ ((front : List StreamEvent) × (rest : List StreamEvent) × (number : ℕ)
-    × (stream ≡ front ++ rest) × IsUnsureAt spec limit front number)
+    × (stream ≡ front ++ rest) × IsUnsureAt kind limit front number)
 
 -- A verdict is right however the stream goes on: it names the first event with which there is no
 -- legal order, or one at which the limit is met.
-abbrev pub IsFinal : SeqSpec → ℕ → List StreamEvent → Verdict → Type 0
-IsFinal spec limit stream (Legal number) = ⊥
-IsFinal spec limit stream (Illegal first last) =
-    IsIllegalFrom spec stream first last × IsExact spec limit stream first last
-IsFinal spec limit stream (Unsure number) = IsUnsureAt spec limit stream number
+abbrev pub IsFinal : Kind → ℕ → List StreamEvent → Verdict → Type 0
+IsFinal kind limit stream (Legal number) = ⊥
+IsFinal kind limit stream (Illegal first last) =
+    IsIllegalFrom (kind_spec kind) stream first last × IsExact kind limit stream first last
+IsFinal kind limit stream (Unsure number) = IsUnsureAt kind limit stream number

@@ -1,6 +1,6 @@
 -- Watches that hold events back, as clauses see them.
 use Rattle.std.specs.Prelude.{◌≡◌, ℕ, ◌+◌, ◌-◌, ◌≤◌, List, [], length, take, Option, None, IfSome}
-use Rattle.book_base.specs.SeqSpec.{SeqSpec}
+use Rattle.seq_objects.specs.declared.kind.Kind.{Kind}
 use Rattle.seq_objects.specs.Objects.{kind_spec}
 use Rattle.streams.specs.Stream.{StreamEvent}
 use Rattle.streams.specs.StreamOrder.{HasLegalStreamOrder}
@@ -26,12 +26,12 @@ held_back w = length w.ahead.log.items - w.ahead.legal
 -- A verdict is right for a stream of which the last `held` events may not be taken into account. It
 -- is legal, and the number is that of the events before those, which have a legal order; or it is
 -- final.
-abbrev pub IsWindowVerdict : SeqSpec → ℕ → ℕ → List StreamEvent → Verdict → Type 0
-IsWindowVerdict spec limit held stream (Legal number) =
-    (number + held ≡ length stream) × HasLegalStreamOrder spec (take number stream)
-IsWindowVerdict spec limit held stream (Illegal first last) =
-    IsFinal spec limit stream (Illegal first last)
-IsWindowVerdict spec limit held stream (Unsure number) = IsFinal spec limit stream (Unsure number)
+abbrev pub IsWindowVerdict : Kind → ℕ → ℕ → List StreamEvent → Verdict → Type 0
+IsWindowVerdict kind limit held stream (Legal number) = (number + held ≡ length stream)
+    × HasLegalStreamOrder (kind_spec kind) (take number stream)
+IsWindowVerdict kind limit held stream (Illegal first last) =
+    IsFinal kind limit stream (Illegal first last)
+IsWindowVerdict kind limit held stream (Unsure number) = IsFinal kind limit stream (Unsure number)
 
 -- A watch has received the events of a stream, which is valid, in this order and no others.
 pub record HasReceived (w : Windowed) (stream : List StreamEvent) : Type 0 where
@@ -39,4 +39,4 @@ pub record HasReceived (w : Windowed) (stream : List StreamEvent) : Type 0 where
   pub takable : IsTakable stream
   pub few : length w.front.calls ≤ MAX_OPEN
   pub running : w.last ≡ None → IsRunning w.ahead stream
-  pub final : IfSome w.last (IsFinal (kind_spec w.ahead.watch.kind) w.ahead.watch.limit stream)
+  pub final : IfSome w.last (IsFinal w.ahead.watch.kind w.ahead.watch.limit stream)

@@ -1,5 +1,5 @@
-//! A watch that holds events back, so that it knows most replies before their calls take effect, and
-//! that names the first event with which a stream has no legal order.
+//! A watch that holds events back, so that it knows most replies before their calls take effect,
+//! and that names the first event with which a stream has no legal order.
 #![tactic(auto)]
 
 mod checkpoint;

@@ -20,8 +20,8 @@ use watch_core::{Event, Refused, Verdict, Watch};
 
 /// A watch and the events that it will take. The log has the events since a checkpoint, the base;
 /// the watch has taken the first ones, as many as `taken` says, and of these the first `legal` ones
-/// are known to have a legal order. At `every` events at least after its predecessor a checkpoint is
-/// left.
+/// are known to have a legal order. At `every` events at least after its predecessor a checkpoint
+/// is left.
 #[derive(Drop)]
 pub struct Lookahead {
     pub alloc: Global,
@@ -105,7 +105,7 @@ impl Lookahead {
             → IsRunning self.new stream }
         ensures last { IfOk result (λ found. IfSome found (λ verdict. (stream : List StreamEvent)
             → IsRunning self.old stream → received ≡ length stream
-            → IsFinal (kind_spec self.old.watch.kind) self.old.watch.limit stream verdict)) }
+            → IsFinal self.old.watch.kind self.old.watch.limit stream verdict)) }
         ensures few { IfOk result (λ found. IfNone found
             (length self.new.log.items ≤ self.new.legal + held)) }
         ensures refused { IfErr result (λ why. (stream : List StreamEvent)
@@ -144,8 +144,8 @@ impl Lookahead {
         Ok(())
     }
 
-    // The final verdict, where there is one; where there is none, the events that the watch has taken
-    // are known to have a legal order.
+    // The final verdict, where there is one; where there is none, the events that the watch has
+    // taken are known to have a legal order.
     fn settle(&mut self, received: u64) -> Result<Option<Verdict>, Refused>
         requires within { IsWithin self.old }
         requires count { length self.old.log.items ≤ received }
@@ -155,7 +155,7 @@ impl Lookahead {
             → IsRunning self.new stream }
         ensures last { IfOk result (λ found. IfSome found (λ verdict. (stream : List StreamEvent)
             → IsRunning self.old stream → received ≡ length stream
-            → IsFinal (kind_spec self.old.watch.kind) self.old.watch.limit stream verdict)) }
+            → IsFinal self.old.watch.kind self.old.watch.limit stream verdict)) }
         ensures legal { IfOk result (λ found. IfNone found (self.new.legal ≡ self.new.taken)) }
         ensures refused { IfErr result (λ why. (stream : List StreamEvent)
             → IsRunning self.old stream → IsTakable stream → why ≡ Refused.NoMemory) }
@@ -211,10 +211,11 @@ impl Lookahead {
     fn find(&self, received: u64) -> Result<Verdict, Refused>
         requires within { IsWithin self.now }
         requires count { length self.now.log.items ≤ received }
-        ensures found { IfOk result (λ verdict. (stream : List StreamEvent) → IsRunning self.now stream
+        ensures found { IfOk result
+            (λ verdict. (stream : List StreamEvent) → IsRunning self.now stream
             → (HasLegalStreamOrder (kind_spec self.now.watch.kind) stream → ⊥)
             → received ≡ length stream
-            → IsFinal (kind_spec self.now.watch.kind) self.now.watch.limit stream verdict) }
+            → IsFinal self.now.watch.kind self.now.watch.limit stream verdict) }
         ensures refused { IfErr result (λ why. (stream : List StreamEvent)
             → IsRunning self.now stream → IsTakable stream → why ≡ Refused.NoMemory) }
     {

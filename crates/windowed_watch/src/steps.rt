@@ -1,7 +1,6 @@
 //! Watches that are told of the events to come.
 
 ghost use Rattle.std.specs.Prelude.{◌≡◌, ◌++◌, ◌∷◌, [], ℕ, ◌<◌, Some, None, List, length, slice_get, IfOk, IfErr, OnOk, OnErr, MatchOption};
-ghost use Rattle.seq_objects.specs.Objects.{kind_spec};
 ghost use Rattle.streams.specs.Stream.{StreamEvent, process_of};
 ghost use Rattle.watch_core.specs.Event.{event_of};
 ghost use Rattle.watch_core.specs.Verdict.{IsVerdict};
@@ -66,7 +65,7 @@ pub fn step(watch: &mut Watch, event: Event, coming: &[Event]) -> Result<(), Ref
 pub fn replay(watch: &Watch, coming: &[Event]) -> Result<Verdict, Refused>
     ensures verdict { IfOk result (λ verdict. (stream : List StreamEvent)
         → HasTaken watch.now stream (events_of coming.now)
-        → IsVerdict (kind_spec watch.now.kind) watch.now.limit (stream ++ events_of coming.now) []
+        → IsVerdict watch.now.kind watch.now.limit (stream ++ events_of coming.now) []
         verdict) }
     ensures refused { IfErr result (λ why. (stream : List StreamEvent)
         → HasTaken watch.now stream (events_of coming.now)

@@ -1,7 +1,7 @@
-ghost use Rattle.std.specs.Prelude.{◌≡◌, ◌++◌, ◌∷◌, ◌≤◌, [], List, length, IfOk, IfErr, OnOk, OnErr, None, max};
-ghost use Rattle.seq_objects.specs.Objects.{kind_spec};
+ghost use Rattle.std.specs.Prelude.{◌≡◌, ◌-◌, ◌^◌, ◌++◌, ◌∷◌, ◌≤◌, [], List, length, IfOk, IfErr, OnOk, OnErr, None, max, min};
 ghost use Rattle.streams.specs.Stream.{StreamEvent};
 ghost use Rattle.watch_core.specs.Event.{event_of};
+ghost use Rattle.watch_core.specs.Parts.{configurations_of};
 ghost use Rattle.watch_core.specs.Verdict.{IsRefusal};
 ghost use Rattle.watch_core.specs.declared.verdict.Refused.{Refused};
 ghost use Rattle.windowed_watch.specs.Windowed.{HasReceived, IsWindowVerdict, held_back};
@@ -16,8 +16,8 @@ use watch_core::{Event, Refused, Verdict, Watch};
 /// A watch of one object that holds events back. What it says is as right as without that, since
 /// replies that are known in advance only leave out what can't become right any more.
 ///
-/// Its memory depends on the calls that are open and on what the object can hold now, and on how
-/// many events it holds back.
+/// Its memory depends on the calls that are open, on what the object can hold now, on how many
+/// different keys its calls have had, and on how many events it holds back.
 #[derive(Drop)]
 pub struct WindowedWatch {
     window: usize,
@@ -44,9 +44,10 @@ impl Model for WindowedWatch {
 }
 
 impl WindowedWatch {
-    /// A watch of an object that has had no call. It holds at most `limit` configurations, and holds
-    /// back at most `window` events, but one if this is 0. After `every` events at least it leaves a
-    /// checkpoint, from which it finds the first event with which there is no legal order.
+    /// A watch of an object that has had no call. At a return it places open calls of the key at no
+    /// more than `limit` descriptions, and it holds back at most `window` events, but one if this is
+    /// 0. After `every` events at least it leaves a checkpoint, from which it finds the first event
+    /// with which there is no legal order.
     pub fn new(
         alloc: Global,
         kind: Kind,
@@ -76,7 +77,7 @@ impl WindowedWatch {
         // those that are held back have a legal order, or names the first event with which there is
         // none, or one at which the limit was met.
         ensures { (stream : List StreamEvent) → HasReceived self.now stream
-            → IsWindowVerdict (kind_spec self.now.ahead.watch.kind) self.now.ahead.watch.limit
+            → IsWindowVerdict self.now.ahead.watch.kind self.now.ahead.watch.limit
             (held_back self.now) stream result }
     {
         match self.last {
@@ -88,9 +89,10 @@ impl WindowedWatch {
         }
     }
 
-    /// How many configurations the watch holds.
+    /// How many descriptions of configurations the watch holds, of all keys together, or
+    /// `usize::MAX` where it holds more.
     pub fn configurations(&self) -> usize
-        ensures { result ≡ length self.now.ahead.watch.residue }
+        ensures { result ≡ min (configurations_of self.now.ahead.watch.parts) (2 ^ 64 - 1) }
     {
         self.ahead.watch.configurations()
     }

@@ -1,37 +1,29 @@
-use Rattle.std.proofs.Common.{◌≡◌, ◌<◌, length, Some, slice_get, sym, subst, inl, inr, arith}
+use Rattle.std.proofs.Common.{◌≡◌, ◌∙◌, ◌<◌, ◌≤◌, [], length, Some, slice_get, sym, subst, inl, inr, arith}
 use Rattle.std.proofs.lemmas.Bool.{cases_lt}
-use Rattle.std.proofs.lemmas.Option.{slice_get-get_or, slice_get_within}
+use Rattle.std.proofs.lemmas.Option.{same_Some, slice_get-get_or, slice_get_within}
 use Rattle.book_base.specs.declared.TheConstants.{MAX_ROOM}
-use Rattle.residue_laws.specs.Residue.{Configuration}
-use Rattle.late_residue.specs.Reached.{configuration_of, configurations_of}
-use Rattle.late_residue.specs.Placing.{IsPlacedAt}
-use Rattle.late_residue.proofs.Items.{map-at, grows-at, grows-map}
-use Rattle.late_residue.proofs.Adding.{added_none, added_on, at_place, not_true}
-use Rattle.late_residue.proofs.SoFar.{leads_next}
+use Rattle.late_residue.specs.Description.{Description}
+use Rattle.late_residue.specs.Reached.{description_of, descriptions_of}
+use Rattle.late_residue.proofs.Items.{map-at, not_true, grows-at}
+use Rattle.late_residue.proofs.Handling.{added_none, added_on, at_all, item_at, leads_none, leads_next, within_items}
 use Rattle.late_residue.proofs.closing.expand.Goals as goal
 
-pub returns-then-places-clause-leads : goal.returns-then-places-clause-leads
-returns-then-places-clause-leads g c all at there away one may =
-    absurd (away (subst (λ (a : Configuration). IsPlacedAt a c.args.returning)
-    (at_place c.args.ones.now.keys c.args.k c.index-one.result.now at c.index-one.ensures there)
-    (c.places.ensures.0 c.if-places.true)))
-
-pub returns-then-places-clause-short : goal.returns-then-places-clause-short
-returns-then-places-clause-short g c all at there away =
-    absurd (away (subst (λ (a : Configuration). IsPlacedAt a c.args.returning)
-    (at_place c.args.ones.now.keys c.args.k c.index-one.result.now at c.index-one.ensures there)
-    (c.places.ensures.0 c.if-places.true)))
+pub returns-then-not-is_short-clause-added : goal.returns-then-not-is_short-clause-added
+returns-then-not-is_short-clause-added g c = added_none (g.O.SeqObject.spec c.args.object.now)
+    c.args.calls.now c.args.returning.now c.args.reply [] (descriptions_of c.args.ones.now.items)
+    (descriptions_of c.args.left.now.items)
 
 pub returns-then-not-is_short-clause-long : goal.returns-then-not-is_short-clause-long
 returns-then-not-is_short-clause-long g c none =
-    let at = configuration_of c.index-one.result.now in (
-      at,
+    let one = description_of c.index.result.now in (
+      one,
       (
         c.args.k,
-        map-at configuration_of c.args.ones.now.keys c.args.k c.index-one.result.now
-            c.index-one.ensures,
+        map-at description_of c.args.ones.now.items c.args.k c.index.result.now
+            (item_at c.args.ones.now.items c.args.k c.index.result.now _ c.requires.within
+            c.index.ensures),
       ),
-      elim (cases_lt (length at.list) MAX_ROOM) [
+      elim (cases_lt (length one.list) MAX_ROOM) [
         | inl less ↦
             absurd (not_true c.is_short.result c.if-not-is_short.true (c.is_short.ensures.1 less))
         | inr long ↦ long
@@ -40,65 +32,55 @@ returns-then-not-is_short-clause-long g c none =
 
 pub loop-call-init : goal.loop-call-init
 loop-call-init g c = record {
-  added = added_none (g.O.SeqObject.spec c.args.object.now) c.args.calls.now c.args.returning
-      c.args.ones.now.keys;
-  leads = λ at there j one less is may. absurd (omega (arith, less));
+  added = added_none (g.O.SeqObject.spec c.args.object.now) c.args.calls.now c.args.returning.now
+      c.args.reply [] (descriptions_of c.args.ones.now.items) (descriptions_of c.args.left.now.items);
+  leads = λ one there. leads_none (g.O.SeqObject.spec c.args.object.now).next c.args.calls.now
+      c.args.returning.now c.args.reply (descriptions_of c.args.ones.now.items)
+      (descriptions_of c.args.left.now.items) one;
 }
 
 pub place-requires : goal.place-requires
 place-requires g c =
-    let there : slice_get c.loop-call.ones.keys c.args.k ≡ Some c.index-one.result.now =
-    grows-at c.args.ones.now.keys c.loop-call.ones.keys c.args.k c.index-one.result.now
-    c.loop-call.invariant.added.grows c.index-one.ensures in
+    let one = description_of c.index.result.now in
+    let first = map-at description_of c.args.ones.now.items c.args.k c.index.result.now
+    (item_at c.args.ones.now.items c.args.k c.index.result.now _ c.requires.within c.index.ensures) in
+    let there : slice_get (descriptions_of c.loop-call.ones.items) c.args.k ≡ Some one =
+    grows-at (descriptions_of c.args.ones.now.items) (descriptions_of c.loop-call.ones.items)
+    c.args.k one c.loop-call.invariant.added.grows first in
     record {
-      within = slice_get_within c.loop-call.ones.keys c.args.k c.index-one.result.now there;
+      within = within_items c.loop-call.ones.items c.args.k one there;
       is_open = (
         c.loop-call.call-index,
         slice_get-get_or c.args.calls.now c.loop-call.call-index _ c.loop-call-test.true,
       );
-      lacking = λ at is placed. not_true c.places.result c.if-places.false
-          (c.places.ensures.1 (subst (λ (a : Configuration). IsPlacedAt a c.args.returning)
-          (sym (at_place c.loop-call.ones.keys c.args.k c.index-one.result.now at there is))
-          placed));
-      short = λ at is. subst (λ (a : Configuration). length a.list < MAX_ROOM)
-          (at_place c.loop-call.ones.keys c.args.k c.index-one.result.now at there is)
-          (c.is_short.ensures.0 c.if-not-is_short.false);
+      short = λ other is. subst (λ (d : Description). length d.list < MAX_ROOM)
+          (same_Some one other (sym there ∙ is)) (c.is_short.ensures.0 c.if-not-is_short.false);
+      taken = c.loop-call.invariant.added.taken c.requires.taken;
     }
-
-pub returns-in_err-place-clause-added : goal.returns-in_err-place-clause-added
-returns-in_err-place-clause-added g c = added_on (g.O.SeqObject.spec c.args.object.now)
-    c.args.calls.now c.args.returning c.args.ones.now.keys c.loop-call.ones.keys
-    c.place.new.ones.keys c.loop-call.invariant.added c.place.ensures.added
 
 pub loop-call-preserved : goal.loop-call-preserved
 loop-call-preserved g c = record {
-  added = added_on (g.O.SeqObject.spec c.args.object.now)
-      c.args.calls.now c.args.returning c.args.ones.now.keys c.loop-call.ones.keys
-      c.place.new.ones.keys c.loop-call.invariant.added c.place.ensures.added;
-  leads = λ at is.
-      let there : slice_get (configurations_of c.loop-call.ones.keys) c.args.k ≡ Some at =
-      grows-at (configurations_of c.args.ones.now.keys)
-      (configurations_of c.loop-call.ones.keys) c.args.k at
-      (grows-map configuration_of c.args.ones.now.keys c.loop-call.ones.keys
-      c.loop-call.invariant.added.grows) is in
-      leads_next (g.O.SeqObject.spec c.args.object.now).next c.args.calls.now c.args.returning
-      c.loop-call.ones.keys c.place.new.ones.keys at c.loop-call.call-index _
-      c.place.ensures.added.grows (c.loop-call.invariant.leads at is)
-      (c.in_ok-place.ensures.leads at there);
+  added = added_on (g.O.SeqObject.spec c.args.object.now) c.args.calls.now c.args.returning.now
+      c.args.reply [] (descriptions_of c.args.ones.now.items)
+      (descriptions_of c.args.left.now.items) (descriptions_of c.loop-call.ones.items)
+      (descriptions_of c.loop-call.left.items) (descriptions_of c.place.new.ones.items)
+      (descriptions_of c.place.new.left.items) c.loop-call.invariant.added
+      c.in_ok-place.ensures.added;
+  leads = λ one is. leads_next (g.O.SeqObject.spec c.args.object.now).next c.args.calls.now
+      c.args.returning.now c.args.reply (descriptions_of c.loop-call.ones.items)
+      (descriptions_of c.loop-call.left.items) (descriptions_of c.place.new.ones.items)
+      (descriptions_of c.place.new.left.items) one c.loop-call.call-index _
+      c.in_ok-place.ensures.added.grows c.in_ok-place.ensures.added.stays
+      (c.loop-call.invariant.leads one is)
+      (c.in_ok-place.ensures.leads one (grows-at (descriptions_of c.args.ones.now.items)
+      (descriptions_of c.loop-call.ones.items) c.args.k one c.loop-call.invariant.added.grows is));
 }
 
 pub returns-clause-added : goal.returns-clause-added
 returns-clause-added g c = c.loop-call.invariant.added
 
 pub returns-clause-leads : goal.returns-clause-leads
-returns-clause-leads g c all at there away one may =
-    let within = slice_get_within c.args.calls.now may.is_open.0 one may.is_open.1 in
-    let below : may.is_open.0 < c.loop-call.call-index =
-    omega (arith, within, c.loop-call-test.false) in
-    c.loop-call.invariant.leads at there may.is_open.0 one below may.is_open.1 may
-
-pub returns-clause-short : goal.returns-clause-short
-returns-clause-short g c all at there away =
-    subst (λ (a : Configuration). length a.list < MAX_ROOM)
-    (at_place c.args.ones.now.keys c.args.k c.index-one.result.now at c.index-one.ensures there)
-    (c.is_short.ensures.0 c.if-not-is_short.false)
+returns-clause-leads g c all one there at means j call less is may =
+    let within = slice_get_within c.args.calls.now j call is in
+    let below : j < c.loop-call.call-index = omega (arith, within, c.loop-call-test.false) in
+    c.loop-call.invariant.leads one there at means j call below is may

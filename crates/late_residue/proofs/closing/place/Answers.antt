@@ -1,70 +1,118 @@
-use Rattle.late_residue.specs.Reached.{configuration_of, configurations_of}
-use Rattle.late_residue.specs.Placing.{IsPlacedAt, with_call}
-use Rattle.late_residue.proofs.Items.{map-at}
-use Rattle.late_residue.proofs.Alike.{alike-back}
-use Rattle.late_residue.proofs.Adding.{added_one, leads_of, some_of, none_of, on_ok, not_true}
-use Rattle.late_residue.proofs.closing.place.Goals.{then-call-returning-via-then-call-returning, then-call-returning-via-else-call-returning+then-places}
+use Rattle.std.proofs.Common.{◌≡◌, ◌∙◌, ◌<◌, ℕ, List, [], ◌∷◌, length, Some, slice_get, sym, ap, subst}
+use Rattle.book_base.specs.declared.TheConstants.{MAX_ROOM}
+use Rattle.residue_laws.specs.Residue.{Configuration, IsInResidue}
+use Rattle.late_residue.specs.declared.reached.Reached.{Reached}
+use Rattle.late_residue.specs.Description.{Description}
+use Rattle.late_residue.specs.Reached.{description_of, descriptions_of}
+use Rattle.late_residue.specs.Meaning.{Means}
+use Rattle.late_residue.specs.Known.{MayHaveReply}
+use Rattle.late_residue.specs.Placing.{AreOf, IsHandled, MayBePlaced, with_call}
+use Rattle.late_residue.proofs.Items.{map-at, not_true, on_ok, some_of, none_of}
+use Rattle.late_residue.proofs.Handling.{added_none, added_given, at_all, item_at, all_of_one}
 use Rattle.late_residue.proofs.closing.place.Goals as goal
 
-pub after-requires : goal.after-requires
-after-requires g c = record {
-  short = c.requires.short (configuration_of c.index-one.result.now)
-      (map-at configuration_of c.args.ones.now.keys c.args.k c.index-one.result.now
-      c.index-one.ensures);
-}
+pub stays-requires : goal.stays-requires
+stays-requires g c = c.requires.short (description_of c.index-one.result.now)
+    (map-at description_of c.args.ones.now.items c.args.k c.index-one.result.now
+    (item_at c.args.ones.now.items c.args.k c.index-one.result.now _ c.requires.within
+    c.index-one.ensures))
 
-pub returns-then-call-returning-clause-leads : goal.returns-then-call-returning-clause-leads
-returns-then-call-returning-clause-leads g c =
-    let next = (g.O.SeqObject.spec c.args.object.now).next in
-    leads_of next c.args.calls.now c.args.returning c.args.ones.now.keys
-    (configurations_of c.args.ones.now.keys) c.args.k c.index-one.result.now c.args.call.now
-    c.index-one.ensures (λ may. elim c.then-call-returning.branch [
-      | then-call-returning-via-then-call-returning w ↦ absurd (may.other w.if-call-returning.true)
-      | then-call-returning-via-else-call-returning+then-places w ↦
-          absurd (may.unplaced (w.places.ensures.0 w.if-places.true))
-    ])
+pub returns-then-places-clause-added : goal.returns-then-places-clause-added
+returns-then-places-clause-added g c = added_none (g.O.SeqObject.spec c.args.object.now)
+    c.args.calls.now c.args.returning.now c.args.reply [] (descriptions_of c.args.ones.now.items)
+    (descriptions_of c.args.left.now.items)
+
+pub returns-then-places-clause-leads : goal.returns-then-places-clause-leads
+returns-then-places-clause-leads g c = at_all
+    (λ (d : Description). (at : Configuration) → Means d at
+    → MayBePlaced (g.O.SeqObject.spec c.args.object.now).next c.args.calls.now at c.args.call.now
+    → IsHandled (g.O.SeqObject.spec c.args.object.now).next c.args.returning.now c.args.reply
+    (descriptions_of c.args.ones.now.items) (descriptions_of c.args.left.now.items)
+    (with_call (g.O.SeqObject.spec c.args.object.now).next at c.args.call.now))
+    c.args.ones.now.items c.args.k c.index-one.result.now
+    (item_at c.args.ones.now.items c.args.k c.index-one.result.now _ c.requires.within
+    c.index-one.ensures)
+    (λ at means may.
+    let of = c.places.ensures.0 c.if-places.true in
+    absurd (may.unplaced (of.0, means.placed _ of.1)))
+
+pub returns-then-branch-clause-added : goal.returns-then-branch-clause-added
+returns-then-branch-clause-added g c = added_none (g.O.SeqObject.spec c.args.object.now)
+    c.args.calls.now c.args.returning.now c.args.reply [] (descriptions_of c.args.ones.now.items)
+    (descriptions_of c.args.left.now.items)
+
+pub returns-then-branch-clause-leads : goal.returns-then-branch-clause-leads
+returns-then-branch-clause-leads g c =
+    let there = item_at c.args.ones.now.items c.args.k c.index-one.result.now _ c.requires.within
+    c.index-one.ensures in
+    at_all
+    (λ (d : Description). (at : Configuration) → Means d at
+    → MayBePlaced (g.O.SeqObject.spec c.args.object.now).next c.args.calls.now at c.args.call.now
+    → IsHandled (g.O.SeqObject.spec c.args.object.now).next c.args.returning.now c.args.reply
+    (descriptions_of c.args.ones.now.items) (descriptions_of c.args.left.now.items)
+    (with_call (g.O.SeqObject.spec c.args.object.now).next at c.args.call.now))
+    c.args.ones.now.items c.args.k c.index-one.result.now there
+    (λ at means may. c.requires.taken (description_of c.index-one.result.now)
+    (c.args.k, map-at description_of c.args.ones.now.items c.args.k c.index-one.result.now there)
+    (with_call (g.O.SeqObject.spec c.args.object.now).next at c.args.call.now)
+    (c.in_ok-stays.ensures c.if-branch.true at means may.unplaced))
+
+pub expanded-requires : goal.expanded-requires
+expanded-requires g c = record {
+  is_open = c.requires.is_open;
+  short = c.requires.short (description_of c.index-one.result.now)
+      (map-at description_of c.args.ones.now.items c.args.k c.index-one.result.now
+      (item_at c.args.ones.now.items c.args.k c.index-one.result.now _ c.requires.within
+      c.index-one.ensures));
+  lacking = λ of. not_true c.places.result c.if-places.false (c.places.ensures.1 of);
+}
 
 pub returns-in-Some-clause-added : goal.returns-in-Some-clause-added
 returns-in-Some-clause-added g c =
     let spec = g.O.SeqObject.spec c.args.object.now in
-    let at = configuration_of c.index-one.result.now in
-    let there = map-at configuration_of c.args.ones.now.keys c.args.k c.index-one.result.now
+    let next = description_of c.in-Some.next in
+    let there = item_at c.args.ones.now.items c.args.k c.index-one.result.now _ c.requires.within
     c.index-one.ensures in
-    let lacks : IsPlacedAt at c.args.call.now.call → ⊥ = λ (is : IsPlacedAt at c.args.call.now.call).
-    not_true c.places.result c.if-places.false (c.places.ensures.1 is) in
-    added_one spec c.args.calls.now c.args.returning c.args.ones.now.keys c.put.new.ones.keys
-    at (configuration_of c.in-Some.next) c.args.call.now (c.args.k, there)
-    (record {
-      is_open = c.requires.is_open;
-      other = c.if-call-returning.false;
-      unplaced = lacks;
-      reply = some_of _ c.in_ok-next.field-0 c.in-Some.next c.in-Some.is c.in_ok-next.ensures.reply;
-    })
-    (c.requires.lacking at there)
-    (some_of _ c.in_ok-next.field-0 c.in-Some.next c.in-Some.is c.in_ok-next.ensures.after)
-    c.put.ensures.grows c.put.ensures.cases
-    (λ ascends listed. c.put.ensures.listed
-    (some_of _ c.in_ok-next.field-0 c.in-Some.next c.in-Some.is c.in_ok-next.ensures.ascend ascends
-    lacks) listed)
+    on_ok c.take.result (λ added. added_given spec c.args.calls.now c.args.returning.now
+    c.args.reply (next ∷ []) [] (descriptions_of c.args.ones.now.items)
+    (descriptions_of c.args.left.now.items) (descriptions_of c.take.new.ones.items)
+    (descriptions_of c.take.new.left.items)
+    (λ stream are reached none. all_of_one (IsInResidue spec stream) c.args.calls.now next
+    (some_of _ c.in_ok-next.field-0 c.in-Some.next c.in-Some.is c.in_ok-next.ensures.sound
+    stream are (reached (description_of c.index-one.result.now)
+    (c.args.k, map-at description_of c.args.ones.now.items c.args.k c.index-one.result.now there))))
+    (added c.args.calls.now)) c.take.ensures.added
 
 pub returns-in-Some-clause-leads : goal.returns-in-Some-clause-leads
 returns-in-Some-clause-leads g c =
-    let next = (g.O.SeqObject.spec c.args.object.now).next in
-    let at = configuration_of c.index-one.result.now in
-    let alike = some_of _ c.in_ok-next.field-0 c.in-Some.next c.in-Some.is
-    c.in_ok-next.ensures.after in
-    on_ok c.put.result (λ has. leads_of next c.args.calls.now c.args.returning
-    c.args.ones.now.keys (configurations_of c.put.new.ones.keys) c.args.k c.index-one.result.now
-    c.args.call.now c.index-one.ensures (λ may. (
-      configuration_of c.in-Some.next,
-      has,
-      alike-back (with_call next at c.args.call.now) (configuration_of c.in-Some.next) alike,
-    ))) c.put.ensures.has
+    on_ok c.take.result (λ taken. at_all
+    (λ (d : Description). (at : Configuration) → Means d at
+    → MayBePlaced (g.O.SeqObject.spec c.args.object.now).next c.args.calls.now at c.args.call.now
+    → IsHandled (g.O.SeqObject.spec c.args.object.now).next c.args.returning.now c.args.reply
+    (descriptions_of c.take.new.ones.items) (descriptions_of c.take.new.left.items)
+    (with_call (g.O.SeqObject.spec c.args.object.now).next at c.args.call.now))
+    c.args.ones.now.items c.args.k c.index-one.result.now
+    (item_at c.args.ones.now.items c.args.k c.index-one.result.now _ c.requires.within
+    c.index-one.ensures)
+    (λ at means may. taken (with_call (g.O.SeqObject.spec c.args.object.now).next at c.args.call.now)
+    (some_of _ c.in_ok-next.field-0 c.in-Some.next c.in-Some.is c.in_ok-next.ensures.means
+    at means may.unplaced))) c.take.ensures.taken
+
+pub returns-in-None-clause-added : goal.returns-in-None-clause-added
+returns-in-None-clause-added g c = added_none (g.O.SeqObject.spec c.args.object.now)
+    c.args.calls.now c.args.returning.now c.args.reply [] (descriptions_of c.args.ones.now.items)
+    (descriptions_of c.args.left.now.items)
 
 pub returns-in-None-clause-leads : goal.returns-in-None-clause-leads
-returns-in-None-clause-leads g c =
-    let next = (g.O.SeqObject.spec c.args.object.now).next in
-    leads_of next c.args.calls.now c.args.returning c.args.ones.now.keys
-    (configurations_of c.args.ones.now.keys) c.args.k c.index-one.result.now c.args.call.now
-    c.index-one.ensures
-    (λ may. absurd (none_of _ c.in_ok-next.field-0 c.in-None.is c.in_ok-next.ensures.none may.reply))
+returns-in-None-clause-leads g c = at_all
+    (λ (d : Description). (at : Configuration) → Means d at
+    → MayBePlaced (g.O.SeqObject.spec c.args.object.now).next c.args.calls.now at c.args.call.now
+    → IsHandled (g.O.SeqObject.spec c.args.object.now).next c.args.returning.now c.args.reply
+    (descriptions_of c.args.ones.now.items) (descriptions_of c.args.left.now.items)
+    (with_call (g.O.SeqObject.spec c.args.object.now).next at c.args.call.now))
+    c.args.ones.now.items c.args.k c.index-one.result.now
+    (item_at c.args.ones.now.items c.args.k c.index-one.result.now _ c.requires.within
+    c.index-one.ensures)
+    (λ at means may. absurd (none_of _ c.in_ok-next.field-0 c.in-None.is
+    c.in_ok-next.ensures.none (subst (λ (l : List ℕ). MayHaveReply c.args.call.now
+    ((g.O.SeqObject.spec c.args.object.now).next l c.args.call.now.op).1) means.list may.reply)))

@@ -1,20 +1,71 @@
-use Rattle.late_residue.specs.Reached.{configuration_of}
-use Rattle.late_residue.proofs.Items.{insert-image}
-use Rattle.late_residue.proofs.Views.{same_configuration, place-same}
-use Rattle.late_residue.proofs.Listing.{insert-listed, configuration-same, same-place}
+use Rattle.std.proofs.Common.{◌≡◌, ◌⊎◌, ◌∙◌, List, [], ◌∷◌, ◌++◌, refl, sym, ap, subst, inl, inr}
+use Rattle.residue_laws.proofs.Appending.{map-both}
+use Rattle.late_residue.specs.Description.{Description}
+use Rattle.late_residue.specs.declared.reached.Reached.{Reached}
+use Rattle.late_residue.specs.Reached.{Has, description_of, descriptions_of}
+use Rattle.late_residue.specs.Meaning.{Serves}
+use Rattle.late_residue.specs.LateOnes.{AreApart}
+use Rattle.late_residue.proofs.Items.{has-cases, has-cons, has-none, has-right, grows-not}
+use Rattle.late_residue.proofs.Meanings.{serves_means}
+use Rattle.late_residue.proofs.Handling.{apart-push}
 use Rattle.late_residue.proofs.closing.put.Goals as goal
 
-pub returns-clause-has : goal.returns-clause-has
-returns-clause-has c = (insert-image _ configuration_of
-    (λ a b e. same_configuration _ (λ p q s. place-same p q s) a b e)
-    c.args.ones.now.keys c.insert.new.self.keys c.args.one c.in_ok-insert.ensures.keys).1
+pub returns-then-serve-clause-grows : goal.returns-then-serve-clause-grows
+returns-then-serve-clause-grows c = grows-not (descriptions_of c.args.ones.now.items)
+
+pub returns-then-serve-clause-means : goal.returns-then-serve-clause-means
+returns-then-serve-clause-means c at means =
+    let found = subst (λ (l : List Reached). (other : Description) × Has (descriptions_of l) other
+    × Serves other (description_of c.args.one)) c.deref.ensures.value
+    (c.serve.ensures.some c.if-serve.true) in (
+      found.0,
+      found.1,
+      serves_means found.0 (description_of c.args.one) found.2 at means,
+    )
+
+pub returns-clause-grows : goal.returns-clause-grows
+returns-clause-grows c = (
+  description_of c.args.one ∷ [],
+  ap (λ (l : List Reached). descriptions_of l) c.in_ok-push.ensures.items
+      ∙ map-both description_of c.args.ones.now.items (c.args.one ∷ []),
+)
+
+pub returns-clause-means : goal.returns-clause-means
+returns-clause-means c at means =
+    let one = description_of c.args.one in
+    let old = descriptions_of c.args.ones.now.items in
+    let images : descriptions_of c.push.new.self.items ≡ old ++ one ∷ [] =
+    ap (λ (l : List Reached). descriptions_of l) c.in_ok-push.ensures.items
+    ∙ map-both description_of c.args.ones.now.items (c.args.one ∷ []) in (
+      one,
+      subst (λ (l : List Description). Has l one) (sym images)
+          (has-right old (one ∷ []) one (0, refl)),
+      means,
+    )
 
 pub returns-clause-cases : goal.returns-clause-cases
-returns-clause-cases c = (insert-image _ configuration_of
-    (λ a b e. same_configuration _ (λ p q s. place-same p q s) a b e)
-    c.args.ones.now.keys c.insert.new.self.keys c.args.one c.in_ok-insert.ensures.keys).2
+returns-clause-cases c other has =
+    let one = description_of c.args.one in
+    let old = descriptions_of c.args.ones.now.items in
+    let images : descriptions_of c.push.new.self.items ≡ old ++ one ∷ [] =
+    ap (λ (l : List Reached). descriptions_of l) c.in_ok-push.ensures.items
+    ∙ map-both description_of c.args.ones.now.items (c.args.one ∷ []) in
+    elim (has-cases old (one ∷ []) other (subst (λ (l : List Description). Has l other) images has)) [
+      | inl before ↦ inl before
+      | inr last ↦ elim (has-cons one [] other last) [
+        | inl is ↦ inr is
+        | inr none ↦ absurd (has-none other none)
+      ]
+    ]
 
-pub returns-clause-listed : goal.returns-clause-listed
-returns-clause-listed c = insert-listed _
-    (λ a b e. configuration-same _ (λ p q s. same-place p q s) a b e)
-    c.args.ones.now.keys c.insert.new.self.keys c.args.one c.in_ok-insert.ensures.keys
+pub returns-clause-apart : goal.returns-clause-apart
+returns-clause-apart c apart =
+    let one = description_of c.args.one in
+    let old = descriptions_of c.args.ones.now.items in
+    let images : descriptions_of c.push.new.self.items ≡ old ++ one ∷ [] =
+    ap (λ (l : List Reached). descriptions_of l) c.in_ok-push.ensures.items
+    ∙ map-both description_of c.args.ones.now.items (c.args.one ∷ []) in
+    subst (λ (l : List Description). AreApart l) (sym images) (apart-push old one
+    (λ other has serves. c.serve.ensures.none c.if-serve.false other
+    (subst (λ (l : List Reached). Has (descriptions_of l) other) (sym c.deref.ensures.value) has)
+    serves) apart)

@@ -1,39 +1,58 @@
-use Rattle.std.proofs.Common.{◌+◌, [], ◌∷◌, ◌++◌, Some, sym, subst}
-use Rattle.std.proofs.lemmas.Option.{get_or_from_slice_get}
+use Rattle.std.proofs.Common.{◌≡◌, ◌∙◌, ◌↔◌, nat_eq, Bool, [], Option, IfSome, IfNone, IsTrue, List, sym, subst}
+use Rattle.std.specs.Map.{lookup}
 use Rattle.seq_objects.specs.Objects.{kind_spec}
-use Rattle.streams.specs.Stream.{Returned}
-use Rattle.watch_core.specs.declared.verdict.Verdict.TheVariants.{Illegal}
-use Rattle.watch_core.specs.Watch.{IsHeld}
-use Rattle.watch_core.proofs.Verdicts.{late-return, held-unsure, held-illegal, held-legal, not_both}
+use Rattle.streams.specs.Stream.{StreamEvent, Returned}
+use Rattle.late_residue.specs.LateOnes.{IsBeyond}
+use Rattle.watch_core.specs.Part.{IsHeldAt, calls_at, residue_at}
+use Rattle.watch_core.specs.Parts.{TakeEvent}
+use Rattle.watch_core.proofs.Late.{not_both}
+use Rattle.watch_core.proofs.Judged.{judged_final, judged_beyond, judged_some, judged_none}
 use Rattle.watch_core.proofs.watch.judge.Goals as goal
 
-pub returns-then-not-branch-clause-held : goal.returns-then-not-branch-clause-held
-returns-then-not-branch-clause-held c stream later one there pending table valid count seen
-    (late, legal) =
-    held-unsure (kind_spec c.args.kind) c.args.limit c.args.taken c.args.seen stream later
-    (Returned one.process c.args.reply) c.args.calls.now c.take_return.new.self count table.are_open
-    seen legal (c.in_ok-take_return.ensures.beyond c.if-not-branch.true stream table.are_open late)
+pub returns-then-is_some-clause-held : goal.returns-then-is_some-clause-held
+returns-then-is_some-clause-held c stream later near far of_key valid count split reached held =
+    judged_final c.args.kind c.args.limit c.args.taken c.args.seen c.args.key stream later near far
+    (Returned c.args.process c.args.reply) c.args.parts.now.entries c.args.parts.now.entries
+    c.args.last of_key valid count split reached held (sym c.is_some.ensures ∙ c.if-is_some.true)
+
+pub returns-in_default-clause-held : goal.returns-in_default-clause-held
+returns-in_default-clause-held c stream later near far of_key valid count split reached held =
+    let old = c.args.parts.now.entries in
+    judged_beyond c.args.kind c.args.limit c.args.taken c.args.seen c.args.key stream later near far
+    (Returned c.args.process c.args.reply) old c.return_in.new.parts.entries c.args.last
+    of_key valid
+    count split reached held (sym c.is_some.ensures ∙ c.if-is_some.false)
+    (subst (λ (o : Option Bool). IfNone o ((events : List StreamEvent)
+    → IsHeldAt (kind_spec c.args.kind) (lookup (nat_eq c.args.key) old) events
+    → IsBeyond (kind_spec c.args.kind) events (calls_at (lookup (nat_eq c.args.key) old))
+    c.args.limit)) c.in_default.is c.in_ok-is_empty.ensures.beyond)
 
 pub returns-then-is_empty-clause-held : goal.returns-then-is_empty-clause-held
-returns-then-is_empty-clause-held c stream later one there pending table valid count seen
-    (late, legal) =
-    subst (λ n. IsHeld (kind_spec c.args.kind) c.args.limit
-    (stream ++ Returned one.process c.args.reply ∷ []) later c.args.calls.now
-    c.take_return.new.self (Some (Illegal (c.args.taken + 1) n))) (sym c.greater.ensures)
-    (held-illegal (kind_spec c.args.kind) c.args.limit c.args.taken c.args.seen stream later
-    (Returned one.process c.args.reply) c.args.calls.now c.take_return.new.self count seen legal
-    (late-return (kind_spec c.args.kind) stream later c.args.calls.now c.args.at c.args.reply
-    c.args.seen one _ c.args.residue.now c.take_return.new.self table there pending
-    (get_or_from_slice_get c.args.calls.now c.args.at one _ there) seen
-    (c.in_ok-take_return.ensures.after c.if-not-branch.false stream) valid late)
-    (c.is_empty.ensures.0 c.if-is_empty.true))
+returns-then-is_empty-clause-held c stream later near far of_key valid count split reached held =
+    let old = c.args.parts.now.entries in
+    let new = c.return_in.new.parts.entries in
+    let takes = subst (λ (o : Option Bool). IfSome o (λ _. TakeEvent (kind_spec c.args.kind)
+    c.args.key (Returned c.args.process c.args.reply) old new)) c.in-Some.is
+    c.in_ok-is_empty.ensures.taken in
+    let empty = subst (λ (o : Option Bool). IfSome o (λ empty.
+    IsTrue empty ↔ (residue_at (lookup (nat_eq c.args.key) new) ≡ []))) c.in-Some.is
+    c.in_ok-is_empty.ensures.empty in
+    judged_none c.args.kind c.args.limit c.args.taken c.args.seen c.args.key stream later near far
+    (Returned c.args.process c.args.reply) old new c.args.last of_key valid count split reached held
+    (sym c.is_some.ensures ∙ c.if-is_some.false) c.requires takes (empty.0 c.if-is_empty.true)
+    c.greater.result c.greater.ensures
 
 pub returns-clause-held : goal.returns-clause-held
-returns-clause-held c stream later one there pending table valid count seen (late, legal) =
-    held-legal (kind_spec c.args.kind) c.args.limit (stream ++ Returned one.process c.args.reply ∷ [])
-    later c.args.calls.now c.take_return.new.self
-    (late-return (kind_spec c.args.kind) stream later c.args.calls.now c.args.at c.args.reply
-    c.args.seen one _ c.args.residue.now c.take_return.new.self table there pending
-    (get_or_from_slice_get c.args.calls.now c.args.at one _ there) seen
-    (c.in_ok-take_return.ensures.after c.if-not-branch.false stream) valid late)
-    (λ none. not_both c.is_empty.result (c.is_empty.ensures.1 none) c.if-is_empty.false)
+returns-clause-held c stream later near far of_key valid count split reached held =
+    let old = c.args.parts.now.entries in
+    let new = c.return_in.new.parts.entries in
+    let takes = subst (λ (o : Option Bool). IfSome o (λ _. TakeEvent (kind_spec c.args.kind)
+    c.args.key (Returned c.args.process c.args.reply) old new)) c.in-Some.is
+    c.in_ok-is_empty.ensures.taken in
+    let empty = subst (λ (o : Option Bool). IfSome o (λ empty.
+    IsTrue empty ↔ (residue_at (lookup (nat_eq c.args.key) new) ≡ []))) c.in-Some.is
+    c.in_ok-is_empty.ensures.empty in
+    judged_some c.args.kind c.args.limit c.args.taken c.args.seen c.args.key stream later near far
+    (Returned c.args.process c.args.reply) old new c.args.last of_key valid count split reached held
+    (sym c.is_some.ensures ∙ c.if-is_some.false) c.requires takes
+    (λ none. not_both c.in-Some.is_empty (empty.1 none) c.if-is_empty.false)

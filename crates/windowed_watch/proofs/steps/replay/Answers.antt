@@ -2,7 +2,6 @@ use Rattle.std.proofs.Common.{◌∙◌, ◌+◌, ◌≤◌, ℕ, List, [], ◌+
 use Rattle.std.proofs.lemmas.List.{take_rest, take_all, drop_all, length-map}
 use Rattle.std.proofs.lemmas.Result.{err_from_is_err_and}
 use Rattle.seq_objects.specs.declared.kind.Kind.{Kind}
-use Rattle.seq_objects.specs.Objects.{kind_spec}
 use Rattle.streams.specs.Stream.{StreamEvent}
 use Rattle.watch_core.specs.Event.{event_of}
 use Rattle.watch_core.specs.Verdict.{IsVerdict}
@@ -47,13 +46,13 @@ returns-clause-verdict c stream has =
     let said = c.verdict.result in
     let less : length events ≤ k =
     omega (arith, length-map c.args.coming.now event_of, c.loop-k-test.false) in
-    subst (λ (l : List StreamEvent). IsVerdict (kind_spec w.kind) w.limit (stream ++ l) [] said)
+    subst (λ (l : List StreamEvent). IsVerdict w.kind w.limit (stream ++ l) [] said)
     (take_all k events less)
-    (subst (λ (l : List StreamEvent). IsVerdict (kind_spec w.kind) w.limit
+    (subst (λ (l : List StreamEvent). IsVerdict w.kind w.limit
     (stream ++ take k events) l said) (drop_all k events less)
-    (subst (λ (n : ℕ). IsVerdict (kind_spec w.kind) n (stream ++ take k events)
+    (subst (λ (n : ℕ). IsVerdict w.kind n (stream ++ take k events)
     (drop k events) said) c.loop-k.invariant.kind.1
-    (subst (λ (t : Kind). IsVerdict (kind_spec t) copy.limit (stream ++ take k events)
+    (subst (λ (t : Kind). IsVerdict t copy.limit (stream ++ take k events)
     (drop k events) said) c.loop-k.invariant.kind.0
     (c.verdict.ensures (stream ++ take k events) (drop k events)
     (c.loop-k.invariant.taken stream has)))))

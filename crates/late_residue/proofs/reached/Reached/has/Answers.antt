@@ -7,10 +7,9 @@ use Rattle.late_residue.proofs.reached.Reached.has.Goals as goal
 pub returns : goal.returns
 returns c =
     let items = c.args.self.now.placed.items in
-    let list = c.args.self.now.list.items in
     let place = c.args.place in
     let is : c.holds.result
     ≡ list_any (λ (p : Placed). p.call == place.call && p.reply == place.reply) items = cc in (
-      λ e. holds_among items list place (sym is ∙ e),
-      λ among. is ∙ among_holds items list place among,
+      λ e. holds_among items place (sym is ∙ e),
+      λ among. is ∙ among_holds items place among,
     )

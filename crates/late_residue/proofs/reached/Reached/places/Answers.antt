@@ -7,8 +7,7 @@ use Rattle.late_residue.proofs.reached.Reached.places.Goals as goal
 pub returns : goal.returns
 returns c =
     let items = c.args.self.now.placed.items in
-    let list = c.args.self.now.list.items in
     let is : c.names.result ≡ list_any (λ (p : Placed). p.call == c.args.call) items = cc in (
-      λ e. names_placed items list c.args.call (sym is ∙ e),
-      λ placed. is ∙ placed_names items list c.args.call placed,
+      λ e. names_placed items c.args.call (sym is ∙ e),
+      λ placed. is ∙ placed_names items c.args.call placed,
     )

@@ -1,15 +1,14 @@
 use Rattle.std.proofs.Common.{◌∙◌, List, ◌++◌, sym, ap, subst}
 use Rattle.late_residue.specs.declared.open_call.OpenCall.{OpenCall}
-use Rattle.seq_objects.specs.Objects.{kind_spec}
 use Rattle.watch_core.specs.Watch.{HasTaken}
-use Rattle.watch_core.proofs.Expecting.{taken_copy}
+use Rattle.watch_core.proofs.Taken.{taken_copy}
 use Rattle.watch_core.proofs.watch.Watch.copy.Goals as goal
 
 pub returns-clause-taken : goal.returns-clause-taken
 returns-clause-taken c stream later has =
     let i = c.self.inside in
     let taken = subst (λ w. HasTaken w stream later) (sym c.self.view_is) has in
-    taken_copy i.kind i.limit i.taken i.seen i.calls.items i.residue _ i.last stream later _ taken
-    (c.in_ok-extend_from_slice.ensures.items
+    taken_copy i.kind i.limit i.taken i.seen i.calls.items i.parts.entries i.last stream later _ _
+    taken (c.in_ok-extend_from_slice.ensures.items
     ∙ (ap (λ (l : List OpenCall). l ++ c.deref.result.now) c.in_ok-calls.ensures.items
-    ∙ c.deref.ensures.value)) (c.in_ok-copy.ensures (kind_spec i.kind) stream i.calls.items)
+    ∙ c.deref.ensures.value)) c.in_ok-copy_of.ensures

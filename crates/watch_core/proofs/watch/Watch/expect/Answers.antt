@@ -1,47 +1,48 @@
-use Rattle.std.proofs.Common.{◌≡◌, ◌∙◌, ℕ, List, map, Some, true, false, slice_get, slice_set, refl, sym, ap, subst}
-use Rattle.std.proofs.lemmas.Option.{get_or_from_slice_get}
-use Rattle.book_base.specs.SeqSpec.{SeqSpec}
+use Rattle.std.proofs.Common.{◌≡◌, ◌∙◌, ℕ, ◌<◌, List, Some, true, false, slice_get, refl, sym, ap, subst}
+use Rattle.std.proofs.lemmas.Option.{slice_get_within, get_or_from_slice_get}
+use Rattle.seq_objects.specs.Objects.{kind_spec}
 use Rattle.late_residue.specs.declared.open_call.OpenCall.{OpenCall}
 use Rattle.late_residue.specs.Reached.{Has}
-use Rattle.late_residue.specs.Known.{MayHaveReply, with_reply}
-use Rattle.late_residue.specs.LateOnes.{AreLate}
+use Rattle.stream_locality.specs.KindKeys.{key_of_kind}
+use Rattle.watch_core.specs.Parts.{AreTold}
 use Rattle.watch_core.specs.Watch.{HasTaken}
-use Rattle.watch_core.proofs.Taken.{waits_not, waits_now}
-use Rattle.watch_core.proofs.Expecting.{taken_told}
+use Rattle.watch_core.proofs.Taken.{waits_not, waits_now, taken_told}
 use Rattle.watch_core.proofs.watch.Watch.expect.Goals as goal
 
+pub index-requires : goal.index-requires
+index-requires c =
+    let found = c.in-Some.ensures.some in
+    subst (λ (n : ℕ). c.in-Some.at < n) c.deref.ensures.len
+    (slice_get_within c.deref.result.now c.in-Some.at found.0 found.1)
+
 pub returns-clause-expected : goal.returns-clause-expected
-returns-clause-expected c stream later near far has parts reached expected =
+returns-clause-expected c stream later near far has split reached expected =
     let i = c.self.inside in
     let at = c.in-Some.at in
+    let process = c.args.process in
     let reply = c.args.reply in
     let taken = subst (λ w. HasTaken w stream later) (sym c.self.view_is) has in
     let found = c.in-Some.ensures.some in
     let there = subst (λ (l : List OpenCall). slice_get l at ≡ Some found.0) c.deref.ensures.value
     found.1 in
-    let item : c.index_mut.result.now ≡ found.0 = c.index_mut.ensures.value
-    ∙ get_or_from_slice_get i.calls.items at found.0 _ there in
     let read : c.index.result.now ≡ found.0 = c.index.ensures
     ∙ get_or_from_slice_get i.calls.items at found.0 _ there in
-    let revealed = subst (λ (n : ℕ). (spec : SeqSpec) (one : OpenCall) → Has i.calls.items one
-    → one.call ≡ n → ((other : OpenCall) → Has i.calls.items other → other.call ≡ n
-    → MayHaveReply other reply) → AreLate spec stream i.calls.items i.residue
-    → AreLate spec stream (map (with_reply n reply) i.calls.items) c.reveal.new.self)
-    (ap (λ (o : OpenCall). o.call) read)
-    (λ spec one. c.reveal.ensures spec stream i.calls.items one) in
-    taken_told i.kind i.limit i.taken i.seen i.calls.items i.residue c.reveal.new.self i.last
-    stream later near far at c.args.process reply c.args.by found.0 _ c.greater-self-inside.result
-    taken there found.2 found.3 parts reached expected
-    (ap (λ (o : OpenCall). slice_set i.calls.items at (record o { reply = Some reply })) item)
-    c.greater-self-inside.ensures revealed
+    taken_told i.kind i.limit i.taken i.seen i.calls.items i.parts.entries i.last stream later near
+    far at process reply c.args.by found.0 c.greater-self-inside.result
+    c.expect_in.new.parts.entries taken there found.2 found.3 split reached expected
+    c.greater-self-inside.ensures
+    (subst (λ (k : ℕ). AreTold (kind_spec i.kind) k process reply i.parts.entries
+    c.expect_in.new.parts.entries)
+    (c.key_of.ensures ∙ ap (λ (o : OpenCall). key_of_kind i.kind o.op) read)
+    (c.expect_in.ensures (kind_spec i.kind)))
 
 pub returns-in_default-clause-answer : goal.returns-in_default-clause-answer
 returns-in_default-clause-answer c stream later has =
     let i = c.self.inside in
     let taken = subst (λ w. HasTaken w stream later) (sym c.self.view_is) has in (
       λ (e : false ≡ true). absurd cc,
-      λ waits. absurd (waits_not i.kind i.limit i.taken i.seen i.calls.items i.residue i.last stream
-          later taken c.args.process (λ one there. c.in_default.ensures.none one
+      λ waits. absurd (waits_not i.kind i.limit i.taken i.seen i.calls.items i.parts.entries i.last
+          stream later taken c.args.process (λ one there. c.in_default.ensures.none one
           (subst (λ (l : List OpenCall). Has l one) (sym c.deref.ensures.value) there)) waits),
     )
 
@@ -52,7 +53,7 @@ returns-clause-answer c stream later has =
     let found = c.in-Some.ensures.some in
     let there = subst (λ (l : List OpenCall). slice_get l c.in-Some.at ≡ Some found.0)
     c.deref.ensures.value found.1 in (
-      λ yes. waits_now i.kind i.limit i.taken i.seen i.calls.items i.residue i.last stream later
-          taken c.in-Some.at c.args.process found.0 there found.2 found.3,
+      λ is. waits_now i.kind i.limit i.taken i.seen i.calls.items i.parts.entries i.last stream
+          later taken c.in-Some.at c.args.process found.0 there found.2 found.3,
       λ waits. refl,
     )

@@ -1,5 +1,5 @@
 use Rattle.std.proofs.Common.{refl}
-use Rattle.watch_core.proofs.Verdicts.{taken_none}
+use Rattle.watch_core.proofs.Taken.{taken_none}
 use Rattle.watch_core.proofs.watch.Watch.new.Goals as goal
 
 pub returns-clause-fresh : goal.returns-clause-fresh
@@ -9,6 +9,6 @@ returns-clause-fresh c later = taken_none (record {
   taken = 0;
   seen = 0;
   calls = c.new.result.items;
-  residue = c.in_ok-new.field-0;
+  parts = c.new-2.result.entries;
   last = _;
-}) later refl refl c.new.ensures.items c.in_ok-new.ensures refl
+}) later refl refl c.new.ensures.items c.new-2.ensures.empty refl

@@ -1,4 +1,4 @@
-use Rattle.std.proofs.Common.{List, [], ◌∷◌, ◌++◌, length, IfErr, OnOk, sym, subst}
+use Rattle.std.proofs.Common.{List, length, IfErr, sym, subst}
 use Rattle.streams.specs.Stream.{StreamEvent}
 use Rattle.watch_core.specs.declared.event.Event.{Event}
 use Rattle.watch_core.specs.Event.{event_of}
@@ -23,21 +23,3 @@ returns-in-Lost-clause-refused c = subst (λ (e : Event). IfErr c.take_loss.resu
     (λ refused. (stream later : List StreamEvent) → HasTaken c.args.self.now stream later
     → IsRefusal stream (length c.args.self.now.calls) (event_of e) refused)) (sym c.in-Lost.is)
     c.take_loss.ensures.refused
-
-pub returns-in-Call-clause-taken : goal.returns-in-Call-clause-taken
-returns-in-Call-clause-taken c = subst (λ (e : Event). OnOk c.take_call.result
-    ((stream later : List StreamEvent) → HasTaken c.args.self.now stream (event_of e ∷ later)
-    → HasTaken c.take_call.new.self (stream ++ event_of e ∷ []) later)) (sym c.in-Call.is)
-    c.take_call.ensures.taken
-
-pub returns-in-Return-clause-taken : goal.returns-in-Return-clause-taken
-returns-in-Return-clause-taken c = subst (λ (e : Event). OnOk c.take_return.result
-    ((stream later : List StreamEvent) → HasTaken c.args.self.now stream (event_of e ∷ later)
-    → HasTaken c.take_return.new.self (stream ++ event_of e ∷ []) later)) (sym c.in-Return.is)
-    c.take_return.ensures.taken
-
-pub returns-in-Lost-clause-taken : goal.returns-in-Lost-clause-taken
-returns-in-Lost-clause-taken c = subst (λ (e : Event). OnOk c.take_loss.result
-    ((stream later : List StreamEvent) → HasTaken c.args.self.now stream (event_of e ∷ later)
-    → HasTaken c.take_loss.new.self (stream ++ event_of e ∷ []) later)) (sym c.in-Lost.is)
-    c.take_loss.ensures.taken

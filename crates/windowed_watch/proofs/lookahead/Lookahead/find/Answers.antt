@@ -22,7 +22,8 @@ returns-in_err-replay-clause-refused c =
     let slice = take m c.deref.result.now in
     let p = err_from_is_err_and c.from_residual.result c.from_residual.ensures.1 in
     rw (p.1, p.2) (λ stream runs takable. c.in_err-replay.ensures.refused runs.before
-    (base_slice a slice m least is stream runs) (takable_slice a slice m least is stream runs takable))
+    (base_slice a slice m least is stream runs)
+    (takable_slice a slice m least is stream runs takable))
 
 pub loop-illegal-preserved-in-Legal : goal.loop-illegal-preserved-in-Legal
 loop-illegal-preserved-in-Legal c =

@@ -2,7 +2,6 @@ use Rattle.std.proofs.Common.{◌∙◌, ℕ, subst, ap}
 use Rattle.std.proofs.lemmas.Option.{IfSome_then}
 use Rattle.std.proofs.lemmas.Result.{err_from_is_err_and}
 use Rattle.seq_objects.specs.declared.kind.Kind.{Kind}
-use Rattle.seq_objects.specs.Objects.{kind_spec}
 use Rattle.watch_core.specs.Watch.{Watched}
 use Rattle.windowed_watch.specs.Ahead.{IsFinal}
 use Rattle.windowed_watch.proofs.lookahead.Lookahead.let_go.Goals as goal
@@ -40,8 +39,8 @@ loop-self-preserved c =
           (c.advance.ensures.running stream (c.loop-self.invariant.running stream runs));
       last = IfSome_then c.in_ok-found-2.found c.in_ok-found-2.ensures.last
           (λ verdict final stream runs count.
-          subst (λ (n : ℕ). IsFinal (kind_spec c.args.self.now.watch.kind) n stream verdict) limit
-          (subst (λ (k : Kind). IsFinal (kind_spec k) c.advance.new.self.watch.limit stream verdict)
+          subst (λ (n : ℕ). IsFinal c.args.self.now.watch.kind n stream verdict) limit
+          (subst (λ (k : Kind). IsFinal k c.advance.new.self.watch.limit stream verdict)
           kind (final stream
           (c.advance.ensures.running stream (c.loop-self.invariant.running stream runs)) count)));
       legal = c.in_ok-found-2.ensures.legal;

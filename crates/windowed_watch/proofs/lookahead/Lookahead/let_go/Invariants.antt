@@ -1,5 +1,4 @@
 use Rattle.std.proofs.Common.{◌≡◌, ◌≤◌, ◌-◌, List, length, IfSome, IfNone}
-use Rattle.seq_objects.specs.Objects.{kind_spec}
 use Rattle.streams.specs.Stream.{StreamEvent}
 use Rattle.windowed_watch.specs.Ahead.{IsWithin, IsRunning, IsFinal}
 use Rattle.windowed_watch.proofs.lookahead.Lookahead.let_go.Given as goal
@@ -11,7 +10,7 @@ invariant-loop-self l = record {
   running : (stream : List StreamEvent) → IsRunning l.fn.self stream → IsRunning l.self stream;
   last : IfSome l.found (λ verdict. (stream : List StreamEvent) → IsRunning l.fn.self stream
       → l.received ≡ length stream
-      → IsFinal (kind_spec l.fn.self.watch.kind) l.fn.self.watch.limit stream verdict);
+      → IsFinal l.fn.self.watch.kind l.fn.self.watch.limit stream verdict);
   legal : IfNone l.found (l.self.legal ≡ l.self.taken);
   kind : (l.self.watch.kind ≡ l.fn.self.watch.kind) × (l.self.watch.limit ≡ l.fn.self.watch.limit);
 }

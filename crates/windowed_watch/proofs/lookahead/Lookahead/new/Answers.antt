@@ -1,7 +1,7 @@
 use Rattle.std.proofs.Common.{◌≡◌, ◌∙◌, List, [], sym, ap, arith}
 use Rattle.seq_objects.specs.Objects.{kind_spec}
 use Rattle.watch_core.specs.declared.event.Event.{Event}
-use Rattle.watch_core.proofs.Verdicts.{legal_none}
+use Rattle.watch_core.proofs.Late.{legal_none}
 use Rattle.windowed_watch.specs.Ahead.{events_of}
 use Rattle.windowed_watch.proofs.lookahead.Lookahead.new.Goals as goal
 

@@ -7,7 +7,7 @@ use Rattle.streams.specs.StreamOrder.{HasLegalStreamOrder}
 use Rattle.watch_core.specs.declared.event.Event.{Event}
 use Rattle.watch_core.specs.Event.{event_of}
 use Rattle.watch_core.specs.Watch.{HasTaken}
-use Rattle.watch_core.proofs.Taken.{pushed}
+use Rattle.watch_core.proofs.Partly.{pushed}
 use Rattle.windowed_watch.specs.Ahead.{events_of}
 use Rattle.windowed_watch.proofs.Refusing.{front_more}
 use Rattle.windowed_watch.proofs.Logs.{whole_more, legal_more, at_more, watch_more}

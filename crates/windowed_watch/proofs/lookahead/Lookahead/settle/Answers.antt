@@ -42,6 +42,6 @@ returns-in-Unsure-clause-last c stream runs count =
     let a = c.args.self.now in
     let events = events_of a.log.items in
     subst (λ (s : List StreamEvent).
-    IsUnsureAt (kind_spec a.watch.kind) a.watch.limit s c.in-Unsure.number)
+    IsUnsureAt a.watch.kind a.watch.limit s c.in-Unsure.number)
     (parted runs.before a.taken events ∙ sym runs.whole)
     (c.in-Unsure.ensures (runs.before ++ take a.taken events) (drop a.taken events) runs.watch)

@@ -1,7 +1,6 @@
 use Rattle.std.proofs.Common.{◌∙◌, ◌≤◌, [], ◌∷◌, length, sym, ap, subst}
 use Rattle.std.proofs.lemmas.Option.{IfSome_then}
 use Rattle.std.proofs.lemmas.Result.{IfErr-weaker, on_err_weaker}
-use Rattle.seq_objects.specs.Objects.{kind_spec}
 use Rattle.watch_core.specs.declared.TheConstants.{MAX_OPEN}
 use Rattle.watch_core.specs.Event.{event_of}
 use Rattle.watch_core.specs.Verdict.{IsRefusal}
@@ -26,7 +25,7 @@ returns-then-is_some-clause-received c = on_ok_both c.take.result c.take.ensures
       few = c.take.ensures.few now.few;
       running = λ none. some_not i.last (sym c.is_some.ensures ∙ c.if-is_some.true) none;
       final = IfSome_then i.last now.final (λ verdict final. final_further
-          (kind_spec i.ahead.watch.kind) i.ahead.watch.limit stream (event ∷ []) verdict final);
+          i.ahead.watch.kind i.ahead.watch.limit stream (event ∷ []) verdict final);
     })
 
 pub returns-then-is_some-clause-refused : goal.returns-then-is_some-clause-refused

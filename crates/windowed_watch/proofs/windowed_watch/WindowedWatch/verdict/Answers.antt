@@ -20,7 +20,7 @@ returns-in-None c stream has =
     let below : i.ahead.legal ≤ length items = omega (arith, within.legal, within.taken) in
     let sum : n + (length items - i.ahead.legal) ≡ length stream =
     omega (arith, front, long, fits, below, c.taken.ensures) in
-    subst (λ (w : Windowed). IsWindowVerdict (kind_spec w.ahead.watch.kind) w.ahead.watch.limit
+    subst (λ (w : Windowed). IsWindowVerdict w.ahead.watch.kind w.ahead.watch.limit
     (held_back w) stream (Legal n)) c.self.view_is (
       sum,
       legal_said (kind_spec i.ahead.watch.kind) runs.before (events_of items) stream n
