@@ -1,0 +1,6 @@
+pub mod Apart
+pub mod Lines
+pub mod Names
+pub mod OneWay
+pub mod Parts
+pub mod Tables
