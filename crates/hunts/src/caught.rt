@@ -47,7 +47,7 @@ fn report_and_witness<T>(alloc: Global, kind: Kind, catch: &Catch<T>) -> Result<
     Ok(text)
 }
 
-/// The smaller book of a witness: a part of it without a legal order, which no rule makes smaller.
+/// The smaller book of a witness: a minimal part of it without a legal order.
 fn smaller(alloc: Global, kind: Kind, witness: &Book) -> Result<Book, NoMemory>
     requires { ¬ HasLegalOrder (kind_spec kind) witness.now }
     ensures { IfOk result (IsSmallerWitness kind witness.now) }

@@ -143,8 +143,8 @@ pub extern "C" fn selfcheck_picture(
 }
 
 /// Writes into a buffer why the book has no legal order that the bytes give: which rule of its kind it
-/// breaks, and by which calls; or, where it breaks none, a longest legal prefix and the calls that may
-/// come next after it, each with the reply that the object gives it there. Of a book that breaks no
+/// breaks, and by which calls; or, where it breaks none, its longest legal prefixes, at most eight, and
+/// the calls that may come next after each, with the reply that the object gives there. Of a book that breaks no
 /// rule and has a legal order, or too many legal prefixes to try, one line says that. The bytes are a
 /// book's text in either version, or what a run or monitors have written with its witness. `written`
 /// is the text's length, even where the buffer can't hold it and nothing is written. Where the bytes
@@ -161,7 +161,7 @@ pub extern "C" fn selfcheck_explain(
     ensures held { (result ≡ ILLEGAL) ⊎ (result ≡ DONE) → written.new ≤ length buffer.new }
     // With `ILLEGAL` the bytes give a book that has no legal order, and the first `written` bytes of
     // the buffer say why: which rule of its kind it breaks, and by which calls, or, where it breaks
-    // none, a longest legal prefix and the calls that may come next after it.
+    // none, its longest legal prefixes and the calls that may come next after each.
     ensures explained { result ≡ ILLEGAL → IsExplained text.now (take written.new buffer.new) }
     // With `DONE` the bytes give a book that breaks none of the rules of its kind, and the first
     // `written` bytes of the buffer say that: either the book has a legal order, or they also say that
