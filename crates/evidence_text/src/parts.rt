@@ -14,7 +14,7 @@ use book_base::{Book, NoMemory};
 use refutation_text::Step;
 use seq_objects::Kind;
 use smaller_book::{
-    Going, Smaller, numbers_of_all, without_halves, without_later, without_open, without_singles,
+    Smaller, numbers_of_all, without_halves, without_later, without_open, without_singles,
     without_slices,
 };
 use std::alloc::Global;
@@ -61,9 +61,9 @@ pub(crate) fn parts_of(alloc: Global, kind: Kind, book: &Book) -> Result<Parts, 
     parts = with_part(alloc, kind, parts, early, Rule::Cut)?;
     let keyless = without_halves(alloc, kind, &parts.last.book)?;
     parts = with_part(alloc, kind, parts, keyless, Rule::Keys)?;
-    let sliced = without_slices(alloc, kind, Going::ReadOnly, &parts.last.book)?;
+    let sliced = without_slices(alloc, kind, &parts.last.book)?;
     parts = with_part(alloc, kind, parts, sliced, Rule::ReadOnly)?;
-    let thin = without_singles(alloc, kind, Going::ReadOnly, &parts.last.book)?;
+    let thin = without_singles(alloc, kind, &parts.last.book)?;
     parts = with_part(alloc, kind, parts, thin, Rule::ReadOnly)?;
     let open = without_open(alloc, kind, &parts.last.book)?;
     parts = with_part(alloc, kind, parts, open, Rule::Cut)?;

@@ -4,7 +4,8 @@ pub mod ReadOnly
 pub mod Unseen
 pub mod LeavingAlways
 pub mod Restoring
-pub mod Slices
+pub mod KeptNumbers
+pub mod Named
 pub mod Filtering
 pub mod CarryingOver
 pub mod KeySteps

@@ -10,23 +10,8 @@ use Rattle.book_base.specs.Next.{raised, MayStandNext, list_after}
 use Rattle.legal_orders.proofs.LegalOrder.{same_call, raised_same, raised_more, raised_cases}
 use Rattle.smaller_book.specs.Part.{IsNamed}
 use Rattle.smaller_book.specs.ReadOnly.{IsReadOnly}
-use Rattle.smaller_book.specs.Unseen.{IsBlind, CannotSee, IsUnseenBy, MayGo, LacksUnseenAlone, HasOneWithoutUnseen}
+use Rattle.smaller_book.specs.Unseen.{IsBlind, CannotSee, IsUnseenBy, LacksUnseenAlone, HasOneWithoutUnseen}
 use Rattle.smaller_book.proofs.Following.{IsFollowedFrom, has_one_in_part_from}
-
--- A call that may go, and that isn't named, is read-only, or no named call can tell that it sets a
--- list.
-pub unseen_by_named : (next : List ℕ → ℕ → List ℕ × ℕ) (book : List Page) (names : List (List ℕ))
-    (call : Call) → ¬ IsNamed names call → MayGo next book call
-    → IsReadOnly next book call ⊎ IsUnseenBy next book (IsNamed names) call
-unseen_by_named next book names call unnamed goes = elim goes [
-  | inl only ↦ inl only
-  | inr alone ↦ inr record {
-    after = alone.after;
-    sets = alone.sets;
-    unseen = λ seer inside named. alone.unseen seer inside
-        (λ same. unnamed (subst (IsNamed names) same named));
-  }
-]
 
 -- A cut is closed: with each call it holds all calls that precede it.
 abbrev IsClosed : List Page → List ℕ → Type 0

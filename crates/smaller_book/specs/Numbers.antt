@@ -8,6 +8,11 @@ use Rattle.smaller_book.specs.Part.{numbers_of, AreRising}
 abbrev pub numbers_in : {A : Type 0} → List (Vec ℕ A) → List (List ℕ)
 numbers_in rows = map (λ row. row.items) rows
 
+-- The numbers rise and are less than a bound.
+pub record AreNumbersBelow (bound : ℕ) (numbers : List ℕ) : Type 0 where
+  pub rising : AreRising numbers
+  pub inside : (k : ℕ) → k < length numbers → slice_index numbers k < bound
+
 -- The lists of `names`, one for each caller, hold rising numbers of calls of the book.
 pub record AreNumbersOf (book : List Page) (names : List (List ℕ)) : Type 0 where
   pub wide : length names ≡ length book

@@ -1,9 +1,9 @@
 -- The rule of unseen settings: a call that sets the object's list, whatever the list was, may be
 -- left out where no call that stays may see what it sets.
-use Rattle.std.specs.Prelude.{◌≡◌, ℕ, ◌<◌, ◌⊎◌, List, length, slice_index, unwrap_or}
+use Rattle.std.specs.Prelude.{◌≡◌, ℕ, ◌⊎◌, List, unwrap_or}
 use Rattle.book_base.specs.declared.call.Call.{Call}
 use Rattle.book_base.specs.Book.{Page, IsCall, operation_of, Precedes}
-use Rattle.smaller_book.specs.Part.{AreRising, IsNamed, IsPart, CarriesOver}
+use Rattle.smaller_book.specs.Part.{IsNamed, IsPart, CarriesOver}
 use Rattle.smaller_book.specs.ReadOnly.{MayHave, IsReadOnly}
 
 -- A call sets a list: whatever the list was before, where the object gives the recorded reply, or
@@ -46,26 +46,11 @@ pub record IsUnseenBy (next : List ℕ → ℕ → List ℕ × ℕ) (book : List
   pub sets : Sets next book setting after
   pub unseen : (seer : Call) → IsCall book seer → sees seer → CannotSee next book setting after seer
 
--- A call may go: it is read-only, or it sets some list and no other call of the book can tell.
-abbrev pub MayGo : (List ℕ → ℕ → List ℕ × ℕ) → List Page → Call → Type 0
-MayGo next book call =
-    IsReadOnly next book call ⊎ IsUnseenBy next book (λ other. ¬ (other ≡ call)) call
-
 -- Each call of the book that isn't named by these numbers is read-only, or no named call can tell
 -- that it sets a list.
 abbrev pub LacksUnseenAlone : (List ℕ → ℕ → List ℕ × ℕ) → List Page → List (List ℕ) → Type 0
 LacksUnseenAlone next book names = (call : Call) → IsCall book call → ¬ IsNamed names call
     → IsReadOnly next book call ⊎ IsUnseenBy next book (IsNamed names) call
-
--- The `numbers` rise and are less than `below`; each call of caller `i` whose number is less than
--- `below` and isn't among them may go.
-pub record LacksCallsOf (next : List ℕ → ℕ → List ℕ × ℕ) (book : List Page) (i below : ℕ)
-    (numbers : List ℕ) : Type 0 where
-  pub rising : AreRising numbers
-  pub inside : (k : ℕ) → k < length numbers → slice_index numbers k < below
-  pub lacks : (number : ℕ) → number < below
-      → ((k : ℕ) × (k < length numbers) × (slice_index numbers k ≡ number))
-      ⊎ MayGo next book (record { caller = i; number = number })
 
 -- Where a part lacks only read-only and unseen calls of the book, a legal order of the book gives
 -- one of the part, whichever list the object begins with.

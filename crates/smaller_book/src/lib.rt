@@ -4,7 +4,9 @@
 
 mod composing;
 mod cuts;
+mod groups;
 mod judging;
+mod kept;
 mod keyless;
 mod keys;
 pub mod laws;
@@ -27,7 +29,6 @@ pub use read_only::is_read_only;
 pub use read_only_calls::{without_singles, without_slices};
 pub use removal::{Smaller, all_numbers_but, push_if};
 pub use shrinking::shrink;
-pub use unseen_calls::Going;
 
 /// A book has few calls where it has at most this many. Then it is tried at each earlier cut, also
 /// at one at which a view holds several unanswered calls of one caller.

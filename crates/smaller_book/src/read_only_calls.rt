@@ -1,23 +1,21 @@
-//! Calls that may go, taken out of a book while it has no legal order: one, or as many as can be.
-ghost use Rattle.std.specs.Prelude.{ℕ, ◌<◌, length, IfOk, IfSome, IfNone, IsTrue};
+//! Read-only calls, taken out of a book while it has no legal order: one, or as many as can be.
+ghost use Rattle.std.specs.Prelude.{◌<◌, length, IfOk, IfSome, IfNone};
 ghost use Rattle.book_base.specs.declared.call.Call.{Call};
-ghost use Rattle.book_base.specs.Book.{calls_of, IsCall};
+ghost use Rattle.book_base.specs.Book.{IsCall};
 ghost use Rattle.seq_objects.specs.Objects.{kind_next};
-ghost use Rattle.smaller_book.specs.Numbers.{numbers_in, AreNumbersOf};
+ghost use Rattle.smaller_book.specs.Numbers.{numbers_in};
 ghost use Rattle.smaller_book.specs.ReadOnly.{IsReadOnly};
-ghost use Rattle.smaller_book.specs.Unseen.{MayGo, LacksUnseenAlone, LacksCallsOf};
 ghost use Rattle.smaller_book.specs.Minimal.{IsNeeded, IsSmaller};
 
 use crate::composing::smaller_still;
-use crate::judging::is_illegal;
-use crate::numbered::part;
-use crate::removal::{Smaller, has_fewer, push_if, without, without_one};
-use crate::unseen_calls::{Going, goes};
+use crate::kept::illegal_part;
+use crate::read_only::is_read_only;
+use crate::removal::{Smaller, without, without_one};
 use book_base::{Book, Call, MAX_CALLS, NoMemory};
 use seq_objects::Kind;
 use std::alloc::Global;
 
-/// The book without one call that may go, where that smaller book has no legal order. No book is
+/// The book without one read-only call, where that smaller book has no legal order. No book is
 /// answered where leaving out any one such call gives a book with a legal order.
 pub fn without_read_only(
     alloc: Global,
@@ -35,33 +33,27 @@ pub fn without_read_only(
     }
 }
 
-/// The book without calls that may go, which are tried one after another: a call is left out if the
+/// The book without read-only calls, which are tried one after another: a call is left out if the
 /// book has no legal order then. Each is tried once, since a call without which the book has a
 /// legal order can't be left out of a part of it either. No book is answered where no call is left
 /// out.
-pub fn without_singles(
-    alloc: Global,
-    kind: Kind,
-    going: Going,
-    book: &Book,
-) -> Result<Option<Smaller>, NoMemory>
+pub fn without_singles(alloc: Global, kind: Kind, book: &Book) -> Result<Option<Smaller>, NoMemory>
     ensures { IfOk result (λ found. IfSome found (λ smaller.
         IsSmaller kind book.now (numbers_in smaller.numbers.items) smaller.book)) }
 {
     let mut found = None;
     for caller in 0..book.callers() {
-        found = without_singles_of(alloc, kind, going, book, found, caller)?;
+        found = without_singles_of(alloc, kind, book, found, caller)?;
     }
     Ok(found)
 }
 
-// The smaller book found before, or else the book, without further calls of this caller that may go
-// and can be left out. The last call is tried first, so that the numbers of those that are still
+// The smaller book found before, or else the book, without further read-only calls of this
+// caller that can be left out. The last call is tried first, so that the numbers of those that are still
 // to be tried stay as they are.
 fn without_singles_of(
     alloc: Global,
     kind: Kind,
-    going: Going,
     book: &Book,
     found: Option<Smaller>,
     caller: u32,
@@ -79,17 +71,16 @@ fn without_singles_of(
             caller,
             number: count - 1 - tried,
         };
-        fewest = without_single_too(alloc, kind, going, book, fewest, call)?;
+        fewest = without_single_too(alloc, kind, book, fewest, call)?;
     }
     Ok(fewest)
 }
 
-// The smaller book found before, or else the book, without this call, where the call may go and it
+// The smaller book found before, or else the book, without this call, where the call is read-only and it
 // has no legal order without the call; else what was found before.
 fn without_single_too(
     alloc: Global,
     kind: Kind,
-    going: Going,
     book: &Book,
     found: Option<Smaller>,
     call: Call,
@@ -100,19 +91,19 @@ fn without_single_too(
         IsSmaller kind book.now (numbers_in smaller.numbers.items) smaller.book)) }
 {
     match found {
-        None => without_single(alloc, kind, going, book, call),
-        Some(smaller) => match without_single(alloc, kind, going, &smaller.book, call)? {
+        None => without_single(alloc, kind, book, call),
+        Some(smaller) => match without_single(alloc, kind, &smaller.book, call)? {
             None => Ok(Some(smaller)),
             Some(next) => Ok(Some(smaller_still(alloc, kind, book, smaller, next)?)),
         },
     }
 }
 
-// The book without this call, where the call may go and the book has no legal order without it.
+// The book without this call, where the call is read-only and the book has no legal order without
+// it.
 fn without_single(
     alloc: Global,
     kind: Kind,
-    going: Going,
     book: &Book,
     call: Call,
 ) -> Result<Option<Smaller>, NoMemory>
@@ -122,41 +113,35 @@ fn without_single(
     if call.caller >= book.callers() || call.number >= book.calls(call.caller) {
         return Ok(None);
     }
-    if goes(kind, going, book, call) {
+    if is_read_only(kind, book, call) {
         without(alloc, kind, book, call)
     } else {
         Ok(None)
     }
 }
 
-/// The book without as many calls that may go as can be left out: of all callers those whose
+/// The book without as many read-only calls as can be left out: of all callers those whose
 /// numbers are in one slice are tried together, and left out where the book has no legal order
 /// without them. Slices are all numbers, then their halves, their quarters, down to single numbers. No book
 /// is answered where no slice can be left out.
-pub fn without_slices(
-    alloc: Global,
-    kind: Kind,
-    going: Going,
-    book: &Book,
-) -> Result<Option<Smaller>, NoMemory>
+pub fn without_slices(alloc: Global, kind: Kind, book: &Book) -> Result<Option<Smaller>, NoMemory>
     ensures { IfOk result (λ found. IfSome found (λ smaller.
         IsSmaller kind book.now (numbers_in smaller.numbers.items) smaller.book)) }
 {
     let mut found = None;
     let mut size = MAX_CALLS;
     while size > 0 {
-        found = without_slices_of(alloc, kind, going, book, found, size)?;
+        found = without_slices_of(alloc, kind, book, found, size)?;
         size /= 2;
     }
     Ok(found)
 }
 
-// The smaller book found before, or else the book, without further calls that may go and can be
+// The smaller book found before, or else the book, without further read-only calls that can be
 // left out: slices of this size are tried one after another.
 fn without_slices_of(
     alloc: Global,
     kind: Kind,
-    going: Going,
     book: &Book,
     found: Option<Smaller>,
     size: u64,
@@ -169,17 +154,16 @@ fn without_slices_of(
 {
     let mut fewest = found;
     for slice in 0..MAX_CALLS / size {
-        fewest = without_slice_too(alloc, kind, going, book, fewest, size, slice)?;
+        fewest = without_slice_too(alloc, kind, book, fewest, size, slice)?;
     }
     Ok(fewest)
 }
 
-// The smaller book found before, or else the book, without the calls of this slice that may go,
+// The smaller book found before, or else the book, without the read-only calls of this slice,
 // where it has fewer calls and no legal order without them; else what was found before.
 fn without_slice_too(
     alloc: Global,
     kind: Kind,
-    going: Going,
     book: &Book,
     found: Option<Smaller>,
     size: u64,
@@ -192,20 +176,19 @@ fn without_slice_too(
         IsSmaller kind book.now (numbers_in smaller.numbers.items) smaller.book)) }
 {
     match found {
-        None => without_slice(alloc, kind, going, book, size, slice),
-        Some(smaller) => match without_slice(alloc, kind, going, &smaller.book, size, slice)? {
+        None => without_slice(alloc, kind, book, size, slice),
+        Some(smaller) => match without_slice(alloc, kind, &smaller.book, size, slice)? {
             None => Ok(Some(smaller)),
             Some(next) => Ok(Some(smaller_still(alloc, kind, book, smaller, next)?)),
         },
     }
 }
 
-// The book without the calls of a slice that may go, where it has fewer calls and no legal order
+// The book without the read-only calls of a slice, where it has fewer calls and no legal order
 // without them.
 fn without_slice(
     alloc: Global,
     kind: Kind,
-    going: Going,
     book: &Book,
     size: u64,
     slice: u64,
@@ -214,109 +197,80 @@ fn without_slice(
     ensures { IfOk result (λ found. IfSome found (λ smaller.
         IsSmaller kind book.now (numbers_in smaller.numbers.items) smaller.book)) }
 {
-    if !has_slice(kind, going, book, size, slice) {
+    if !has_slice(kind, book, size, slice) {
         return Ok(None);
     }
-    let _callers = book.callers();
-    let numbers = numbers_without_slice(alloc, kind, going, book, size, slice)?;
-    let smaller = part(alloc, book, &numbers)?;
-    let _of_part = smaller.callers();
-    if !has_fewer(&smaller, book) {
-        return Ok(None);
-    }
-    if is_illegal(alloc, kind, &smaller)? {
-        Ok(Some(Smaller {
-            book: smaller,
-            numbers,
-        }))
-    } else {
-        Ok(None)
-    }
+    let kept = kept_without_slice(alloc, kind, book, size, slice)?;
+    illegal_part(alloc, kind, book, &kept)
 }
 
-// Whether a book has a call that may go in a slice: one whose number, divided by the size, is the
+// Whether a book has a read-only call in a slice: one whose number, divided by the size, is the
 // slice.
-fn has_slice(kind: Kind, going: Going, book: &Book, size: u64, slice: u64) -> bool
+fn has_slice(kind: Kind, book: &Book, size: u64, slice: u64) -> bool
     requires { 0 < size }
 {
     for caller in 0..book.callers() {
-        if caller_has_slice(kind, going, book, caller, size, slice) {
+        if caller_has_slice(kind, book, caller, size, slice) {
             return true;
         }
     }
     false
 }
 
-// Whether a caller has a call that may go in a slice: one whose number, divided by the size, is the
+// Whether a caller has a read-only call in a slice: one whose number, divided by the size, is the
 // slice.
-fn caller_has_slice(
-    kind: Kind,
-    going: Going,
-    book: &Book,
-    caller: u32,
-    size: u64,
-    slice: u64,
-) -> bool
+fn caller_has_slice(kind: Kind, book: &Book, caller: u32, size: u64, slice: u64) -> bool
     requires caller { caller < length book.now }
     requires size { 0 < size }
 {
     for number in 0..book.calls(caller) {
-        if may_go_of(kind, going, book, Call { caller, number }, size, slice) {
+        if is_in_slice(kind, book, Call { caller, number }, size, slice) {
             return true;
         }
     }
     false
 }
 
-// For each caller the numbers of its calls without those of a slice that may go.
-fn numbers_without_slice(
+// The table that keeps all calls but the read-only ones of a slice.
+fn kept_without_slice(
     alloc: Global,
     kind: Kind,
-    going: Going,
     book: &Book,
     size: u64,
     slice: u64,
-) -> Result<Vec<Vec<u64>>, NoMemory>
+) -> Result<Vec<Vec<bool>>, NoMemory>
     requires { 0 < size }
-    ensures numbers { IfOk result (λ rows. AreNumbersOf book.now (numbers_in rows.items)) }
-    ensures lacks { IfOk result (λ rows.
-        LacksUnseenAlone (kind_next kind) book.now (numbers_in rows.items)) }
 {
-    let mut rows = Vec::new(alloc);
+    let mut kept = Vec::new(alloc);
     for caller in 0..book.callers() {
-        rows.push(numbers_of_caller(alloc, kind, going, book, caller, size, slice)?)?;
+        kept.push(row_without_slice(alloc, kind, book, caller, size, slice)?)?;
     }
-    Ok(rows)
+    Ok(kept)
 }
 
-// The numbers of a caller's calls without those of a slice that may go.
-fn numbers_of_caller(
+// For each call of a caller whether it stays: all stay but the read-only ones of a slice.
+fn row_without_slice(
     alloc: Global,
     kind: Kind,
-    going: Going,
     book: &Book,
     caller: u32,
     size: u64,
     slice: u64,
-) -> Result<Vec<u64>, NoMemory>
+) -> Result<Vec<bool>, NoMemory>
     requires caller { caller < length book.now }
     requires size { 0 < size }
-    ensures { IfOk result (λ numbers. LacksCallsOf (kind_next kind) book.now
-        caller (calls_of book.now caller) numbers.items) }
 {
-    let mut numbers = Vec::new(alloc);
+    let mut row = Vec::new(alloc);
     for number in 0..book.calls(caller) {
-        let out = may_go_of(kind, going, book, Call { caller, number }, size, slice);
-        push_if(&mut numbers, !out, number)?;
+        row.push(!is_in_slice(kind, book, Call { caller, number }, size, slice))?;
     }
-    Ok(numbers)
+    Ok(row)
 }
 
-// Whether a call is in a slice and may go.
-fn may_go_of(kind: Kind, going: Going, book: &Book, call: Call, size: u64, slice: u64) -> bool
+// Whether a call is read-only and in a slice: its number, divided by the size, is the slice.
+fn is_in_slice(kind: Kind, book: &Book, call: Call, size: u64, slice: u64) -> bool
     requires call { IsCall book.now call }
     requires size { 0 < size }
-    ensures { IsTrue result → MayGo (kind_next kind) book.now call }
 {
-    call.number / size == slice && goes(kind, going, book, call)
+    call.number / size == slice && is_read_only(kind, book, call)
 }

@@ -6,12 +6,11 @@ ghost use Rattle.book_base.specs.Book.{calls_of, IsCall};
 ghost use Rattle.seq_objects.specs.Objects.{kind_next};
 ghost use Rattle.smaller_book.specs.Numbers.{numbers_in};
 ghost use Rattle.smaller_book.specs.ReadOnly.{IsReadOnly};
-ghost use Rattle.smaller_book.specs.Unseen.{MayGo};
 ghost use Rattle.smaller_book.specs.Minimal.{numbers_except, row_but, all_but, IsNeeded, IsSmaller};
 
 use crate::judging::is_illegal;
 use crate::numbered::part;
-use crate::unseen_calls::may_go;
+use crate::read_only::is_read_only;
 use book_base::{Book, Call, NoMemory};
 use seq_objects::Kind;
 use std::alloc::Global;
@@ -24,7 +23,7 @@ pub struct Smaller {
     pub numbers: Vec<Vec<u64>>,
 }
 
-/// Leaves out the first call that may go, of the caller `from` or a later one, whose removal leaves
+/// Leaves out the first read-only call, of the caller `from` or a later one, whose removal leaves
 /// a book without a legal order. The answer is that book with the call's caller; or no book, where
 /// the removal of any one of these calls leaves a book with a legal order.
 pub fn without_one(
@@ -49,7 +48,7 @@ pub fn without_one(
     Ok(None)
 }
 
-// The book without one call of a caller that may go, the first whose removal leaves a book without
+// The book without one read-only call of a caller, the first whose removal leaves a book without
 // a legal order. No book is answered where the caller has no such call.
 fn without_one_of(
     alloc: Global,
@@ -65,7 +64,7 @@ fn without_one_of(
         → IsNeeded kind book.now (record { caller = caller; number = number }))) }
 {
     for number in 0..book.calls(caller) {
-        let found = without_if_it_may_go(alloc, kind, book, Call { caller, number })?;
+        let found = without_if_read_only(alloc, kind, book, Call { caller, number })?;
         match found {
             Some(smaller) => return Ok(Some(smaller)),
             None => {}
@@ -74,8 +73,9 @@ fn without_one_of(
     Ok(None)
 }
 
-// The book without this call, where the call may go and the book has no legal order without it.
-fn without_if_it_may_go(
+// The book without this call, where the call is read-only and the book has no legal order without
+// it.
+fn without_if_read_only(
     alloc: Global,
     kind: Kind,
     book: &Book,
@@ -87,14 +87,14 @@ fn without_if_it_may_go(
     ensures none { IfOk result (λ found. IfNone found
         (IsReadOnly (kind_next kind) book.now call → IsNeeded kind book.now call)) }
 {
-    if may_go(kind, book, call) {
+    if is_read_only(kind, book, call) {
         without(alloc, kind, book, call)
     } else {
         Ok(None)
     }
 }
 
-/// The book without this call, which may go, if that smaller book has no legal order.
+/// The book without this call, which is read-only, if that smaller book has no legal order.
 pub fn without(
     alloc: Global,
     kind: Kind,
@@ -102,7 +102,7 @@ pub fn without(
     call: Call,
 ) -> Result<Option<Smaller>, NoMemory>
     requires call { IsCall book.now call }
-    requires goes { MayGo (kind_next kind) book.now call }
+    requires goes { IsReadOnly (kind_next kind) book.now call }
     ensures smaller { IfOk result (λ found. IfSome found (λ smaller.
         IsSmaller kind book.now (numbers_in smaller.numbers.items) smaller.book)) }
     ensures none { IfOk result (λ found. IfNone found

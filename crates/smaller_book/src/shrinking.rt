@@ -13,6 +13,7 @@ ghost use Rattle.smaller_book.specs.Minimal.{IsNeeded, IsKeyNeeded, IsMinimal, I
 
 use crate::composing::{numbers_of_all, numbers_through, smaller_still};
 use crate::cuts::earliest;
+use crate::groups::without_unseen;
 use crate::judging::is_illegal;
 use crate::keyless::without_one_key;
 use crate::read_only_calls::without_read_only;
@@ -25,9 +26,10 @@ use std::alloc::Global;
 /// A part of a book that has no legal order: the part has none either, and is minimal. No part is
 /// answered where the book has a legal order.
 ///
-/// The rules are three: the book at an earlier cut, the book without a call that may go, and the
+/// The rules are three: the book at an earlier cut, the book without calls that may go, and the
 /// book without all calls of one key. Read-only calls may go, answered or not, and calls that set
-/// the value of a register, with or without compare-and-set, where no other call can tell. A key is
+/// the value of a register, with or without compare-and-set, where no call that stays can tell: with
+/// a call that stays, those stay that it may see. A key is
 /// a value of a queue, a stack, a priority queue or a register, or the argument of an operation of
 /// a set or a map. Calls of a queue, a stack or a priority queue go by keys only where each view
 /// holds at most one unanswered call of each caller. Where more than `FEW_CALLS` calls are left,
@@ -118,8 +120,9 @@ fn next_smaller(alloc: Global, kind: Kind, book: &Book) -> Result<Option<Smaller
     }
 }
 
-// The book without the calls of a key that isn't needed, or else without a call that may go and
-// isn't needed. No book is answered where each key and each read-only call is needed.
+// The book without calls that no call which stays can tell, or else without the calls of a key that
+// isn't needed, or else without a read-only call that isn't needed. No book is answered where each
+// key and each read-only call is needed.
 fn without_calls(alloc: Global, kind: Kind, book: &Book) -> Result<Option<Smaller>, NoMemory>
     ensures smaller { IfOk result (λ found. IfSome found (λ smaller.
         IsSmaller kind book.now (numbers_in smaller.numbers.items) smaller.book)) }
@@ -130,6 +133,9 @@ fn without_calls(alloc: Global, kind: Kind, book: &Book) -> Result<Option<Smalle
         → IsCall book.now call → key_of_call kind book.now call ≡ Some key
         → IsKeyNeeded kind book.now key)) }
 {
+    if let Some(smaller) = without_unseen(alloc, kind, book)? {
+        return Ok(Some(smaller));
+    }
     match without_one_key(alloc, kind, book)? {
         Some(smaller) => Ok(Some(smaller)),
         None => without_read_only(alloc, kind, book),

@@ -7,17 +7,16 @@ ghost use Rattle.smaller_book.specs.Minimal.{IsSmaller};
 
 use crate::composing::smaller_still;
 use crate::cuts::{without_later, without_open};
+use crate::groups::without_unseen;
 use crate::keyless::without_halves;
-use crate::read_only_calls::{without_singles, without_slices};
 use crate::removal::Smaller;
-use crate::unseen_calls::Going;
 use book_base::{Book, NoMemory};
 use seq_objects::Kind;
 use std::alloc::Global;
 
-/// A smaller book without a legal order: the latest records go, and then the calls of keys and the
-/// calls that may go and can be left out, many at once and then single ones (after Zeller and
-/// Hildebrandt 2002). No book is answered where nothing can be left out.
+/// A smaller book without a legal order: the latest records go, and then the calls of keys, the
+/// calls that no call which stays can tell, and further records. No book is answered where nothing
+/// can be left out.
 ///
 /// No answered call becomes unanswered while a view holds a later call of its caller: a search for
 /// an order is short where each view holds at most one unanswered call of each caller.
@@ -26,11 +25,40 @@ pub fn thinned(alloc: Global, kind: Kind, book: &Book) -> Result<Option<Smaller>
     ensures { IfOk result (λ found. IfSome found (λ smaller.
         IsSmaller kind book.now (numbers_in smaller.numbers.items) smaller.book)) }
 {
+    match without_unseen_first(alloc, kind, book)? {
+        None => thinned_by_all(alloc, kind, book),
+        Some(smaller) => match thinned_by_all(alloc, kind, &smaller.book)? {
+            None => Ok(Some(smaller)),
+            Some(next) => Ok(Some(smaller_still(alloc, kind, book, smaller, next)?)),
+        },
+    }
+}
+
+// The book of a register without the calls that no call which stays can tell. They go before any
+// record does, since each record that goes leaves an unanswered call, and an unanswered
+// compare-and-set may see each value.
+fn without_unseen_first(alloc: Global, kind: Kind, book: &Book) -> Result<Option<Smaller>, NoMemory>
+    ensures { IfOk result (λ found. IfSome found (λ smaller.
+        IsSmaller kind book.now (numbers_in smaller.numbers.items) smaller.book)) }
+{
+    match kind {
+        Kind::Register | Kind::CasRegister => without_unseen(alloc, kind, book),
+        Kind::Queue | Kind::Stack | Kind::Pqueue => Ok(None),
+        Kind::IntSet | Kind::Map | Kind::Counter => Ok(None),
+    }
+}
+
+// The book without its latest records, and then without calls of keys, calls that no call which
+// stays can tell, and further records.
+fn thinned_by_all(alloc: Global, kind: Kind, book: &Book) -> Result<Option<Smaller>, NoMemory>
+    requires { ¬ HasLegalOrder (kind_spec kind) book.now }
+    ensures { IfOk result (λ found. IfSome found (λ smaller.
+        IsSmaller kind book.now (numbers_in smaller.numbers.items) smaller.book)) }
+{
     let early = without_later(alloc, kind, book)?;
     let keyless = without_halves_too(alloc, kind, book, early)?;
-    let sliced = without_slices_too(alloc, kind, book, keyless)?;
-    let thin = without_singles_too(alloc, kind, book, sliced)?;
-    let open = without_open_too(alloc, kind, book, thin)?;
+    let seen = without_unseen_too(alloc, kind, book, keyless)?;
+    let open = without_open_too(alloc, kind, book, seen)?;
     without_halves_too(alloc, kind, book, open)
 }
 
@@ -56,9 +84,9 @@ fn without_halves_too(
     }
 }
 
-// The smaller book found before, or else the book, without the calls that may go and can be left
-// out, slice after slice; where none can, what was found before.
-fn without_slices_too(
+// The smaller book found before, or else the book, without the calls that no call which stays can
+// tell; where all stay, what was found before.
+fn without_unseen_too(
     alloc: Global,
     kind: Kind,
     book: &Book,
@@ -70,30 +98,8 @@ fn without_slices_too(
         IsSmaller kind book.now (numbers_in smaller.numbers.items) smaller.book)) }
 {
     match found {
-        None => without_slices(alloc, kind, Going::Unseen, book),
-        Some(smaller) => match without_slices(alloc, kind, Going::Unseen, &smaller.book)? {
-            None => Ok(Some(smaller)),
-            Some(next) => Ok(Some(smaller_still(alloc, kind, book, smaller, next)?)),
-        },
-    }
-}
-
-// The smaller book found before, or else the book, without the single calls that may go and can be
-// left out; where none can, what was found before.
-fn without_singles_too(
-    alloc: Global,
-    kind: Kind,
-    book: &Book,
-    found: Option<Smaller>,
-) -> Result<Option<Smaller>, NoMemory>
-    requires { IfSome found (λ smaller.
-        IsSmaller kind book.now (numbers_in smaller.numbers.items) smaller.book) }
-    ensures { IfOk result (λ found. IfSome found (λ smaller.
-        IsSmaller kind book.now (numbers_in smaller.numbers.items) smaller.book)) }
-{
-    match found {
-        None => without_singles(alloc, kind, Going::Unseen, book),
-        Some(smaller) => match without_singles(alloc, kind, Going::Unseen, &smaller.book)? {
+        None => without_unseen(alloc, kind, book),
+        Some(smaller) => match without_unseen(alloc, kind, &smaller.book)? {
             None => Ok(Some(smaller)),
             Some(next) => Ok(Some(smaller_still(alloc, kind, book, smaller, next)?)),
         },

@@ -1,13 +1,14 @@
-//! Calls that set the value of a register and that no other call of the book can tell.
-ghost use Rattle.std.specs.Prelude.{◌≡◌, ◌≢◌, ℕ, ◌<◌, ◌≤◌, List, [], ◌∷◌, length, Some, IfSome, IsTrue, unwrap_or};
+//! Calls that set the value of a register and that no call which stays can tell.
+ghost use Rattle.std.specs.Prelude.{◌≡◌, ◌≢◌, ℕ, ◌<◌, ◌≤◌, ◌⊎◌, ◌↔◌, List, [], ◌∷◌, length, slice_index, Some, IfSome, IsTrue, unwrap_or};
 ghost use Rattle.book_base.specs.declared.call.Call.{Call};
 ghost use Rattle.book_base.specs.declared.call.Record.{Record};
 ghost use Rattle.book_base.specs.Book.{IsCall, IsAnswered, Precedes, calls_of, operation_of, record_of};
 ghost use Rattle.seq_objects.specs.Objects.{kind_next};
 ghost use Rattle.seq_objects.specs.Replies.{reply_done};
-ghost use Rattle.smaller_book.specs.ReadOnly.{IsReadOnly};
-ghost use Rattle.smaller_book.specs.declared.unseen_calls.Going.{Going};
-ghost use Rattle.smaller_book.specs.Unseen.{Sets, IsBlind, IsOverwritten, CannotSee, IsUnseenBy, MayGo};
+ghost use Rattle.smaller_book.specs.Part.{IsNamed};
+ghost use Rattle.smaller_book.specs.Numbers.{numbers_in, AreNumbersOf};
+ghost use Rattle.smaller_book.specs.ReadOnly.{IsReadOnly, LacksReadOnlyAlone};
+ghost use Rattle.smaller_book.specs.Unseen.{Sets, IsBlind, IsOverwritten, CannotSee, IsUnseenBy, LacksUnseenAlone};
 
 use crate::keys::reply_of;
 use crate::read_only::is_read_only;
@@ -17,150 +18,134 @@ use seq_objects::{CasRegisterOperation, Kind, NO, RegisterOperation, YES, wrappi
 /// How many values a register can have: those below 2^32.
 const VALUES: u64 = 1 << 32;
 
-/// Which calls go.
-#[derive(Clone, Copy, Debug, PartialEq, Eq)]
-pub enum Going {
-    /// Read-only calls.
-    ReadOnly,
-    /// Read-only calls, and those that set a value and that no other call can tell.
-    Unseen,
-}
-
-/// Whether a call is one of those that go.
-pub fn goes(kind: Kind, going: Going, book: &Book, call: Call) -> bool
-    // The call is one of the book.
-    requires { IsCall book.now call }
-    ensures goes { IsTrue result → MayGo (kind_next kind) book.now call }
-    ensures read_only { going ≡ Going.ReadOnly → IsTrue result
-        → IsReadOnly (kind_next kind) book.now call }
+/// Whether each call of a book whose number isn't among these is read-only, or sets a register's
+/// value and no call among them can tell.
+pub fn lacks_unseen_alone(kind: Kind, book: &Book, numbers: &[Vec<u64>]) -> bool
+    // The numbers are rising numbers of calls of the book, a list for each caller.
+    requires { AreNumbersOf book.now (numbers_in numbers.now) }
+    ensures unseen { IsTrue result
+        → LacksUnseenAlone (kind_next kind) book.now (numbers_in numbers.now) }
+    ensures read_only { LacksReadOnlyAlone (kind_next kind) book.now (numbers_in numbers.now)
+        → IsTrue result }
 {
-    match going {
-        Going::ReadOnly => is_read_only(kind, book, call),
-        Going::Unseen => may_go(kind, book, call),
-    }
-}
-
-/// Whether a call may be left out of a book: it is read-only, or sets a register's value and no
-/// other call can tell.
-pub fn may_go(kind: Kind, book: &Book, call: Call) -> bool
-    // The call is one of the book.
-    requires { IsCall book.now call }
-    ensures goes { IsTrue result → MayGo (kind_next kind) book.now call }
-    ensures read_only { IsReadOnly (kind_next kind) book.now call → IsTrue result }
-{
-    is_read_only(kind, book, call) || is_unseen(kind, book, call)
-}
-
-// Whether a call sets a value, and no other call of the book can tell.
-fn is_unseen(kind: Kind, book: &Book, call: Call) -> bool
-    requires { IsCall book.now call }
-    ensures { IsTrue result
-        → IsUnseenBy (kind_next kind) book.now (λ other. ¬ (other ≡ call)) call }
-{
-    match value_set(kind, book, call) {
-        None => false,
-        Some(value) => no_other_sees(kind, book, call, value),
-    }
-}
-
-// Whether no other call of the book can tell that a call has set a value. That the value is
-// overwritten counts only where a further call sets it too: so one call stays that sets a value
-// which a read shows.
-fn no_other_sees(kind: Kind, book: &Book, setting: Call, value: u64) -> bool
-    requires { IsCall book.now setting }
-    ensures { IsTrue result → (seer : Call) → IsCall book.now seer → ¬ (seer ≡ setting)
-        → CannotSee (kind_next kind) book.now setting (value ∷ []) seer }
-{
-    let again = is_set_again(kind, book, setting, value);
     for caller in 0..book.callers() {
-        if !none_of_sees(kind, book, setting, value, again, caller) {
+        if !caller_lacks_unseen_alone(kind, book, numbers, caller) {
             return false;
         }
     }
     true
 }
 
-// Whether a later call of a call's caller, or a call of a later caller, sets the same value.
-fn is_set_again(kind: Kind, book: &Book, setting: Call, value: u64) -> bool
-    requires { IsCall book.now setting }
-{
-    for caller in setting.caller..book.callers() {
-        if is_set_again_by(kind, book, setting, value, caller) {
-            return true;
-        }
-    }
-    false
-}
-
-// Whether a call of a caller sets the same value; of the caller's own calls a later one.
-fn is_set_again_by(kind: Kind, book: &Book, setting: Call, value: u64, caller: u32) -> bool
-    requires setting { IsCall book.now setting }
+// Whether each call of a caller whose number isn't among these is read-only, or sets a value and no
+// call among them can tell.
+fn caller_lacks_unseen_alone(kind: Kind, book: &Book, numbers: &[Vec<u64>], caller: u32) -> bool
+    requires numbers { AreNumbersOf book.now (numbers_in numbers.now) }
     requires caller { caller < length book.now }
+    ensures unseen { IsTrue result → (number : ℕ) → number < calls_of book.now caller
+        → ¬ IsNamed (numbers_in numbers.now) (record { caller = caller; number = number })
+        → IsReadOnly (kind_next kind) book.now (record { caller = caller; number = number })
+        ⊎ IsUnseenBy (kind_next kind) book.now (IsNamed (numbers_in numbers.now))
+        (record { caller = caller; number = number }) }
+    ensures read_only { LacksReadOnlyAlone (kind_next kind) book.now (numbers_in numbers.now)
+        → IsTrue result }
 {
     for number in 0..book.calls(caller) {
-        let is_later = caller != setting.caller || number > setting.number;
-        if is_later && sets(kind, book, Call { caller, number }, value) {
-            return true;
+        if !may_be_lacking(kind, book, numbers, Call { caller, number }) {
+            return false;
         }
     }
-    false
+    true
 }
 
-// Whether a call sets this value.
-fn sets(kind: Kind, book: &Book, call: Call, value: u64) -> bool
-    requires { IsCall book.now call }
+// Whether a call's number is among these, or the call is read-only, or it sets a value and no call
+// among them can tell.
+fn may_be_lacking(kind: Kind, book: &Book, numbers: &[Vec<u64>], call: Call) -> bool
+    requires numbers { AreNumbersOf book.now (numbers_in numbers.now) }
+    requires call { IsCall book.now call }
+    ensures unseen { IsTrue result → ¬ IsNamed (numbers_in numbers.now) call
+        → IsReadOnly (kind_next kind) book.now call
+        ⊎ IsUnseenBy (kind_next kind) book.now (IsNamed (numbers_in numbers.now)) call }
+    ensures read_only { (¬ IsNamed (numbers_in numbers.now) call
+        → IsReadOnly (kind_next kind) book.now call) → IsTrue result }
+{
+    is_among(numbers, call)
+        || is_read_only(kind, book, call)
+        || is_unseen(kind, book, numbers, call)
+}
+
+// Whether a call's number is among these.
+fn is_among(numbers: &[Vec<u64>], call: Call) -> bool
+    requires { call.caller < length numbers.now }
+    ensures { IsTrue result ↔ IsNamed (numbers_in numbers.now) call }
+{
+    numbers[call.caller as usize].contains(&call.number)
+}
+
+// Whether a call sets a value, and no call whose number is among these can tell.
+fn is_unseen(kind: Kind, book: &Book, numbers: &[Vec<u64>], call: Call) -> bool
+    requires numbers { AreNumbersOf book.now (numbers_in numbers.now) }
+    requires call { IsCall book.now call }
+    ensures { IsTrue result → IsUnseenBy (kind_next kind) book.now
+        (IsNamed (numbers_in numbers.now)) call }
 {
     match value_set(kind, book, call) {
         None => false,
-        Some(set) => set == value,
+        Some(value) => none_sees(kind, book, numbers, call, value),
     }
 }
 
-// Whether no other call of a caller can tell that a call has set a value.
+// Whether no call whose number is among these can tell that a call has set a value.
+fn none_sees(kind: Kind, book: &Book, numbers: &[Vec<u64>], setting: Call, value: u64) -> bool
+    requires numbers { AreNumbersOf book.now (numbers_in numbers.now) }
+    requires setting { IsCall book.now setting }
+    ensures { IsTrue result → (seer : Call) → IsCall book.now seer
+        → IsNamed (numbers_in numbers.now) seer
+        → CannotSee (kind_next kind) book.now setting (value ∷ []) seer }
+{
+    for caller in 0..book.callers() {
+        if !none_of_sees(
+            kind,
+            book,
+            &numbers[caller as usize],
+            setting,
+            value,
+            caller,
+        ) {
+            return false;
+        }
+    }
+    true
+}
+
+// Whether no call of a caller with one of these numbers can tell that a call has set a value.
 fn none_of_sees(
     kind: Kind,
     book: &Book,
+    numbers: &[u64],
     setting: Call,
     value: u64,
-    again: bool,
     caller: u32,
 ) -> bool
     requires setting { IsCall book.now setting }
     requires caller { caller < length book.now }
-    ensures { IsTrue result → (number : ℕ) → number < calls_of book.now caller
-        → ¬ (record { caller = caller; number = number } ≡ setting)
+    requires inside { (k : ℕ) → k < length numbers.now
+        → slice_index numbers.now k < calls_of book.now caller }
+    ensures { IsTrue result → (k : ℕ) → k < length numbers.now
         → CannotSee (kind_next kind) book.now setting (value ∷ [])
-        (record { caller = caller; number = number }) }
+        (record { caller = caller; number = slice_index numbers.now k }) }
 {
-    let until = seen_until(kind, book, setting, again, caller);
-    for number in 0..until {
-        let seer = Call { caller, number };
-        if !sees_nothing(kind, book, setting, value, seer) {
+    let until = overwritten_from(kind, book, setting, caller);
+    for place in 0..numbers.len() {
+        let number = numbers[place];
+        if number < until && !cannot_see(kind, book, setting, value, Call { caller, number }) {
             return false;
         }
     }
     true
 }
 
-// A number from which on the calls of a caller come after one that overwrites what a call sets; the
-// count of its calls, where the value isn't set again.
-fn seen_until(kind: Kind, book: &Book, setting: Call, again: bool, caller: u32) -> u64
-    requires setting { IsCall book.now setting }
-    requires caller { caller < length book.now }
-    ensures few { result ≤ calls_of book.now caller }
-    ensures overwritten { (number : ℕ) → result ≤ number → number < calls_of book.now caller
-        → IsOverwritten (kind_next kind) book.now setting
-        (record { caller = caller; number = number }) }
-{
-    if again {
-        overwritten_from(kind, book, setting, caller)
-    } else {
-        book.calls(caller)
-    }
-}
-
-// The number from which on the calls of a caller come after one that overwrites what a call sets.
-fn overwritten_from(kind: Kind, book: &Book, setting: Call, caller: u32) -> u64
+/// The number from which on the calls of a caller come after one that overwrites what a call sets.
+pub fn overwritten_from(kind: Kind, book: &Book, setting: Call, caller: u32) -> u64
     requires setting { IsCall book.now setting }
     requires caller { caller < length book.now }
     ensures few { result ≤ calls_of book.now caller }
@@ -220,29 +205,19 @@ fn overwriting(kind: Kind, book: &Book, setting: Call, caller: u32) -> Option<Ca
     None
 }
 
-// Whether a call is the one that sets a value, or can't tell that it has.
-fn sees_nothing(kind: Kind, book: &Book, setting: Call, value: u64, seer: Call) -> bool
-    requires setting { IsCall book.now setting }
-    requires seer { IsCall book.now seer }
-    ensures { IsTrue result → ¬ (seer ≡ setting)
-        → CannotSee (kind_next kind) book.now setting (value ∷ []) seer }
-{
-    seer == setting || cannot_see(kind, book, setting, value, seer)
-}
-
-// Whether a call can't tell that another one has set a value.
-fn cannot_see(kind: Kind, book: &Book, setting: Call, value: u64, seer: Call) -> bool
+/// Whether a call can't tell that another one has set a value.
+pub fn cannot_see(kind: Kind, book: &Book, setting: Call, value: u64, seer: Call) -> bool
     requires setting { IsCall book.now setting }
     requires seer { IsCall book.now seer }
     ensures { IsTrue result → CannotSee (kind_next kind) book.now setting (value ∷ []) seer }
 {
-    book.precedes(seer, setting)
-        || is_blind(kind, book, seer)
+    is_blind(kind, book, seer)
         || replies_otherwise(kind, book, value, seer)
+        || book.precedes(seer, setting)
 }
 
-// The value that a call sets, whatever the value was before.
-fn value_set(kind: Kind, book: &Book, call: Call) -> Option<u64>
+/// The value that a call sets, whatever the value was before.
+pub fn value_set(kind: Kind, book: &Book, call: Call) -> Option<u64>
     requires { IsCall book.now call }
     ensures { IfSome result (λ value. Sets (kind_next kind) book.now call (value ∷ [])) }
 {
@@ -257,8 +232,8 @@ fn value_set(kind: Kind, book: &Book, call: Call) -> Option<u64>
     }
 }
 
-// Whether a call gets the same reply and leaves the same value, whatever the value was before.
-fn is_blind(kind: Kind, book: &Book, call: Call) -> bool
+/// Whether a call gets the same reply and leaves the same value, whatever the value was before.
+pub fn is_blind(kind: Kind, book: &Book, call: Call) -> bool
     requires { IsCall book.now call }
     ensures { IsTrue result → IsBlind (kind_next kind) book.now call }
 {

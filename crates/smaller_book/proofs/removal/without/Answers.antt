@@ -1,14 +1,13 @@
-use Rattle.std.proofs.Common.{List, sym, subst}
+use Rattle.std.proofs.Common.{List, sym, subst, inl}
 use Rattle.book_base.specs.Book.{Page, IsCall}
 use Rattle.seq_objects.specs.Objects.{kind_next}
 use Rattle.smaller_book.specs.Part.{IsPart, KeepsAnswers}
 use Rattle.smaller_book.specs.Numbers.{numbers_in, AreNumbersOf}
-use Rattle.smaller_book.specs.Unseen.{MayGo}
+use Rattle.smaller_book.specs.ReadOnly.{IsReadOnly}
 use Rattle.smaller_book.specs.Evidence.{IsEvidence}
 use Rattle.smaller_book.specs.Minimal.{all_but}
 use Rattle.smaller_book.proofs.Removing.{all_but_are_numbers, lacks_one, size-less}
 use Rattle.smaller_book.proofs.Steps.{unseen_evidence}
-use Rattle.smaller_book.proofs.Unseen.{unseen_by_named}
 use Rattle.smaller_book.proofs.removal.without.Goals as goal
 
 pub all_numbers_but-requires : goal.all_numbers_but-requires
@@ -47,9 +46,8 @@ returns-then-branch-clause-smaller c =
             is_part = but;
             answers = answers;
             unseen = λ other there unnamed.
-                unseen_by_named (kind_next c.args.kind) book (all_but book call) other unnamed
-                (lacks_one (MayGo (kind_next c.args.kind) book) book call inside c.requires.goes
-                other there unnamed);
+                inl (lacks_one (IsReadOnly (kind_next c.args.kind) book) book call inside
+                c.requires.goes other there unnamed);
           }));
       illegal = c.in_ok-is_illegal.ensures.illegal c.if-branch.true;
       fewer = size-less book call small inside but;

@@ -11,5 +11,5 @@ returns-in-Some c unseen = record {
       (λ found. IfSome found
       (λ value. Sets (kind_next c.args.kind) c.args.book.now c.args.call (value ∷ [])))
       c.in-Some.is c.value_set.ensures;
-  unseen = c.no_other_sees.ensures unseen;
+  unseen = c.none_sees.ensures unseen;
 }
