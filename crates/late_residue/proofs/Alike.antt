@@ -1,6 +1,6 @@
 -- Configurations that are alike.
-use Rattle.std.proofs.Common.{◌≡◌, ℕ, ◌∙◌, List, ◌∷◌, sym, ap, subst, inl, inr}
-use Rattle.streams.specs.StreamOrder.{StreamPlace, IsAmong}
+use Rattle.std.proofs.Common.{◌≡◌, ℕ, ◌∙◌, List, ◌∷◌, sym, inl, inr}
+use Rattle.streams.specs.StreamOrder.{StreamPlace}
 use Rattle.residue_laws.specs.Residue.{Configuration}
 use Rattle.residue_laws.specs.Step.{AreAlike}
 use Rattle.residue_laws.proofs.Placing.{among-cons, among-first, among-later}

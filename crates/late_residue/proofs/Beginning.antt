@@ -1,13 +1,11 @@
 -- The late residue of the empty stream.
-use Rattle.std.proofs.Common.{◌≡◌, ◌∙◌, ℕ, List, [], ◌∷◌, refl, sym, ap, subst, inl, inr}
+use Rattle.std.proofs.Common.{[], ◌∷◌, refl, sym, subst, inl, inr}
 use Rattle.book_base.specs.SeqSpec.{SeqSpec}
-use Rattle.residue_laws.specs.Residue.{Configuration, IsInResidue}
-use Rattle.residue_laws.specs.Step.{AreAlike}
+use Rattle.residue_laws.specs.Residue.{IsInResidue}
 use Rattle.residue_laws.proofs.Events.{alike_itself}
 use Rattle.residue_laws.proofs.Placing.{nothing_among}
 use Rattle.residue_laws.proofs.Stepping.{empty_residue}
 use Rattle.late_residue.specs.Description.{Description}
-use Rattle.late_residue.specs.Meaning.{Means}
 use Rattle.late_residue.specs.Placing.{IsSound}
 use Rattle.late_residue.specs.LateOnes.{AreLate}
 use Rattle.late_residue.proofs.Items.{has-cons, has-none}

@@ -2,11 +2,11 @@
 use Rattle.std.proofs.Common.{◌≡◌, ◌⊎◌, ℕ, ◌∙◌, List, [], ◌∷◌, ◌++◌, refl, sym, ap, subst, inl, inr, slice_get}
 use Rattle.book_base.specs.SeqSpec.{SeqSpec}
 use Rattle.streams.specs.Stream.{StreamEvent, Called, Lost, IsValidStream, HasReturned}
-use Rattle.streams.specs.StreamOrder.{StreamPlace, word_of_event, IsAmong, HasLegalStreamOrder}
+use Rattle.streams.specs.StreamOrder.{StreamPlace, word_of_event, HasLegalStreamOrder}
 use Rattle.streams.proofs.Returning.{get-longer}
 use Rattle.streams.proofs.Pushing.{NoneReturns, no_return-called, no_return-lost}
 use Rattle.residue_laws.specs.Residue.{Configuration, IsInResidue}
-use Rattle.residue_laws.specs.Step.{AreAlike, MayPlace, with_place, ArePlaced}
+use Rattle.residue_laws.specs.Step.{AreAlike, with_place, ArePlaced}
 use Rattle.residue_laws.proofs.Appending.{word-longer}
 use Rattle.residue_laws.proofs.Events.{alike_itself}
 use Rattle.residue_laws.proofs.Stepping.{residues_step}
@@ -14,8 +14,7 @@ use Rattle.late_residue.specs.declared.open_call.OpenCall.{OpenCall}
 use Rattle.late_residue.specs.Description.{Description}
 use Rattle.late_residue.specs.Reached.{Has}
 use Rattle.late_residue.specs.Known.{IsKnownPlace, AgreesWithKnown}
-use Rattle.late_residue.specs.Placing.{IsSound}
-use Rattle.late_residue.specs.LateOnes.{AreLedTo, AreLate}
+use Rattle.late_residue.specs.LateOnes.{AreLate}
 use Rattle.late_residue.proofs.Alike.{alike-on, alike-cons}
 use Rattle.late_residue.proofs.Meanings.{least, means_least, sound_for}
 use Rattle.late_residue.proofs.KnownReplies.{agree-before}

@@ -1,5 +1,5 @@
 -- Descriptions that are taken before a return.
-use Rattle.std.proofs.Common.{◌≡◌, ◌⊎◌, ℕ, suc, ◌∙◌, ◌+◌, ◌<◌, List, [], ◌∷◌, ◌++◌, length, Some, slice_get, refl, sym, ap, subst, inl, inr, arith, get_or}
+use Rattle.std.proofs.Common.{◌≡◌, ◌⊎◌, ℕ, Bool, suc, ◌∙◌, ◌+◌, ◌<◌, List, [], ◌∷◌, ◌++◌, length, Some, slice_get, refl, sym, ap, subst, inl, inr, arith, get_or}
 use Rattle.std.proofs.lemmas.Bool.{cases_lt}
 use Rattle.std.proofs.lemmas.Option.{get_or_from_slice_get, slice_get-get_or, same_Some, slice_get_within}
 use Rattle.list_laws.proofs.Prefixes.{slice_get-append_within}
@@ -13,11 +13,10 @@ use Rattle.late_residue.specs.declared.open_call.OpenCall.{OpenCall}
 use Rattle.late_residue.specs.Description.{Description}
 use Rattle.late_residue.specs.declared.reached.Reached.{Reached}
 use Rattle.late_residue.specs.Reached.{Has, Grows, description_of, descriptions_of}
-use Rattle.late_residue.specs.Meaning.{AreOnce, Means, AreMeant, Serves}
-use Rattle.late_residue.specs.Placing.{AreOf, IsPlacedAt, IsWithoutCall, MayBePlaced, IsSound, AreSound, IsLeftBy, IsHandled, IsTaken, LeadsOn, with_call}
+use Rattle.late_residue.specs.Meaning.{Means, AreMeant, Serves}
+use Rattle.late_residue.specs.Placing.{AreOf, IsWithoutCall, MayBePlaced, IsSound, AreSound, IsLeftBy, IsHandled, IsTaken, Hides, LeadsTo, LeadsOn, with_call}
 use Rattle.late_residue.specs.LateOnes.{AreOpen, AreReached, AreAdded, AreApart}
-use Rattle.late_residue.proofs.Items.{has-left, has-cases, has-cons, has-none, map-at, map-from, grows-has, grows-not, grows-on}
-use Rattle.late_residue.proofs.Meanings.{names}
+use Rattle.late_residue.proofs.Items.{has-cases, has-cons, has-none, map-at, map-from, grows-has, grows-not, grows-on}
 use Rattle.late_residue.proofs.Leaving.{MayReturn, left_means, left_lacking, left_sound}
 
 pub meant-grows : (ones new : List Description) → Grows ones new → (at : Configuration)
@@ -37,15 +36,30 @@ handled-more next returning reply ones left new after grows stays at handled = r
   ];
 }
 
-pub leads-more : (next : List ℕ → ℕ → List ℕ × ℕ) (calls : List OpenCall) (returning : OpenCall)
-    (reply : ℕ) (ones left new after : List Description) (number : ℕ) → Grows ones new
+-- what leads on does so where more is meant
+pub to-more : (next : List ℕ → ℕ → List ℕ × ℕ) (writes : ℕ → Bool) (calls : List OpenCall)
+    (returning : OpenCall) (reply : ℕ) (ones left new after : List Description) → Grows ones new
     → ((at : Configuration) → AreMeant left at → AreMeant after at) → (one : Description)
-    → LeadsOn next calls returning reply ones left number one
-    → LeadsOn next calls returning reply new after number one
-leads-more next calls returning reply ones left new after number grows stays one leads at means j
-    call less is may =
-    handled-more next returning reply ones left new after grows stays (with_call next at call)
-    (leads at means j call less is may)
+    (at : Configuration) (call : OpenCall)
+    → LeadsTo next writes calls returning reply ones left one at call
+    → LeadsTo next writes calls returning reply new after one at call
+to-more next writes calls returning reply ones left new after grows stays one at call leads =
+    elim leads [
+      | inl handled ↦ inl (handled-more next returning reply ones left new after grows stays
+          (with_call next at call) handled)
+      | inr hidden ↦ inr hidden
+    ]
+
+pub leads-more : (next : List ℕ → ℕ → List ℕ × ℕ) (writes : ℕ → Bool) (calls : List OpenCall)
+    (returning : OpenCall) (reply : ℕ) (ones left new after : List Description) (number : ℕ)
+    → Grows ones new
+    → ((at : Configuration) → AreMeant left at → AreMeant after at) → (one : Description)
+    → LeadsOn next writes calls returning reply ones left number one
+    → LeadsOn next writes calls returning reply new after number one
+leads-more next writes calls returning reply ones left new after number grows stays one leads at
+    covered j call less is may =
+    to-more next writes calls returning reply ones left new after grows stays one at call
+    (leads at covered j call less is may)
 
 module _ (spec : SeqSpec) (calls : List OpenCall) (returning : OpenCall) (reply : ℕ) where
   pub added_none : (given ones left : List Description)
@@ -211,32 +225,33 @@ taken_put next returning reply one ones left not neither put at means = record {
 not_below_zero : (j : ℕ) → j < 0 → ⊥
 not_below_zero j less = omega (arith, less)
 
-pub leads_none : (next : List ℕ → ℕ → List ℕ × ℕ) (calls : List OpenCall) (returning : OpenCall)
-    (reply : ℕ) (ones left : List Description) (one : Description)
-    → LeadsOn next calls returning reply ones left 0 one
-leads_none next calls returning reply ones left one at means j call less =
+pub leads_none : (next : List ℕ → ℕ → List ℕ × ℕ) (writes : ℕ → Bool) (calls : List OpenCall)
+    (returning : OpenCall) (reply : ℕ) (ones left : List Description) (one : Description)
+    → LeadsOn next writes calls returning reply ones left 0 one
+leads_none next writes calls returning reply ones left one at covered j call less =
     absurd (not_below_zero j less)
 
 -- what the open calls at the places below the next one lead to
-pub leads_next : (next : List ℕ → ℕ → List ℕ × ℕ) (calls : List OpenCall) (returning : OpenCall)
-    (reply : ℕ) (ones left new after : List Description) (one : Description) (index : ℕ)
-    (d : OpenCall) → Grows ones new
+pub leads_next : (next : List ℕ → ℕ → List ℕ × ℕ) (writes : ℕ → Bool) (calls : List OpenCall)
+    (returning : OpenCall) (reply : ℕ) (ones left new after : List Description) (one : Description)
+    (index : ℕ) (d : OpenCall) → Grows ones new
     → ((at : Configuration) → AreMeant left at → AreMeant after at)
-    → LeadsOn next calls returning reply ones left index one
-    → ((at : Configuration) → Means one at → MayBePlaced next calls at (get_or calls index d)
-    → IsHandled next returning reply new after (with_call next at (get_or calls index d)))
-    → LeadsOn next calls returning reply new after (index + 1) one
-leads_next next calls returning reply ones left new after one index d grows stays leads here at
-    means j call less is may = elim (cases_lt j index) [
-      | inl earlier ↦ handled-more next returning reply ones left new after grows stays
-          (with_call next at call) (leads at means j call earlier is may)
+    → LeadsOn next writes calls returning reply ones left index one
+    → ((at : Configuration) → Means one at ⊎ Hides next writes calls one at
+    → MayBePlaced next calls at (get_or calls index d)
+    → LeadsTo next writes calls returning reply new after one at (get_or calls index d))
+    → LeadsOn next writes calls returning reply new after (index + 1) one
+leads_next next writes calls returning reply ones left new after one index d grows stays leads here
+    at covered j call less is may = elim (cases_lt j index) [
+      | inl earlier ↦ to-more next writes calls returning reply ones left new after grows stays one at
+          call (leads at covered j call earlier is may)
       | inr later ↦
           let same : j ≡ index = omega (arith, less, later) in
           let there : slice_get calls index ≡ Some call =
           subst (λ (i : ℕ). slice_get calls i ≡ Some call) same is in
           let item : get_or calls index d ≡ call = get_or_from_slice_get calls index call d there in
           subst (λ (o : OpenCall). MayBePlaced next calls at o
-          → IsHandled next returning reply new after (with_call next at o)) item (here at means) may
+          → LeadsTo next writes calls returning reply new after one at o) item (here at covered) may
     ]
 
 -- one more that no description before it serves for
@@ -304,19 +319,19 @@ all_of_one property calls one sound other has = elim (has-cons one [] other has)
 ]
 
 -- the descriptions below the next place are closed in a list that grew
-pub closed_old : (next : List ℕ → ℕ → List ℕ × ℕ) (calls : List OpenCall) (returning : OpenCall)
-    (reply : ℕ) (ones left new after : List Description) (k : ℕ) → Grows ones new
+pub closed_old : (next : List ℕ → ℕ → List ℕ × ℕ) (writes : ℕ → Bool) (calls : List OpenCall)
+    (returning : OpenCall) (reply : ℕ) (ones left new after : List Description) (k : ℕ) → Grows ones new
     → ((at : Configuration) → AreMeant left at → AreMeant after at) → k < length ones
     → ((j : ℕ) (one : Description) → j < k → slice_get ones j ≡ Some one
-    → LeadsOn next calls returning reply ones left (length calls) one)
+    → LeadsOn next writes calls returning reply ones left (length calls) one)
     → ((one : Description) → slice_get ones k ≡ Some one
-    → LeadsOn next calls returning reply new after (length calls) one)
+    → LeadsOn next writes calls returning reply new after (length calls) one)
     → (j : ℕ) (one : Description) → j < k + 1 → slice_get new j ≡ Some one
-    → LeadsOn next calls returning reply new after (length calls) one
-closed_old next calls returning reply ones left new after k grows stays within leads here =
-    below_next (λ (d : Description). LeadsOn next calls returning reply new after (length calls) d)
+    → LeadsOn next writes calls returning reply new after (length calls) one
+closed_old next writes calls returning reply ones left new after k grows stays within leads here =
+    below_next (λ (d : Description). LeadsOn next writes calls returning reply new after (length calls) d)
     new k
-    (λ j one less is. leads-more next calls returning reply ones left new after (length calls) grows
+    (λ j one less is. leads-more next writes calls returning reply ones left new after (length calls) grows
     stays one (leads j one less (old j one (before j less) is)))
     (λ one is. here one (old k one within is))
   where

@@ -1,12 +1,12 @@
 -- Items of lists.
-use Rattle.std.proofs.Common.{◌≡◌, ◌≢◌, ◌⊎◌, ℕ, zero, suc, ◌+◌, Bool, true, false, not, ◌&&◌, ◌==◌, List, [], ◌∷◌, ◌++◌, map, length, Option, Some, None, IfSome, IfNone, Result, Ok, Err, OnOk, slice_get, slice_set, refl, sym, ap, subst, ◌∙◌, inl, inr, arith, if◌then◌else◌, append_assoc, append-nil}
+use Rattle.std.proofs.Common.{◌≡◌, ◌≢◌, ◌⊎◌, ℕ, zero, suc, ◌+◌, Bool, true, false, ◌&&◌, ◌==◌, List, [], ◌∷◌, ◌++◌, map, length, Option, Some, None, IfSome, IfNone, Result, Ok, Err, OnOk, slice_get, slice_set, refl, sym, ap, subst, ◌∙◌, inl, inr, arith, if◌then◌else◌, append_assoc, append-nil}
 use Rattle.std.specs.Prelude.{◌||◌}
 use Rattle.std.specs.List.{list_any, list_all, filter}
 use Rattle.std.specs.Option.{option_map}
-use Rattle.std.proofs.lemmas.Bool.{cases_Bool, eqb-true, eqb-false}
+use Rattle.std.proofs.lemmas.Bool.{cases_Bool, eqb-false}
 use Rattle.std.proofs.lemmas.Option.{none-some, same_Some, slice_get-map, slice_get_within}
 use Rattle.list_laws.proofs.Prefixes.{slice_get-append_within}
-use Rattle.residue_laws.proofs.Appending.{get-right, get-cases, map-both}
+use Rattle.residue_laws.proofs.Appending.{get-right, get-cases}
 use Rattle.late_residue.specs.Reached.{Has, Grows}
 
 pub and_left : (a b : Bool) → (a && b) ≡ true → a ≡ true
@@ -170,11 +170,6 @@ grows-at {X} old new k x (more, is) at = subst (λ (l : List X). slice_get l k �
 
 pub grows-has : {X : Type 0} (old new : List X) (x : X) → Grows old new → Has old x → Has new x
 grows-has old new x grows (k, at) = (k, grows-at old new k x grows at)
-
-pub grows-map : {X Y : Type 0} (f : X → Y) (old new : List X) → Grows old new
-    → Grows (map f old) (map f new)
-grows-map {X} f old new (more, is) =
-    (map f more, ap (λ (l : List X). map f l) is ∙ map-both f old more)
 
 -- the places of a list of which an item is replaced
 pub set-from : {X : Type 0} (xs : List X) (i : ℕ) (v : X) (k : ℕ) (x : X)

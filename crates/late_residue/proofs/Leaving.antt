@@ -11,7 +11,7 @@ use Rattle.late_residue.specs.declared.open_call.OpenCall.{OpenCall}
 use Rattle.late_residue.specs.Description.{Description}
 use Rattle.late_residue.specs.Meaning.{IsPlaceOf, Means}
 use Rattle.late_residue.specs.Placing.{AreOf, IsPlacedAt, IsWithoutCall, IsSound, IsLeftBy}
-use Rattle.late_residue.proofs.Meanings.{names, same_place}
+use Rattle.late_residue.proofs.Meanings.{names}
 
 -- The call that returns may be placed with the reply: it is placed with it, or is optional with it
 -- and not placed.

@@ -4,6 +4,7 @@ pub mod Views
 pub mod Meanings
 pub mod KnownReplies
 pub mod Reaching
+pub mod Hiding
 pub mod Leaving
 pub mod Handling
 pub mod Taking
@@ -11,5 +12,4 @@ pub mod Beginning
 pub mod Events
 pub mod Deciding
 pub mod Revealing
-pub mod Writes
 pub mod Next

@@ -1,19 +1,18 @@
 -- What descriptions mean.
-use Rattle.std.proofs.Common.{◌≡◌, ◌≢◌, ◌⊎◌, ◌∙◌, ℕ, Bool, true, false, not, ◌==◌, List, [], ◌∷◌, ◌++◌, refl, sym, ap, subst, inl, inr}
+use Rattle.std.proofs.Common.{◌≡◌, ◌⊎◌, ◌∙◌, ℕ, Bool, true, not, ◌==◌, List, [], ◌∷◌, ◌++◌, refl, sym, ap, subst, inl, inr}
 use Rattle.std.specs.Prelude.{◌↔◌}
 use Rattle.std.specs.List.{filter}
 use Rattle.std.proofs.lemmas.Bool.{cases_Bool, cases_eq, eqb-true}
 use Rattle.streams.specs.StreamOrder.{StreamPlace, IsAmong}
 use Rattle.residue_laws.specs.Residue.{Configuration}
-use Rattle.residue_laws.specs.Step.{AreAlike, IsWithout}
+use Rattle.residue_laws.specs.Step.{AreAlike}
 use Rattle.residue_laws.proofs.Appending.{among-left, among-right, among-cases}
 use Rattle.residue_laws.proofs.Placing.{among-cons, among-first, among-later, nothing_among}
 use Rattle.late_residue.specs.declared.open_call.OpenCall.{OpenCall}
 use Rattle.late_residue.specs.Description.{Description}
-use Rattle.late_residue.specs.Reached.{Has}
-use Rattle.late_residue.specs.Meaning.{IsPlaceOf, AreOnce, Means, AreMeant, Serves, IsWider}
+use Rattle.late_residue.specs.Meaning.{AreOnce, Means, Serves, IsWider}
 use Rattle.late_residue.specs.Known.{IsKnownPlace}
-use Rattle.late_residue.specs.Placing.{AreOf, IsPlacedAt, AreOthers, IsWithoutCall, IsPlacedOn, IsAllowed, IsSound, with_call}
+use Rattle.late_residue.specs.Placing.{AreOf, IsPlacedAt, AreOthers, IsPlacedOn, IsAllowed, IsSound, with_call}
 use Rattle.late_residue.proofs.Items.{eqb-same, filter-has, has-filter}
 
 -- places with the same call and the same reply are the same
@@ -272,6 +271,25 @@ sound_for property other calls one follows sound = record {
   once = sound.once;
 }
 
+-- no call has two replies after another call is placed
+pub once_with : (next : List ℕ → ℕ → List ℕ × ℕ) (at : Configuration) (call : OpenCall)
+    → AreOnce at.placed → (IsPlacedAt at call.call → ⊥)
+    → AreOnce (with_call next at call).placed
+once_with next at call once lacks a b first second e =
+    let it : StreamPlace = record { call = call.call; reply = (next at.list call.op).1 } in
+    elim (among-cons it at.placed a first) [
+      | inl is ↦ elim (among-cons it at.placed b second) [
+        | inl also ↦ sym is ∙ also
+        | inr old ↦ absurd (lacks (names at.placed b call.call
+            (sym e ∙ sym (ap (λ (p : StreamPlace). p.call) is)) old))
+      ]
+      | inr early ↦ elim (among-cons it at.placed b second) [
+        | inl also ↦ absurd (lacks (names at.placed a call.call
+            (e ∙ sym (ap (λ (p : StreamPlace). p.call) also)) early))
+        | inr old ↦ once a b early old e
+      ]
+    ]
+
 -- An open call that is placed.
 module _ (next : List ℕ → ℕ → List ℕ × ℕ) (from after : Description) (call : OpenCall)
     (on : IsPlacedOn next from call after) where
@@ -300,18 +318,7 @@ module _ (next : List ℕ → ℕ → List ℕ × ℕ) (from after : Description
             ))
           ]
         ];
-        once = λ a b first second e. elim (among-cons it at.placed a first) [
-          | inl is ↦ elim (among-cons it at.placed b second) [
-            | inl also ↦ sym is ∙ also
-            | inr old ↦ absurd (lacks (names at.placed b call.call
-                (sym e ∙ sym (ap (λ (p : StreamPlace). p.call) is)) old))
-          ]
-          | inr one ↦ elim (among-cons it at.placed b second) [
-            | inl also ↦ absurd (lacks (names at.placed a call.call
-                (e ∙ sym (ap (λ (p : StreamPlace). p.call) also)) one))
-            | inr old ↦ means.once a b one old e
-          ]
-        ];
+        once = once_with next at call means.once lacks;
       }
 
   module _ (lacks : AreOf from.placed call.call → ⊥) where
@@ -381,16 +388,5 @@ stays_means next one call at means lacks optional stays =
         | inl is ↦ inr (subst (λ (q : StreamPlace). IsAmong one.optional q) (sym same ∙ is) optional)
         | inr old ↦ means.either p old
       ];
-      once = λ a b first second e. elim (among-cons it at.placed a first) [
-        | inl is ↦ elim (among-cons it at.placed b second) [
-          | inl also ↦ sym is ∙ also
-          | inr old ↦ absurd (lacks (names at.placed b call.call
-              (sym e ∙ sym (ap (λ (p : StreamPlace). p.call) is)) old))
-        ]
-        | inr early ↦ elim (among-cons it at.placed b second) [
-          | inl also ↦ absurd (lacks (names at.placed a call.call
-              (e ∙ sym (ap (λ (p : StreamPlace). p.call) also)) early))
-          | inr old ↦ means.once a b early old e
-        ]
-      ];
+      once = once_with next at call means.once lacks;
     }

@@ -1,5 +1,5 @@
 -- The descriptions after a return, from those before it.
-use Rattle.std.proofs.Common.{◌≡◌, ◌⊎◌, ◌∙◌, ℕ, ◌+◌, ◌<◌, ◌≤◌, List, [], ◌∷◌, ◌++◌, length, Some, slice_get, sym, ap, subst, inl, inr, arith}
+use Rattle.std.proofs.Common.{◌≡◌, ◌⊎◌, ℕ, Bool, ◌+◌, ◌<◌, ◌≤◌, List, [], ◌∷◌, ◌++◌, length, Some, slice_get, sym, subst, inl, inr, arith}
 use Rattle.std.proofs.lemmas.Option.{slice_get_within}
 use Rattle.book_base.specs.SeqSpec.{SeqSpec}
 use Rattle.book_base.specs.declared.TheConstants.{MAX_ROOM}
@@ -10,10 +10,10 @@ use Rattle.late_residue.specs.declared.reached.Reached.{Reached}
 use Rattle.late_residue.specs.Description.{Description}
 use Rattle.late_residue.specs.Reached.{Has, description_of, descriptions_of}
 use Rattle.late_residue.specs.Known.{MayHaveReply}
-use Rattle.late_residue.specs.Meaning.{Means, AreMeant}
-use Rattle.late_residue.specs.Placing.{IsTaken, IsSound, LeadsOn}
+use Rattle.late_residue.specs.Meaning.{AreMeant}
+use Rattle.late_residue.specs.Placing.{IsTaken, LeadsOn}
 use Rattle.late_residue.specs.LateOnes.{AreOpen, AreLate, AreAdded, IsBeyond}
-use Rattle.late_residue.proofs.Items.{has-none, map-at, has-cons}
+use Rattle.late_residue.proofs.Items.{has-none, map-at}
 use Rattle.late_residue.proofs.Meanings.{least, means_least}
 use Rattle.late_residue.proofs.Handling.{added_none, added_on, added_given, handled-more, below_next, at_all, all_of_one}
 use Rattle.late_residue.proofs.Taking.{late_after}
@@ -89,20 +89,21 @@ module _ (spec : SeqSpec) (calls : List OpenCall) (returning : OpenCall) (reply 
 
   -- the late residue after the return
   pub late_next : (ones left new after : List Description) (last : List Description) (k : ℕ)
-      (stream : List StreamEvent) (process : ℕ) → length (descriptions_of before) ≤ k
+      (stream : List StreamEvent) (process : ℕ) (writes : ℕ → Bool)
+      → length (descriptions_of before) ≤ k
       → AreBegun spec calls returning reply before ones left k
       → AreAdded spec calls returning reply [] ones left new after
       → ((one : Description) → Has new one
-      → LeadsOn spec.next calls returning reply new after (length calls) one)
+      → LeadsOn spec.next writes calls returning reply new after (length calls) one)
       → ((at : Configuration) → AreMeant after at → AreMeant last at)
       → ((one : Description) → Has last one → Has after one)
       → AreOpen stream calls → Has calls returning → IsWaiting stream process returning.call
       → MayHaveReply returning reply → IsValidStream (stream ++ Returned process reply ∷ [])
       → AreLate spec stream calls (descriptions_of before)
       → AreLate spec (stream ++ Returned process reply ∷ []) calls last
-  late_next ones left new after last k stream process whole begun added closed means from are has
+  late_next ones left new after last k stream process writes whole begun added closed means from are has
       waits may valid late =
-      let all = late_after spec stream calls are process returning reply has waits may valid
+      let all = late_after spec stream calls are process returning reply has waits writes may valid
       (descriptions_of before) new after late
       (added_on spec calls returning reply (descriptions_of before) [] [] ones left new after
       begun.added

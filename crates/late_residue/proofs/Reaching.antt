@@ -1,9 +1,8 @@
 -- Open calls that are placed lead from the residue into it.
-use Rattle.std.proofs.Common.{◌≡◌, ℕ, ◌∙◌, List, [], ◌∷◌, ◌++◌, refl, sym, ap, subst, inl, inr, slice_get}
-use Rattle.std.proofs.lemmas.Bool.{cases_eq}
+use Rattle.std.proofs.Common.{◌≡◌, ℕ, ◌∙◌, List, ◌∷◌, ◌++◌, refl, sym, ap, subst, inl, inr, slice_get}
 use Rattle.book_base.specs.SeqSpec.{SeqSpec}
 use Rattle.streams.specs.Stream.{StreamEvent}
-use Rattle.streams.specs.StreamOrder.{StreamPlace, word_of_event, IsAmong}
+use Rattle.streams.specs.StreamOrder.{StreamPlace, word_of_event}
 use Rattle.residue_laws.specs.Residue.{Configuration, IsInResidue}
 use Rattle.residue_laws.specs.Step.{AreAlike, MayPlace, with_place, ArePlaced}
 use Rattle.residue_laws.proofs.Placing.{among-cons, among-first, among-later, follow_on, reaches_on}
@@ -13,11 +12,10 @@ use Rattle.late_residue.specs.declared.open_call.OpenCall.{OpenCall}
 use Rattle.late_residue.specs.Description.{Description}
 use Rattle.late_residue.specs.Reached.{Has}
 use Rattle.late_residue.specs.Known.{MayHaveReply}
-use Rattle.late_residue.specs.Meaning.{IsPlaceOf, AreOnce, Means}
 use Rattle.late_residue.specs.Placing.{AreOf, IsPlacedAt, Overwrites, IsPlacedOn, IsAllowed, IsSound, IsReachedBy, with_call}
 use Rattle.late_residue.specs.LateOnes.{AreOpen}
-use Rattle.late_residue.proofs.Alike.{alike-back, alike-on, alike-cons}
-use Rattle.late_residue.proofs.Meanings.{names, others_of, others_are, allowed_sound, placed_from, placed_last, placed_lacks, placed_once}
+use Rattle.late_residue.proofs.Alike.{alike-on, alike-cons}
+use Rattle.late_residue.proofs.Meanings.{names, others_of, allowed_sound, placed_from, placed_last, placed_lacks, placed_once}
 use Rattle.late_residue.proofs.KnownReplies.{known-placed}
 
 -- a configuration that is alike to one of the residue is in it

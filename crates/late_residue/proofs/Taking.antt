@@ -1,5 +1,5 @@
 -- What a return makes of a late residue.
-use Rattle.std.proofs.Common.{◌≡◌, ◌≢◌, ℕ, ◌∙◌, List, [], ◌∷◌, ◌++◌, length, refl, sym, ap, subst, inl, inr, slice_get}
+use Rattle.std.proofs.Common.{◌≡◌, ◌≢◌, ◌⊎◌, ℕ, Bool, ◌∙◌, List, [], ◌∷◌, ◌++◌, length, refl, sym, ap, subst, inl, inr, slice_get}
 use Rattle.std.proofs.lemmas.Bool.{cases_eq, cases_order}
 use Rattle.std.proofs.lemmas.Option.{slice_get_within}
 use Rattle.book_base.specs.Reaching.{Leaves}
@@ -9,7 +9,7 @@ use Rattle.streams.specs.StreamOrder.{StreamPlace, word_of_event, IsAmong}
 use Rattle.streams.proofs.Returning.{get-longer}
 use Rattle.streams.proofs.Pushing.{no_other_returns}
 use Rattle.residue_laws.specs.Residue.{Configuration, IsInResidue}
-use Rattle.residue_laws.specs.Step.{AreAlike, MayPlace, with_place, ArePlaced, IsWithout}
+use Rattle.residue_laws.specs.Step.{MayPlace, with_place, ArePlaced, IsWithout}
 use Rattle.residue_laws.proofs.Appending.{word-longer}
 use Rattle.residue_laws.proofs.Placing.{among-cons, among-first, among-later, follow_on}
 use Rattle.residue_laws.proofs.Stepping.{residues_step}
@@ -17,8 +17,8 @@ use Rattle.late_residue.specs.declared.open_call.OpenCall.{OpenCall}
 use Rattle.late_residue.specs.Description.{Description}
 use Rattle.late_residue.specs.Reached.{Has}
 use Rattle.late_residue.specs.Known.{MayHaveReply, AgreesWithKnown}
-use Rattle.late_residue.specs.Meaning.{AreOnce, AreMeant}
-use Rattle.late_residue.specs.Placing.{AreOf, IsPlacedAt, with_call, MayBePlaced, IsHandled, IsTaken, LeadsOn}
+use Rattle.late_residue.specs.Meaning.{AreOnce, Means, AreMeant}
+use Rattle.late_residue.specs.Placing.{AreOf, IsPlacedAt, with_call, MayBePlaced, IsHandled, IsTaken, Hides, LeadsOn}
 use Rattle.late_residue.specs.LateOnes.{AreOpen, AreLedTo, AreLate, AreAdded}
 use Rattle.late_residue.proofs.Items.{has-none}
 use Rattle.late_residue.proofs.Meanings.{same_place, names, of_or_not, others_of, others_are, sound_for}
@@ -173,9 +173,9 @@ module _ (spec : SeqSpec) (stream : List StreamEvent) (calls : List OpenCall)
             )
       ]
 
-  module _ (ones left : List Description)
+  module _ (writes : ℕ → Bool) (ones left : List Description)
       (closed : (one : Description) → Has ones one
-      → LeadsOn spec.next calls returning reply ones left (length calls) one)
+      → LeadsOn spec.next writes calls returning reply ones left (length calls) one)
       (at after : Configuration) (once : AreOnce at.placed) (agrees : AgreesWithKnown calls at)
       (there : IsAmong at.placed place) (without : IsWithout returning.call at after) where
     follow_placed : (from : Configuration) (rest : List StreamPlace)
@@ -196,58 +196,107 @@ module _ (spec : SeqSpec) (stream : List StreamEvent) (calls : List OpenCall)
           (rest, removed from start at after rest (other, here) lacks placed without),
         )
 
-    -- placed calls lead from a configuration that is handled to one that is left
+    -- the next call is open, and may be placed
+    next_call : (from : Configuration) (z : StreamPlace) (rest : List StreamPlace)
+        → MayPlace spec.next stream from z
+        → ArePlaced spec.next stream (with_place spec.next stream from z) rest at
+        → (call : OpenCall) × (call.call ≡ z.call) × MayBePlaced spec.next calls from call
+        × (with_call spec.next from call ≡ with_place spec.next stream from z)
+    next_call from z rest may later =
+        let found = are.whole z.call may.call may.pending in
+        let call = found.0 in
+        let in_at : IsAmong at.placed z =
+        ((follow_on spec.next stream (with_place spec.next stream from z) at rest
+        later).placed z).1 (inl (0, refl)) in
+        let word : word_of_event (slice_get stream z.call) ≡ call.op =
+        ap (λ (c : ℕ). word_of_event (slice_get stream c)) (sym found.2)
+        ∙ op_of spec stream calls are call found.1 in
+        let gives : (spec.next from.list call.op).1 ≡ z.reply =
+        sym (ap (λ (w : ℕ). (spec.next from.list w).1) word) ∙ may.reply in
+        let it : record { call = call.call; reply = (spec.next from.list call.op).1 } ≡ z =
+        same_place _ z found.2 gives in (
+          call,
+          found.2,
+          record {
+            is_open = found.1;
+            unplaced = λ (other, among).
+                may.unplaced (record { call = call.call; reply = other }) among found.2;
+            reply = λ known given. gives ∙ agrees z in_at call found.1 found.2 known given;
+          },
+          ap (λ (p : StreamPlace). record {
+            placed = p ∷ from.placed;
+            list = (spec.next from.list call.op).0;
+          }) it
+              ∙ ap (λ (w : ℕ). record { placed = z ∷ from.placed; list = (spec.next from.list w).0 })
+              (sym word),
+        )
+
+    -- a configuration that one of the descriptions hides, at which the call that returns isn't placed
+    abbrev AreHiding : Configuration → Type 0
+    AreHiding from = (one : Description) × Has ones one × Hides spec.next writes calls one from
+        × (IsPlacedAt from returning.call → ⊥)
+
+    -- where the call that returns isn't placed at a configuration that is handled or hidden, one of
+    -- the descriptions means or hides it, or the call leaves each list at which it has the reply
+    covered_by : (from : Configuration)
+        → IsHandled spec.next returning reply ones left from ⊎ AreHiding from
+        → (IsPlacedAt from returning.call → ⊥)
+        → (Leaves spec.next returning.op reply × AreMeant left from)
+        ⊎ ((one : Description) × Has ones one
+        × (Means one from ⊎ Hides spec.next writes calls one from))
+    covered_by from (inl handled) free = elim (handled.further free) [
+      | inl (one, has, means) ↦ inr (one, has, inl means)
+      | inr leaves ↦ inl leaves
+    ]
+    covered_by from (inr (one, has, hides, lacks)) free = inr (one, has, inr hides)
+
+    -- where the call that returns is placed, the configuration is handled
+    handled_of : (from : Configuration)
+        → IsHandled spec.next returning reply ones left from ⊎ AreHiding from
+        → AreOf from.placed returning.call → IsHandled spec.next returning reply ones left from
+    handled_of from (inl handled) of = handled
+    handled_of from (inr (one, has, hides, lacks)) of = absurd (lacks of)
+
+    -- placed calls lead from a configuration that is handled or hidden to one that is left
     follow : (from : Configuration) (rest : List StreamPlace)
-        → IsHandled spec.next returning reply ones left from
+        → IsHandled spec.next returning reply ones left from ⊎ AreHiding from
         → ArePlaced spec.next stream from rest at → AreLedTo spec longer left after
-    follow from [] handled alike =
-        follow_placed from [] handled alike (reply, (alike.0 place).1 there)
-    follow from (z ∷ rest) handled (may, later) = elim (of_or_not from.placed returning.call) [
-      | inl of ↦ follow_placed from (z ∷ rest) handled (may, later) of
-      | inr free ↦ elim (handled.further free) [
-        | inr (leaves, meant) ↦
+    follow from [] case alike =
+        let of : AreOf from.placed returning.call = (reply, (alike.0 place).1 there) in
+        follow_placed from [] (handled_of from case of) alike of
+    follow from (z ∷ rest) case (may, later) = elim (of_or_not from.placed returning.call) [
+      | inl of ↦ follow_placed from (z ∷ rest) (handled_of from case of) (may, later) of
+      | inr free ↦ elim (covered_by from case free) [
+        | inl (leaves, meant) ↦
             (from, meant, leaving from at after (z ∷ rest) leaves free there once (may, later) without)
-        | inl (one, has, means) ↦
-            let found = are.whole z.call may.call may.pending in
-            let call = found.0 in
-            let in_at : IsAmong at.placed z =
-            ((follow_on spec.next stream (with_place spec.next stream from z) at rest
-            later).placed z).1 (inl (0, refl)) in
-            let word : word_of_event (slice_get stream z.call) ≡ call.op =
-            ap (λ (c : ℕ). word_of_event (slice_get stream c)) (sym found.2)
-            ∙ op_of spec stream calls are call found.1 in
-            let gives : (spec.next from.list call.op).1 ≡ z.reply =
-            sym (ap (λ (w : ℕ). (spec.next from.list w).1) word) ∙ may.reply in
-            let it : record { call = call.call; reply = (spec.next from.list call.op).1 } ≡ z =
-            same_place _ z found.2 gives in
-            let same : with_call spec.next from call ≡ with_place spec.next stream from z =
-            ap (λ (p : StreamPlace). record {
-              placed = p ∷ from.placed;
-              list = (spec.next from.list call.op).0;
-            }) it
-            ∙ ap (λ (w : ℕ). record { placed = z ∷ from.placed; list = (spec.next from.list w).0 })
-            (sym word) in
-            let next = closed one has from means found.1.0 call
-            (slice_get_within calls found.1.0 call found.1.1) found.1.1 (record {
-              is_open = found.1;
-              unplaced = λ (other, among).
-                  may.unplaced (record { call = call.call; reply = other }) among found.2;
-              reply = λ known given. gives ∙ agrees z in_at call found.1 found.2 known given;
-            }) in
-            follow (with_place spec.next stream from z) rest
-            (subst (λ (c : Configuration). IsHandled spec.next returning reply ones left c) same next)
-            later
+        | inr (one, has, covered) ↦
+            let it = next_call from z rest may later in
+            let next = closed one has from covered it.2.is_open.0 it.0
+            (slice_get_within calls it.2.is_open.0 it.0 it.2.is_open.1) it.2.is_open.1 it.2 in
+            follow (with_place spec.next stream from z) rest (elim next [
+              | inl handled ↦ inl (subst (λ (c : Configuration).
+                  IsHandled spec.next returning reply ones left c) it.3 handled)
+              | inr (other, hides) ↦ inr (
+                one,
+                has,
+                subst (λ (c : Configuration). Hides spec.next writes calls one c) it.3 hides,
+                λ (r, among). elim (among-cons z from.placed _ among) [
+                  | inl is ↦ other (it.1 ∙ ap (λ (p : StreamPlace). p.call) is)
+                  | inr old ↦ free (r, old)
+                ],
+              )
+            ]) later
       ]
     ]
 
-  pub late_after : (answer : MayHaveReply returning reply) → IsValidStream longer
+  pub late_after : (writes : ℕ → Bool) (answer : MayHaveReply returning reply) → IsValidStream longer
       → (old ones left : List Description) → AreLate spec stream calls old
       → AreAdded spec calls returning reply old [] [] ones left
       → ((one : Description) → Has old one → IsTaken spec.next returning reply ones left one)
       → ((one : Description) → Has ones one
-      → LeadsOn spec.next calls returning reply ones left (length calls) one)
+      → LeadsOn spec.next writes calls returning reply ones left (length calls) one)
       → AreLate spec longer calls left
-  late_after answer valid old ones left late added taken closed = record {
+  late_after writes answer valid old ones left late added taken closed = record {
     reached = λ one has. sound_for _ (IsInResidue spec longer) calls one
         (λ after (at, residue, among, without).
         (residues_step spec stream (Returned process reply) after valid).1
@@ -266,6 +315,6 @@ module _ (spec : SeqSpec) (stream : List StreamEvent) (calls : List OpenCall)
         let before = agree-without spec stream calls are returning reply at after is_open answer
         step.1 there without agrees in
         let led = late.whole at step.1 before in
-        follow ones left closed at after (once_in_residue spec stream at step.1) before there without
-        led.0 led.2.0 (taken led.1.0 led.1.1 led.0 led.1.2) led.2.1;
+        follow writes ones left closed at after (once_in_residue spec stream at step.1) before there without
+        led.0 led.2.0 (inl (taken led.1.0 led.1.1 led.0 led.1.2)) led.2.1;
   }

@@ -1,12 +1,10 @@
 -- Descriptions of the code, by their places.
-use Rattle.std.proofs.Common.{◌≡◌, ◌∙◌, ℕ, Bool, true, false, not, ◌⊎◌, ◌&&◌, ◌||◌, ◌==◌, List, [], ◌∷◌, ◌++◌, map, refl, sym, ap, subst, inl, inr}
+use Rattle.std.proofs.Common.{◌≡◌, ◌∙◌, ℕ, Bool, true, false, not, ◌⊎◌, ◌&&◌, ◌||◌, ◌==◌, List, map, refl, sym, ap, subst, inl, inr}
 use Rattle.std.specs.List.{list_any, list_all, filter}
 use Rattle.std.proofs.lemmas.Bool.{eqb-true, cases_Bool}
 use Rattle.streams.specs.StreamOrder.{StreamPlace, IsAmong}
 use Rattle.late_residue.specs.declared.reached.Placed.{Placed}
-use Rattle.late_residue.specs.declared.reached.Reached.{Reached}
-use Rattle.late_residue.specs.Reached.{place_of, description_of}
-use Rattle.late_residue.specs.Meaning.{IsPlaceOf, Serves}
+use Rattle.late_residue.specs.Reached.{place_of}
 use Rattle.late_residue.specs.Placing.{AreOf, AreOthers}
 use Rattle.late_residue.proofs.Items.{and_left, and_right, both_true, eqb-same, any-has, has-any, all-has, has-all, has-map, map-from, filter-has, has-filter}
 

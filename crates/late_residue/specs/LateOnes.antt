@@ -7,10 +7,9 @@ use Rattle.streams.specs.StreamOrder.{StreamPlace}
 use Rattle.residue_laws.specs.Residue.{Configuration, IsInResidue}
 use Rattle.residue_laws.specs.Step.{ArePlaced}
 use Rattle.late_residue.specs.declared.open_call.OpenCall.{OpenCall}
-use Rattle.late_residue.specs.declared.reached.Reached.{Reached}
 use Rattle.late_residue.specs.Description.{Description}
-use Rattle.late_residue.specs.Reached.{Has, Grows, descriptions_of}
-use Rattle.late_residue.specs.Meaning.{Means, AreMeant, Serves}
+use Rattle.late_residue.specs.Reached.{Has, Grows}
+use Rattle.late_residue.specs.Meaning.{AreMeant, Serves}
 use Rattle.late_residue.specs.Known.{AgreesWithKnown}
 use Rattle.late_residue.specs.Placing.{AreSound, IsLeftBy, IsTaken}
 

@@ -5,3 +5,4 @@ pub mod Known
 pub mod Placing
 pub mod LateOnes
 pub mod Laws
+pub mod Writes

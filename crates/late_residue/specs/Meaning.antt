@@ -1,5 +1,5 @@
 -- What descriptions mean.
-use Rattle.std.specs.Prelude.{◌≡◌, ◌⊎◌, ℕ, List}
+use Rattle.std.specs.Prelude.{◌≡◌, ◌⊎◌, List}
 use Rattle.streams.specs.StreamOrder.{StreamPlace, IsAmong}
 use Rattle.residue_laws.specs.Residue.{Configuration}
 use Rattle.late_residue.specs.Description.{Description}

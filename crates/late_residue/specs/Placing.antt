@@ -1,5 +1,5 @@
 -- What placed calls and a return make of descriptions, by the open calls.
-use Rattle.std.specs.Prelude.{◌≡◌, ◌≢◌, ◌↔◌, ◌⊎◌, ℕ, ◌<◌, List, ◌∷◌, Some, slice_get}
+use Rattle.std.specs.Prelude.{◌≡◌, ◌≢◌, ◌↔◌, ◌⊎◌, ℕ, ◌<◌, Bool, IsTrue, List, ◌∷◌, Some, slice_get}
 use Rattle.book_base.specs.Reaching.{Leaves}
 use Rattle.book_base.specs.SeqSpec.{SeqSpec}
 use Rattle.streams.specs.Stream.{StreamEvent}
@@ -81,6 +81,23 @@ pub record MayBePlaced (next : List ℕ → ℕ → List ℕ × ℕ) (calls : Li
   pub unplaced : IsPlacedAt at one.call → ⊥
   pub reply : MayHaveReply one (next at.list one.op).1
 
+-- A place is that of an open call that is known to overwrite, with the reply that it gets at each list.
+abbrev pub IsWritten : (List ℕ → ℕ → List ℕ × ℕ) → (ℕ → Bool) → List OpenCall → StreamPlace → Type 0
+IsWritten next writes calls place = (one : OpenCall) × Has calls one × (one.call ≡ place.call)
+    × IsTrue (writes one.op) × ((list : List ℕ) → (next list one.op).1 ≡ place.reply)
+    × MayHaveReply one place.reply
+
+-- A description hides a configuration: this has each placed call, besides these optional ones and open
+-- calls that are known to overwrite alone, no call with two replies, and each open call that may be
+-- placed at it is known to overwrite. So its list is overwritten before another call sees it.
+pub record Hides (next : List ℕ → ℕ → List ℕ × ℕ) (writes : ℕ → Bool) (calls : List OpenCall)
+    (one : Description) (at : Configuration) : Type 0 where
+  pub placed : (place : StreamPlace) → IsAmong one.placed place → IsAmong at.placed place
+  pub either : (place : StreamPlace) → IsAmong at.placed place
+      → IsPlaceOf one place ⊎ IsWritten next writes calls place
+  pub once : AreOnce at.placed
+  pub unseen : (call : OpenCall) → MayBePlaced next calls at call → IsTrue (writes call.op)
+
 -- A description is sound for a property of configurations: all that it means have the property, each
 -- of its places agrees with what is known, and no call is placed with two replies.
 pub record IsSound (property : Configuration → Type 0) (calls : List OpenCall)
@@ -121,11 +138,33 @@ abbrev pub IsTaken : (List ℕ → ℕ → List ℕ × ℕ) → OpenCall → ℕ
 IsTaken next returning reply ones left one = (at : Configuration) → Means one at
     → IsHandled next returning reply ones left at
 
+-- An open call sees nothing of a description: if it may be placed there, it is known to overwrite.
+pub record SeesNothing (next : List ℕ → ℕ → List ℕ × ℕ) (writes : ℕ → Bool) (one : Description)
+    (call : OpenCall) : Type 0 where
+  pub written : (AreOf one.placed call.call → ⊥) → MayHaveReply call (next one.list call.op).1
+      → IsTrue (writes call.op)
+
+-- After an open call is placed at a description, another one that may be placed there too is known to
+-- overwrite.
+abbrev pub IsUnseenBy : (List ℕ → ℕ → List ℕ × ℕ) → (ℕ → Bool) → Description → OpenCall → OpenCall
+    → Type 0
+IsUnseenBy next writes one call other = (other.call ≢ call.call) → (AreOf one.placed other.call → ⊥)
+    → MayHaveReply other (next (next one.list call.op).0 other.op).1 → IsTrue (writes other.op)
+
+-- A placed call leads on where what it leads to is handled, or is hidden by a description; then the
+-- call isn't the one that returns.
+abbrev pub LeadsTo : (List ℕ → ℕ → List ℕ × ℕ) → (ℕ → Bool) → List OpenCall → OpenCall → ℕ
+    → List Description → List Description → Description → Configuration → OpenCall → Type 0
+LeadsTo next writes calls returning reply ones left one at call =
+    IsHandled next returning reply ones left (with_call next at call)
+    ⊎ ((call.call ≢ returning.call) × Hides next writes calls one (with_call next at call))
+
 -- Of the first open calls, as many as a number says, each that may be placed at a configuration that
--- a description means leads to one that is handled.
-abbrev pub LeadsOn : (List ℕ → ℕ → List ℕ × ℕ) → List OpenCall → OpenCall → ℕ → List Description
-    → List Description → ℕ → Description → Type 0
-LeadsOn next calls returning reply ones left number one = (at : Configuration) → Means one at
+-- a description means or hides leads on.
+abbrev pub LeadsOn : (List ℕ → ℕ → List ℕ × ℕ) → (ℕ → Bool) → List OpenCall → OpenCall → ℕ
+    → List Description → List Description → ℕ → Description → Type 0
+LeadsOn next writes calls returning reply ones left number one = (at : Configuration)
+    → Means one at ⊎ Hides next writes calls one at
     → (j : ℕ) (call : OpenCall) → j < number → slice_get calls j ≡ Some call
     → MayBePlaced next calls at call
-    → IsHandled next returning reply ones left (with_call next at call)
+    → LeadsTo next writes calls returning reply ones left one at call

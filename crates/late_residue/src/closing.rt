@@ -1,10 +1,10 @@
-ghost use Rattle.std.specs.Prelude.{◌≡◌, ◌⊎◌, ℕ, ◌+◌, false, [], ◌∷◌, ◌<◌, ◌≤◌, List, length, slice_get, Some, IfOk, OnOk, IsTrue};
+ghost use Rattle.std.specs.Prelude.{◌≡◌, ◌≢◌, ◌⊎◌, ℕ, ◌+◌, false, [], ◌∷◌, ◌<◌, ◌≤◌, List, length, slice_get, Some, IfOk, OnOk, IsTrue};
 ghost use Rattle.book_base.specs.declared.TheConstants.{MAX_ROOM};
 ghost use Rattle.residue_laws.specs.Residue.{Configuration};
 ghost use Rattle.late_residue.specs.Description.{Description};
 ghost use Rattle.late_residue.specs.Reached.{Has, Grows, description_of, descriptions_of};
 ghost use Rattle.late_residue.specs.Meaning.{Means, AreMeant, Serves};
-ghost use Rattle.late_residue.specs.Placing.{IsPlacedAt, MayBePlaced, IsHandled, IsTaken, LeadsOn, with_call};
+ghost use Rattle.late_residue.specs.Placing.{IsPlacedAt, MayBePlaced, IsTaken, Hides, SeesNothing, IsUnseenBy, LeadsTo, LeadsOn, with_call};
 ghost use Rattle.late_residue.specs.LateOnes.{AreAdded, AreApart};
 
 use crate::open_call::OpenCall;
@@ -35,7 +35,7 @@ pub fn close<O: Overwriting>(
         (descriptions_of ones.new.items) (descriptions_of left.new.items)) }
     ensures closed { IfOk result (λ all. IsTrue all → (one : Description)
         → Has (descriptions_of ones.new.items) one
-        → LeadsOn (O.spec object.now).next calls.now returning.now reply
+        → LeadsOn (O.spec object.now).next (O.writes object.now) calls.now returning.now reply
         (descriptions_of ones.new.items) (descriptions_of left.new.items) (length calls.now) one) }
     ensures beyond { IfOk result (λ all. all ≡ false
         → (limit < length (descriptions_of ones.new.items))
@@ -74,7 +74,7 @@ fn expand<O: Overwriting>(
         (descriptions_of ones.new.items) (descriptions_of left.new.items)) }
     ensures leads { IfOk result (λ all. IsTrue all → (one : Description)
         → slice_get (descriptions_of ones.old.items) k ≡ Some one
-        → LeadsOn (O.spec object.now).next calls.now returning.now reply
+        → LeadsOn (O.spec object.now).next (O.writes object.now) calls.now returning.now reply
         (descriptions_of ones.new.items) (descriptions_of left.new.items) (length calls.now) one) }
     ensures long { IfOk result (λ all. all ≡ false → (one : Description)
         × Has (descriptions_of ones.new.items) one × (MAX_ROOM ≤ length one.list)) }
@@ -112,15 +112,16 @@ fn place<O: Overwriting>(
         (descriptions_of ones.new.items) (descriptions_of left.new.items)) }
     ensures leads { OnOk result ((one : Description)
         → slice_get (descriptions_of ones.old.items) k ≡ Some one → (at : Configuration)
-        → Means one at → MayBePlaced (O.spec object.now).next calls.now at call.now
-        → IsHandled (O.spec object.now).next returning.now reply (descriptions_of ones.new.items)
-        (descriptions_of left.new.items) (with_call (O.spec object.now).next at call.now)) }
+        → Means one at ⊎ Hides (O.spec object.now).next (O.writes object.now) calls.now one at
+        → MayBePlaced (O.spec object.now).next calls.now at call.now
+        → LeadsTo (O.spec object.now).next (O.writes object.now) calls.now returning.now reply
+        (descriptions_of ones.new.items) (descriptions_of left.new.items) one at call.now) }
 {
     let one = &ones[k];
     if one.places(call.call) {
         return Ok(());
     }
-    if stays(alloc, object, one, call)? {
+    if adds_nothing(alloc, object, calls, returning, one, call)? {
         return Ok(());
     }
     match expanded(alloc, object, calls, one, call)? {
@@ -129,8 +130,37 @@ fn place<O: Overwriting>(
     }
 }
 
-// Whether a call leaves the list of a description, is optional there with its reply, and doesn't
-// overwrite. It isn't placed then, since the description serves for what this would lead to.
+// Whether an open call isn't placed at a description, since the description means or hides what this
+// would lead to.
+fn adds_nothing<O: Overwriting>(
+    alloc: Global,
+    object: &O,
+    calls: &[OpenCall],
+    returning: &OpenCall,
+    one: &Reached,
+    call: &OpenCall,
+) -> Result<bool, NoMemory>
+    requires is_open { Has calls.now call.now }
+    requires short { length one.now.list.items < MAX_ROOM }
+    ensures { IfOk result (λ nothing. IsTrue nothing → (at : Configuration)
+        → Means (description_of one.now) at
+        ⊎ Hides (O.spec object.now).next (O.writes object.now) calls.now (description_of one.now) at
+        → MayBePlaced (O.spec object.now).next calls.now at call.now
+        → Means (description_of one.now) (with_call (O.spec object.now).next at call.now)
+        ⊎ ((call.now.call ≢ returning.now.call)
+        × Hides (O.spec object.now).next (O.writes object.now) calls.now (description_of one.now)
+        (with_call (O.spec object.now).next at call.now))) }
+{
+    if object.overwrites(call.op) {
+        if call.call == returning.call {
+            return Ok(false);
+        }
+        return is_unseen(alloc, object, calls, one, call);
+    }
+    stays(alloc, object, one, call)
+}
+
+// Whether a call leaves the list of a description, and is optional there with its reply.
 fn stays<O: Overwriting>(
     alloc: Global,
     object: &O,
@@ -142,9 +172,6 @@ fn stays<O: Overwriting>(
         → Means (description_of one.now) at → (IsPlacedAt at call.now.call → ⊥)
         → Means (description_of one.now) (with_call (O.spec object.now).next at call.now)) }
 {
-    if object.overwrites(call.op) {
-        return Ok(false);
-    }
     let (reply, stays) = one.step(alloc, object, call.op)?;
     Ok(
         stays
@@ -153,6 +180,52 @@ fn stays<O: Overwriting>(
                 reply,
             }),
     )
+}
+
+// Whether all other open calls that may be placed at a description after an open call are known to
+// overwrite.
+fn is_unseen<O: Overwriting>(
+    alloc: Global,
+    object: &O,
+    calls: &[OpenCall],
+    one: &Reached,
+    call: &OpenCall,
+) -> Result<bool, NoMemory>
+    requires { length one.now.list.items < MAX_ROOM }
+    ensures { IfOk result (λ unseen. IsTrue unseen → (other : OpenCall) → Has calls.now other
+        → IsUnseenBy (O.spec object.now).next (O.writes object.now) (description_of one.now)
+        call.now other) }
+{
+    let Some(after) = one.after(alloc, object, call)? else {
+        return Ok(false);
+    };
+    if !after.is_short() {
+        return Ok(false);
+    }
+    for other in calls {
+        if sees(alloc, object, &after, other)? {
+            return Ok(false);
+        }
+    }
+    Ok(true)
+}
+
+// Whether an open call may be placed at a description, and isn't known to overwrite.
+fn sees<O: Overwriting>(
+    alloc: Global,
+    object: &O,
+    after: &Reached,
+    other: &OpenCall,
+) -> Result<bool, NoMemory>
+    requires { length after.now.list.items < MAX_ROOM }
+    ensures { IfOk result (λ sees. sees ≡ false → SeesNothing (O.spec object.now).next
+        (O.writes object.now) (description_of after.now) other.now) }
+{
+    if after.places(other.call) || object.overwrites(other.op) {
+        return Ok(false);
+    }
+    let (reply, _) = after.step(alloc, object, other.op)?;
+    Ok(other.may_have(reply))
 }
 
 /// Takes a description before a call returns with a reply. What is left of it, where the call may be

@@ -1,11 +1,12 @@
-ghost use Rattle.std.specs.Prelude.{◌≢◌, ◌<◌, length, OnOk, IfOk, IfSome, IfNone, List};
+ghost use Rattle.std.specs.Prelude.{◌≢◌, ◌<◌, length, OnOk, IfOk, IfSome, IfNone, IsTrue, List, [], ◌∷◌};
 ghost use Rattle.book_base.specs.declared.TheConstants.{MAX_ROOM};
 ghost use Rattle.streams.specs.Stream.{StreamEvent};
+ghost use Rattle.streams.specs.StreamOrder.{StreamPlace, IsAmong};
 ghost use Rattle.residue_laws.specs.Residue.{Configuration, IsInResidue};
 ghost use Rattle.late_residue.specs.Reached.{Has, description_of};
 ghost use Rattle.late_residue.specs.Known.{MayHaveReply};
 ghost use Rattle.late_residue.specs.Meaning.{Means, IsWider};
-ghost use Rattle.late_residue.specs.Placing.{AreOf, IsPlacedAt, Overwrites, IsSound, IsReachedBy, with_call};
+ghost use Rattle.late_residue.specs.Placing.{AreOf, IsPlacedAt, MayBePlaced, Hides, IsWritten, IsSound, IsReachedBy, with_call};
 ghost use Rattle.late_residue.specs.LateOnes.{AreOpen};
 
 use crate::open_call::OpenCall;
@@ -29,6 +30,10 @@ pub fn expanded<O: Overwriting>(
     requires lacking { AreOf (description_of from.now).placed call.now.call → ⊥ }
     ensures means { IfOk result (λ found. IfSome found (λ after. (at : Configuration)
         → Means (description_of from.now) at → (IsPlacedAt at call.now.call → ⊥)
+        → Means (description_of after) (with_call (O.spec object.now).next at call.now))) }
+    ensures hidden { IfOk result (λ found. IfSome found (λ after. (at : Configuration)
+        → Hides (O.spec object.now).next (O.writes object.now) calls.now (description_of from.now) at
+        → MayBePlaced (O.spec object.now).next calls.now at call.now
         → Means (description_of after) (with_call (O.spec object.now).next at call.now))) }
     ensures sound { IfOk result (λ found. IfSome found (λ after. (stream : List StreamEvent)
         → AreOpen stream calls.now
@@ -107,6 +112,13 @@ fn hide<O: Overwriting>(
 ) -> Result<(), NoMemory>
     requires short { length from.now.list.items < MAX_ROOM }
     ensures wider { OnOk result (IsWider (description_of one.old) (description_of one.new)) }
+    ensures optional { OnOk result ((place : StreamPlace)
+        → IsAmong (description_of one.old).optional place
+        → IsAmong (description_of one.new).optional place) }
+    ensures hidden { OnOk result (IsTrue (O.writes object.now last.now.op) → (place : StreamPlace)
+        → IsWritten (O.spec object.now).next (O.writes object.now) calls.now place
+        → (place.call ≢ last.now.call) → (AreOf (description_of one.old).placed place.call → ⊥)
+        → IsAmong (description_of one.new).optional place) }
     ensures sound { OnOk result ((stream : List StreamEvent) → AreOpen stream calls.now
         → IsSound (IsReachedBy (O.spec object.now) stream last.now) calls.now
         (description_of one.old)
@@ -135,8 +147,15 @@ fn hide_call<O: Overwriting>(
 ) -> Result<(), NoMemory>
     requires is_open { Has calls.now call.now }
     requires short { length from.now.list.items < MAX_ROOM }
-    requires last { Overwrites (O.spec object.now).next last.now.op }
+    requires last { IsTrue (O.writes object.now last.now.op) }
     ensures wider { OnOk result (IsWider (description_of one.old) (description_of one.new)) }
+    ensures optional { OnOk result ((place : StreamPlace)
+        → IsAmong (description_of one.old).optional place
+        → IsAmong (description_of one.new).optional place) }
+    ensures hidden { OnOk result ((place : StreamPlace)
+        → IsWritten (O.spec object.now).next (O.writes object.now) (call.now ∷ []) place
+        → (place.call ≢ last.now.call) → (AreOf (description_of one.old).placed place.call → ⊥)
+        → IsAmong (description_of one.new).optional place) }
     ensures sound { OnOk result ((stream : List StreamEvent) → AreOpen stream calls.now
         → IsSound (IsReachedBy (O.spec object.now) stream last.now) calls.now
         (description_of one.old)

@@ -1,4 +1,4 @@
-use Rattle.std.proofs.Common.{◌≡◌, ℕ, ◌<◌, [], length, sym, subst, arith, leb-true}
+use Rattle.std.proofs.Common.{ℕ, ◌<◌, [], sym, subst, arith, leb-true}
 use Rattle.std.proofs.lemmas.List.{length-map}
 use Rattle.late_residue.specs.Reached.{description_of, descriptions_of}
 use Rattle.late_residue.proofs.Handling.{added_none, added_on, closed_old, within_items}
@@ -41,7 +41,8 @@ loop-k-preserved g c = record {
       (descriptions_of c.loop-k.left.items) (descriptions_of c.expand.new.ones.items)
       (descriptions_of c.expand.new.left.items) c.loop-k.invariant.added
       c.in_ok-expand.ensures.added;
-  leads = closed_old (g.O.SeqObject.spec c.args.object.now).next c.args.calls.now
+  leads = closed_old (g.O.SeqObject.spec c.args.object.now).next
+      (g.O.Overwriting.writes c.args.object.now) c.args.calls.now
       c.args.returning.now c.args.reply (descriptions_of c.loop-k.ones.items)
       (descriptions_of c.loop-k.left.items) (descriptions_of c.expand.new.ones.items)
       (descriptions_of c.expand.new.left.items) c.loop-k.k c.in_ok-expand.ensures.added.grows

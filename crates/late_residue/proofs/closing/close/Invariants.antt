@@ -11,6 +11,6 @@ invariant-loop-k g l = record {
       (descriptions_of l.initial.ones.items) (descriptions_of l.initial.left.items)
       (descriptions_of l.ones.items) (descriptions_of l.left.items);
   leads : (j : ℕ) (one : Description) → j < l.k → slice_get (descriptions_of l.ones.items) j ≡ Some one
-      → LeadsOn (g.O.SeqObject.spec l.object).next l.calls l.returning l.reply
+      → LeadsOn (g.O.SeqObject.spec l.object).next (g.O.Overwriting.writes l.object) l.calls l.returning l.reply
       (descriptions_of l.ones.items) (descriptions_of l.left.items) (length l.calls) one;
 }

@@ -1,11 +1,11 @@
-use Rattle.std.proofs.Common.{◌≡◌, ◌∙◌, ◌<◌, ◌≤◌, [], length, Some, slice_get, sym, subst, inl, inr, arith}
+use Rattle.std.proofs.Common.{◌≡◌, ◌∙◌, ◌<◌, [], length, Some, slice_get, sym, subst, inl, inr, arith}
 use Rattle.std.proofs.lemmas.Bool.{cases_lt}
 use Rattle.std.proofs.lemmas.Option.{same_Some, slice_get-get_or, slice_get_within}
 use Rattle.book_base.specs.declared.TheConstants.{MAX_ROOM}
 use Rattle.late_residue.specs.Description.{Description}
 use Rattle.late_residue.specs.Reached.{description_of, descriptions_of}
 use Rattle.late_residue.proofs.Items.{map-at, not_true, grows-at}
-use Rattle.late_residue.proofs.Handling.{added_none, added_on, at_all, item_at, leads_none, leads_next, within_items}
+use Rattle.late_residue.proofs.Handling.{added_none, added_on, item_at, leads_none, leads_next, within_items}
 use Rattle.late_residue.proofs.closing.expand.Goals as goal
 
 pub returns-then-not-is_short-clause-added : goal.returns-then-not-is_short-clause-added
@@ -34,7 +34,8 @@ pub loop-call-init : goal.loop-call-init
 loop-call-init g c = record {
   added = added_none (g.O.SeqObject.spec c.args.object.now) c.args.calls.now c.args.returning.now
       c.args.reply [] (descriptions_of c.args.ones.now.items) (descriptions_of c.args.left.now.items);
-  leads = λ one there. leads_none (g.O.SeqObject.spec c.args.object.now).next c.args.calls.now
+  leads = λ one there. leads_none (g.O.SeqObject.spec c.args.object.now).next
+      (g.O.Overwriting.writes c.args.object.now) c.args.calls.now
       c.args.returning.now c.args.reply (descriptions_of c.args.ones.now.items)
       (descriptions_of c.args.left.now.items) one;
 }
@@ -66,7 +67,8 @@ loop-call-preserved g c = record {
       (descriptions_of c.loop-call.left.items) (descriptions_of c.place.new.ones.items)
       (descriptions_of c.place.new.left.items) c.loop-call.invariant.added
       c.in_ok-place.ensures.added;
-  leads = λ one is. leads_next (g.O.SeqObject.spec c.args.object.now).next c.args.calls.now
+  leads = λ one is. leads_next (g.O.SeqObject.spec c.args.object.now).next
+      (g.O.Overwriting.writes c.args.object.now) c.args.calls.now
       c.args.returning.now c.args.reply (descriptions_of c.loop-call.ones.items)
       (descriptions_of c.loop-call.left.items) (descriptions_of c.place.new.ones.items)
       (descriptions_of c.place.new.left.items) one c.loop-call.call-index _
@@ -80,7 +82,7 @@ pub returns-clause-added : goal.returns-clause-added
 returns-clause-added g c = c.loop-call.invariant.added
 
 pub returns-clause-leads : goal.returns-clause-leads
-returns-clause-leads g c all one there at means j call less is may =
+returns-clause-leads g c all one there at covered j call less is may =
     let within = slice_get_within c.args.calls.now j call is in
     let below : j < c.loop-call.call-index = omega (arith, within, c.loop-call-test.false) in
-    c.loop-call.invariant.leads one there at means j call below is may
+    c.loop-call.invariant.leads one there at covered j call below is may

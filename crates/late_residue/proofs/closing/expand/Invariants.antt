@@ -11,6 +11,6 @@ invariant-loop-call g l = record {
       (descriptions_of l.initial.ones.items) (descriptions_of l.initial.left.items)
       (descriptions_of l.ones.items) (descriptions_of l.left.items);
   leads : (one : Description) → slice_get (descriptions_of l.initial.ones.items) l.k ≡ Some one
-      → LeadsOn (g.O.SeqObject.spec l.object).next l.calls l.returning l.reply
+      → LeadsOn (g.O.SeqObject.spec l.object).next (g.O.Overwriting.writes l.object) l.calls l.returning l.reply
       (descriptions_of l.ones.items) (descriptions_of l.left.items) l.call-index one;
 }

@@ -1,4 +1,4 @@
-use Rattle.std.proofs.Common.{◌≡◌, ◌<◌, length, sym, subst, arith}
+use Rattle.std.proofs.Common.{◌<◌, sym, subst, arith}
 use Rattle.late_residue.specs.Description.{Description}
 use Rattle.late_residue.specs.Reached.{description_of, descriptions_of}
 use Rattle.late_residue.specs.Meaning.{Serves}

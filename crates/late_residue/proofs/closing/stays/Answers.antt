@@ -1,5 +1,5 @@
-use Rattle.std.proofs.Common.{◌≡◌, ◌∙◌, ℕ, List, sym, ap, subst}
-use Rattle.streams.specs.StreamOrder.{StreamPlace, IsAmong}
+use Rattle.std.proofs.Common.{ℕ, subst}
+use Rattle.streams.specs.StreamOrder.{IsAmong}
 use Rattle.late_residue.specs.Reached.{description_of}
 use Rattle.late_residue.proofs.Meanings.{stays_means}
 use Rattle.late_residue.proofs.closing.stays.Goals as goal

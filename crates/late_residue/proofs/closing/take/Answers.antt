@@ -1,8 +1,6 @@
-use Rattle.std.proofs.Common.{◌≡◌, ◌∙◌, inl, inr, sym}
-use Rattle.streams.specs.StreamOrder.{IsAmong}
+use Rattle.std.proofs.Common.{inl, inr}
 use Rattle.late_residue.specs.Reached.{description_of, descriptions_of}
-use Rattle.late_residue.specs.Placing.{AreOf}
-use Rattle.late_residue.proofs.Items.{not_true, grows-not}
+use Rattle.late_residue.proofs.Items.{not_true}
 use Rattle.late_residue.proofs.Handling.{meant-grows, added_none, added_on, added_left, added_put, taken_placed, taken_other, taken_leaving, taken_both, taken_put}
 use Rattle.late_residue.proofs.closing.take.Goals as goal
 

@@ -1,4 +1,4 @@
-use Rattle.std.proofs.Common.{◌≡◌, ◌∙◌, ◌<◌, length, slice_set, refl, sym, arith}
+use Rattle.std.proofs.Common.{◌∙◌, ◌<◌, length, slice_set, refl, arith}
 use Rattle.late_residue.proofs.Items.{length-set}
 use Rattle.late_residue.proofs.Revealing.{forgotten_none, forgotten_next, all_forgotten}
 use Rattle.late_residue.proofs.Handling.{item_at}

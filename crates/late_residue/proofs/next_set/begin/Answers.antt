@@ -1,4 +1,4 @@
-use Rattle.std.proofs.Common.{◌≡◌, [], ◌∷◌, refl, sym, subst}
+use Rattle.std.proofs.Common.{[], ◌∷◌, refl, sym, subst}
 use Rattle.residue_laws.specs.Residue.{IsInResidue}
 use Rattle.late_residue.specs.Description.{Description}
 use Rattle.late_residue.specs.Reached.{description_of, descriptions_of}

@@ -1,7 +1,6 @@
-use Rattle.std.proofs.Common.{◌≡◌, ℕ, ◌≤◌, List, length, sym, ap, subst}
+use Rattle.std.proofs.Common.{ℕ, ◌≤◌, List, sym, ap, subst}
 use Rattle.std.proofs.lemmas.List.{length-map}
 use Rattle.late_residue.specs.declared.reached.Reached.{Reached}
-use Rattle.late_residue.specs.Description.{Description}
 use Rattle.late_residue.specs.Reached.{Has, description_of, descriptions_of}
 use Rattle.late_residue.specs.Meaning.{AreMeant}
 use Rattle.late_residue.proofs.Handling.{item_at}
@@ -35,7 +34,7 @@ returns-then-branch-clause-after g c stream process = late_next
     c.args.before.now (descriptions_of c.loop-one.ones.items)
     (descriptions_of c.loop-one.left.items) (descriptions_of c.close.new.ones.items)
     (descriptions_of c.close.new.left.items) (descriptions_of c.in_ok-pruned.field-0.items)
-    c.loop-one.one-index stream process
+    c.loop-one.one-index stream process (g.O.Overwriting.writes c.args.object.now)
     (subst (λ (n : ℕ). n ≤ c.loop-one.one-index) (sym (length-map c.args.before.now description_of))
     c.loop-one-test.false) c.loop-one.invariant c.in_ok-close.ensures.added
     (c.in_ok-close.ensures.closed c.if-branch.true)

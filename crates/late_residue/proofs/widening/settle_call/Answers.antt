@@ -1,4 +1,3 @@
-use Rattle.std.proofs.Common.{◌≡◌, ◌∙◌, sym}
 use Rattle.late_residue.specs.Reached.{description_of}
 use Rattle.late_residue.specs.Placing.{AreOf}
 use Rattle.late_residue.proofs.Items.{not_true, on_ok}

@@ -1,4 +1,4 @@
-use Rattle.std.proofs.Common.{◌≡◌, ◌∙◌, List, ap, sym, subst}
+use Rattle.std.proofs.Common.{◌∙◌, List, ap, sym, subst}
 use Rattle.late_residue.specs.Description.{Description}
 use Rattle.late_residue.specs.declared.reached.Reached.{Reached}
 use Rattle.late_residue.specs.Reached.{descriptions_of}

@@ -1,10 +1,8 @@
-use Rattle.std.proofs.Common.{rules, ◌≡◌, List, map, sym, subst}
+use Rattle.std.proofs.Common.{rules, ◌≡◌, List, sym, subst}
 use Rattle.std.specs.List.{filter}
 use Rattle.std.proofs.lemmas.Fn.{filter_same}
 use Rattle.late_residue.specs.Description.{Description}
-use Rattle.late_residue.specs.declared.reached.Reached.{Reached}
 use Rattle.late_residue.specs.Reached.{descriptions_of}
-use Rattle.late_residue.specs.Known.{with_reply}
 use Rattle.late_residue.specs.LateOnes.{AreLate}
 use Rattle.late_residue.proofs.Revealing.{only_test, reveals_all}
 use Rattle.late_residue.proofs.late_residue.LateResidue.reveal.Goals as goal

@@ -1,5 +1,4 @@
-use Rattle.std.proofs.Common.{◌≡◌, ◌⊎◌, ◌∙◌, List, [], ◌∷◌, ◌++◌, map, refl, sym, ap, subst, inl, inr}
-use Rattle.streams.specs.StreamOrder.{StreamPlace, IsAmong}
+use Rattle.std.proofs.Common.{◌≡◌, ◌∙◌, List, [], ◌∷◌, ◌++◌, map, refl, ap}
 use Rattle.residue_laws.proofs.Appending.{map-both}
 use Rattle.late_residue.specs.declared.reached.Placed.{Placed}
 use Rattle.late_residue.specs.Reached.{place_of}

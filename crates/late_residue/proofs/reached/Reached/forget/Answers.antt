@@ -1,7 +1,6 @@
-use Rattle.std.proofs.Common.{rules, ◌≡◌, not, ◌==◌, ◌||◌, List, map, refl, sym, subst}
+use Rattle.std.proofs.Common.{rules, ◌≡◌}
 use Rattle.std.specs.List.{filter}
 use Rattle.std.proofs.lemmas.Fn.{filter_same}
-use Rattle.late_residue.specs.declared.reached.Placed.{Placed}
 use Rattle.late_residue.proofs.Revealing.{place_test, forgotten}
 use Rattle.late_residue.proofs.reached.Reached.forget.Goals as goal
 

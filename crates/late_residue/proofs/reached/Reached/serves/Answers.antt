@@ -1,5 +1,4 @@
 use Rattle.std.proofs.Common.{◌≡◌, ◌∙◌, true, false, sym}
-use Rattle.late_residue.specs.Reached.{description_of}
 use Rattle.late_residue.proofs.Items.{not_true}
 use Rattle.late_residue.proofs.Views.{held_all, all_held, held_either, either_held, all_in, all_in_either, all_in_same, all_in_either_same}
 use Rattle.late_residue.proofs.reached.Reached.serves.Goals as goal

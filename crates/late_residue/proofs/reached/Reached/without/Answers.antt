@@ -1,4 +1,4 @@
-use Rattle.std.proofs.Common.{◌≡◌, ◌∙◌, not, ◌==◌, List, map, sym, ap, subst}
+use Rattle.std.proofs.Common.{◌∙◌, not, ◌==◌, List, map, sym, ap, subst}
 use Rattle.std.specs.List.{filter}
 use Rattle.late_residue.specs.declared.reached.Placed.{Placed}
 use Rattle.late_residue.specs.Reached.{place_of}
