@@ -1,0 +1,9 @@
+pub mod Refuting
+pub mod Faults
+pub mod Sets
+pub mod Naming
+pub mod Listing
+pub mod Widening
+pub mod Knowing
+pub mod Bounds
+pub mod Opening

@@ -1,0 +1,4 @@
+pub mod Closed
+pub mod Fault
+pub mod Stored
+pub mod Laws

@@ -1,0 +1,5 @@
+pub mod Moves
+pub mod Closed
+pub mod Fault
+pub mod Laws
+pub mod Tabled
