@@ -6,15 +6,16 @@ use Rattle.std.proofs.lemmas.List.Concat.{flat_map-cons, flat_map-append}
 use Rattle.book_base.specs.Book.{Page}
 use Rattle.seq_objects.specs.declared.kind.Kind.{Kind}
 use Rattle.refutations.specs.declared.entry.Entry.{Entry}
+use Rattle.pair_refutations.specs.declared.entry.PairEntry.{PairEntry}
 use Rattle.text_fields.specs.declared.version.Version.TheVariants.{Second}
 use Rattle.text_fields.specs.Lines.{line_text, text_of}
 use Rattle.text_fields.specs.Faults.{AllPass}
 use Rattle.text_fields.specs.Head.{TitleDue}
 use Rattle.text_fields.proofs.Sharp.{AllPass-append}
 use Rattle.book_text.specs.BookRules.{BookDue, InHead, InCalls, AtEnd, BookPasses, IsBookText}
-use Rattle.refutation_text.specs.Said.{StepSaid, EndingSaid, Impossible, Takes, Find, Closed, LineSaid, StepLine, ImpossibleLine, TakesLine, FindLine, PlainLine, ItemLine, EndLine}
+use Rattle.refutation_text.specs.Said.{StepSaid, EndingSaid, Impossible, Takes, Find, Closed, Pairs, LineSaid, StepLine, ImpossibleLine, TakesLine, FindLine, PlainLine, PairsLine, ItemLine, MoveLine, EndLine}
 use Rattle.refutation_text.specs.Grammar.{refutation_words, MaySay, line_words}
-use Rattle.refutation_text.specs.RefutationRules.{BodyDue, InSteps, EndDue, InEntries, BodyRead, after_line, BodyPasses, StepsDue, InBody, after_book, RefutationPasses, refutation_rules, nothing_read, IsRefutationText}
+use Rattle.refutation_text.specs.RefutationRules.{BodyDue, InSteps, EndDue, InEntries, InPairs, BodyRead, after_line, BodyPasses, StepsDue, InBody, after_book, RefutationPasses, refutation_rules, nothing_read, IsRefutationText}
 use Rattle.evidence_text.specs.Written.{ending_lines, body_lines, IsWritten}
 use Rattle.evidence_text.proofs.WrittenLines.{both_written}
 
@@ -41,6 +42,25 @@ entries_pass steps done (entry ∷ entries) may =
       subst (λ (all : List Entry). AllPass BodyPasses (InEntries steps one)
           (map line_words (map ItemLine entries ++ EndLine ∷ [])) (BodyRead steps (Closed all)))
           (append_assoc done (entry ∷ []) entries) (entries_pass steps one entries may.1),
+    )
+
+pairs_pass : (steps : List StepSaid) (done entries : List PairEntry)
+    → AllByRecursion MaySay (map MoveLine entries ++ EndLine ∷ [])
+    → AllPass BodyPasses (InPairs steps done)
+    (map line_words (map MoveLine entries ++ EndLine ∷ []))
+    (BodyRead steps (Pairs (done ++ entries)))
+pairs_pass steps done [] may = (
+  BodyRead steps (Pairs done),
+  right (InPairs steps done) (BodyRead steps (Pairs done)) EndLine tt refl,
+  ap (λ (all : List PairEntry). BodyRead steps (Pairs all)) (sym (append-nil done)),
+)
+pairs_pass steps done (entry ∷ entries) may =
+    let one : List PairEntry = done ++ entry ∷ [] in (
+      InPairs steps one,
+      right (InPairs steps done) (InPairs steps one) (MoveLine entry) may.0 refl,
+      subst (λ (all : List PairEntry). AllPass BodyPasses (InPairs steps one)
+          (map line_words (map MoveLine entries ++ EndLine ∷ [])) (BodyRead steps (Pairs all)))
+          (append_assoc done (entry ∷ []) entries) (pairs_pass steps one entries may.1),
     )
 
 -- an ending of one line passes, with the end
@@ -72,6 +92,11 @@ ending_passes steps (Closed entries) may = (
   InEntries steps [],
   right (InSteps steps) (InEntries steps []) PlainLine tt refl,
   entries_pass steps [] entries may.1,
+)
+ending_passes steps (Pairs entries) may = (
+  InPairs steps [],
+  right (InSteps steps) (InPairs steps []) PairsLine tt refl,
+  pairs_pass steps [] entries may.1,
 )
 
 body_passes : (done steps : List StepSaid) (ending : EndingSaid)

@@ -1,32 +1,32 @@
 -- The lines of a refutation after its title, as they are written one after another.
-use Rattle.std.specs.Prelude.{◌≡◌, ℕ, List, [], ◌∷◌, ◌++◌, map}
+use Rattle.std.specs.Prelude.{◌≡◌, ℕ, ◌<◌, ◌^◌, List, [], ◌∷◌, ◌++◌, map}
 use Rattle.std.specs.List.{AllByRecursion}
 use Rattle.text_fields.specs.Lines.{text_of}
-use Rattle.refutation_text.specs.Said.{StepSaid, At, EndingSaid, Impossible, Takes, Find, Closed, LineSaid, StepLine, ImpossibleLine, TakesLine, FindLine, PlainLine, ItemLine, EndLine}
-use Rattle.evidence_text.specs.declared.writer.Reason.{Reason}
-use Rattle.evidence_text.specs.declared.writer.Reason.TheVariants as reasons
-use Rattle.refutation_text.specs.Grammar.{AreCounts, MaySay, line_words}
+use Rattle.refutation_text.specs.Said.{StepSaid, At, EndingSaid, Impossible, Takes, Find, Closed, Pairs, LineSaid, StepLine, ImpossibleLine, TakesLine, FindLine, PlainLine, PairsLine, ItemLine, MoveLine, EndLine}
+use Rattle.refutation_text.specs.Grammar.{AreCounts, AreValues, MaySay, line_words}
 
 -- a step back to a cut has a count for each of 16 callers
 abbrev pub HasCounts : StepSaid → Type 0
 HasCounts (At counts) = AreCounts counts
 HasCounts step = Unit {0}
 
--- what a reason says as an ending
-abbrev pub reason_said : Reason → EndingSaid
-reason_said (reasons.Impossible call) = Impossible call
-reason_said (reasons.Closed entries) = Closed entries.items
+-- the values that an ending counts are such as a line can say
+abbrev pub HasValues : EndingSaid → Type 0
+HasValues (Takes value moment) = value < 2 ^ 32
+HasValues (Find call values) = AreValues values
+HasValues ending = Unit {0}
 
 -- the lines of what an ending says
-abbrev pub reason_lines : EndingSaid → List LineSaid
-reason_lines (Impossible call) = ImpossibleLine call ∷ []
-reason_lines (Takes value moment) = TakesLine value moment ∷ []
-reason_lines (Find call values) = FindLine call values ∷ []
-reason_lines (Closed entries) = PlainLine ∷ map ItemLine entries
+abbrev pub form_lines : EndingSaid → List LineSaid
+form_lines (Impossible call) = ImpossibleLine call ∷ []
+form_lines (Takes value moment) = TakesLine value moment ∷ []
+form_lines (Find call values) = FindLine call values ∷ []
+form_lines (Closed entries) = PlainLine ∷ map ItemLine entries
+form_lines (Pairs entries) = PairsLine ∷ map MoveLine entries
 
 -- the lines of an ending, up to the end
 abbrev pub ending_lines : EndingSaid → List LineSaid
-ending_lines ending = reason_lines ending ++ EndLine ∷ []
+ending_lines ending = form_lines ending ++ EndLine ∷ []
 
 -- the lines after the title
 abbrev pub body_lines : List StepSaid → EndingSaid → List LineSaid

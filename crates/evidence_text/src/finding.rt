@@ -6,24 +6,27 @@ ghost use Rattle.book_base.specs.declared.call.Call.{Call};
 ghost use Rattle.book_base.specs.Order.{HasLegalOrder};
 ghost use Rattle.seq_objects.specs.Objects.{kind_spec};
 ghost use Rattle.refutations.specs.Impossible.{IsImpossible};
-ghost use Rattle.refutation_text.specs.Said.{Impossible, steps_said};
+ghost use Rattle.refutation_text.specs.Said.{Impossible, ending_said, steps_said};
 ghost use Rattle.refutation_text.specs.RefutationRules.{IsRefutationText};
-ghost use Rattle.evidence_text.specs.Written.{HasCounts};
+ghost use Rattle.evidence_text.specs.Written.{HasCounts, HasValues};
 ghost use Rattle.evidence_text.specs.Found.{AreParts, IsRefutationOf, IsFinding, IsFirstNamed};
 
+use crate::counting::counts_of;
 use crate::evidence::{Limit, Limits};
 use crate::parts::{Parts, parts_of};
-use crate::writer::{Reason, write_refutation};
+use crate::writer::write_refutation;
 use book_base::{Book, Call, NoMemory, ReadFault};
-use refutation_text::{RefutationVerdict, Step, refute};
+use pair_refutations::find_pairs;
+use refutation_text::{Ending, RefutationVerdict, Step, refute};
 use refutations::{find_closed, first_impossible};
 use seq_objects::Kind;
 use smaller_book::Smaller;
 use std::alloc::Global;
 
 /// The text of a refutation of a book, or the limit that was met. A reply that no state gives is
-/// named without a step. Of other books a part is looked for of which few items have to be listed:
-/// first the smallest part that is found, and then those with fewer steps.
+/// named without a step, and so are counts of puts and takes. Of other books a part is looked for of
+/// which few items have to be listed: first the smallest part that is found, and then those with
+/// fewer steps.
 pub(crate) fn refutation_of(
     alloc: Global,
     kind: Kind,
@@ -41,6 +44,22 @@ pub(crate) fn refutation_of(
 {
     match first_impossible(kind, book) {
         Some(call) => Ok(within(text_of_reply(alloc, kind, book, call)?, limits)),
+        None => of_possible(alloc, kind, book, limits),
+    }
+}
+
+// A refutation that counts puts and takes of the book, or lists the items of a part.
+fn of_possible(
+    alloc: Global,
+    kind: Kind,
+    book: &Book,
+    limits: Limits,
+) -> Result<Result<Vec<u8>, Limit>, NoMemory>
+    requires { ¬ HasLegalOrder (kind_spec kind) book.now }
+    ensures { IfOk result (IsFinding kind book.now limits) }
+{
+    match counted(alloc, kind, book)? {
+        Some(text) => Ok(within(text, limits)),
         None => {
             let parts = parts_of(alloc, kind, book)?;
             of_parts(alloc, kind, book, &parts, limits)
@@ -70,8 +89,18 @@ fn text_of_reply(alloc: Global, kind: Kind, book: &Book, call: Call) -> Result<V
     ensures right { IfOk result (λ text. IsRefutationOf kind book.now text.items) }
 {
     let _callers = book.callers();
-    let text = write_refutation(alloc, kind, book, &[], &Reason::Impossible(call))?;
+    let text = write_refutation(alloc, kind, book, &[], &Ending::Impossible(call))?;
     Ok(text)
+}
+
+// The text of a refutation that counts puts and takes of the book, where one is found.
+fn counted(alloc: Global, kind: Kind, book: &Book) -> Result<Option<Vec<u8>>, NoMemory>
+    ensures { IfOk result (λ found. IfSome found (λ text. IsRefutationOf kind book.now text.items)) }
+{
+    match counts_of(alloc, kind, book)? {
+        Some(ending) => judged(alloc, kind, book, &[], &ending),
+        None => Ok(None),
+    }
 }
 
 // A refutation that lists the items of some part, of which the last one is tried first.
@@ -114,12 +143,52 @@ fn of_part(
     requires { AllByRecursion HasCounts (steps_said steps.now) }
     ensures { IfOk result (IsFinding kind book.now limits) }
 {
-    let Some(entries) = find_closed(alloc, &kind, &left.book, limits.items)? else {
-        return Ok(Err(Limit::Items));
-    };
-    match judged(alloc, kind, book, steps, &Reason::Closed(entries))? {
+    match listed(alloc, kind, book, left, steps, limits)? {
         Some(text) => Ok(within(text, limits)),
         None => Ok(Err(Limit::Items)),
+    }
+}
+
+// The text of a refutation that lists the items of a part, where one is found. Of a queue standings
+// are tried first, of which there are fewer.
+fn listed(
+    alloc: Global,
+    kind: Kind,
+    book: &Book,
+    left: &Smaller,
+    steps: &[Step],
+    limits: Limits,
+) -> Result<Option<Vec<u8>>, NoMemory>
+    requires { AllByRecursion HasCounts (steps_said steps.now) }
+    ensures { IfOk result (λ found. IfSome found (λ text. IsRefutationOf kind book.now text.items)) }
+{
+    if kind == Kind::Queue {
+        let found = paired(alloc, kind, book, left, steps, limits)?;
+        if found.is_some() {
+            return Ok(found);
+        }
+    }
+    match find_closed(alloc, &kind, &left.book, limits.items)? {
+        Some(entries) => judged(alloc, kind, book, steps, &Ending::Closed(entries)),
+        None => Ok(None),
+    }
+}
+
+// The text of a refutation of a queue's book that lists standings of a part, where one is found.
+fn paired(
+    alloc: Global,
+    kind: Kind,
+    book: &Book,
+    left: &Smaller,
+    steps: &[Step],
+    limits: Limits,
+) -> Result<Option<Vec<u8>>, NoMemory>
+    requires { AllByRecursion HasCounts (steps_said steps.now) }
+    ensures { IfOk result (λ found. IfSome found (λ text. IsRefutationOf kind book.now text.items)) }
+{
+    match find_pairs(alloc, &left.book, limits.items)? {
+        Some(entries) => judged(alloc, kind, book, steps, &Ending::Pairs(entries)),
+        None => Ok(None),
     }
 }
 
@@ -129,12 +198,13 @@ fn judged(
     kind: Kind,
     book: &Book,
     steps: &[Step],
-    reason: &Reason,
+    ending: &Ending,
 ) -> Result<Option<Vec<u8>>, NoMemory>
-    requires { AllByRecursion HasCounts (steps_said steps.now) }
+    requires steps { AllByRecursion HasCounts (steps_said steps.now) }
+    requires ending { HasValues (ending_said ending.now) }
     ensures { IfOk result (λ found. IfSome found (λ text. IsRefutationOf kind book.now text.items)) }
 {
-    let text = write_refutation(alloc, kind, book, steps, reason)?;
+    let text = write_refutation(alloc, kind, book, steps, ending)?;
     match refute(alloc, &text) {
         Ok(RefutationVerdict::Illegal) => Ok(Some(text)),
         Ok(RefutationVerdict::Faulty(_)) => Ok(None),

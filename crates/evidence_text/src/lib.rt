@@ -3,6 +3,7 @@
 //! are searched for, and judged before they are given out.
 #![tactic(auto)]
 
+mod counting;
 mod evidence;
 mod finding;
 mod parts;
@@ -10,4 +11,4 @@ mod steps;
 mod writer;
 
 pub use evidence::{Evidence, Limit, Limits, evidence_for};
-pub use writer::{Reason, write_refutation};
+pub use writer::write_refutation;

@@ -7,46 +7,42 @@ ghost use Rattle.text_fields.specs.Counts.{AreNumbers, pair_words};
 ghost use Rattle.book_text.specs.CallLines.{place_words};
 ghost use Rattle.book_text.specs.Fields.{spaced};
 ghost use Rattle.certificate_text.specs.Grammar.{IsNamed};
-ghost use Rattle.refutation_text.specs.Said.{StepLine, PlainLine, ItemLine, step_said, steps_said};
+ghost use Rattle.refutation_text.specs.Said.{StepLine, PlainLine, PairsLine, ItemLine, MoveLine, step_said, steps_said, ending_said};
+ghost use Rattle.refutation_text.specs.Grammar.{IsMove, move_words, takes_words, find_words};
 ghost use Rattle.refutation_text.specs.RefutationRules.{IsRefutationText};
-ghost use Rattle.evidence_text.specs.Written.{HasCounts, IsWritten, reason_said, reason_lines, ending_lines};
+ghost use Rattle.evidence_text.specs.Written.{HasCounts, HasValues, IsWritten, form_lines, ending_lines};
 
 use book_base::{Book, Call, Cut, NoMemory};
 use book_text::fields::{put_pairs, put_place, put_spaced, put_title};
 use book_text::write_book;
-use refutation_text::Step;
+use pair_refutations::{Move, PairEntry};
+use refutation_text::{Ending, Step};
 use refutations::Entry;
 use seq_objects::{Kind, put_number};
 use std::alloc::Global;
 
-/// Why the part that the steps of a refutation leave has no legal order.
-#[derive(Debug, Drop)]
-pub enum Reason {
-    /// No state gives the operation of this call its reply.
-    Impossible(Call),
-    /// These entries make a closed list.
-    Closed(Vec<Entry>),
-}
-
-/// The one text of a refutation: of a book, for an object of this kind, steps and a reason, whether
+/// The one text of a refutation: of a book, for an object of this kind, steps and an ending, whether
 /// the refutation is right or not.
 pub fn write_refutation(
     alloc: Global,
     kind: Kind,
     book: &Book,
     steps: &[Step],
-    reason: &Reason,
+    ending: &Ending,
 ) -> Result<Vec<u8>, NoMemory>
     // Each step back to a cut has 16 counts.
-    requires { AllByRecursion HasCounts (steps_said steps.now) }
-    // A reader reads the bytes as the kind, the book, the steps and the reason.
+    requires steps { AllByRecursion HasCounts (steps_said steps.now) }
+    // Counted values are below 2^32; where a take that finds nothing is named, they rise, and there
+    // is at least one.
+    requires ending { HasValues (ending_said ending.now) }
+    // A reader reads the bytes as the kind, the book, the steps and the ending.
     ensures { IfOk result (λ bytes. IsRefutationText bytes.items kind book.now
-        (steps_said steps.now) (reason_said reason.now)) }
+        (steps_said steps.now) (ending_said ending.now)) }
 {
     let mut out = write_book(alloc, kind, book)?;
     put_title(&mut out, b"refutation")?;
     put_steps(&mut out, steps)?;
-    put_ending(&mut out, reason)?;
+    put_ending(&mut out, ending)?;
     Ok(out)
 }
 
@@ -122,25 +118,59 @@ fn put_call_line(out: &mut Vec<u8>, first: &[u8], call: Call) -> Result<(), NoMe
     Ok(())
 }
 
-/// Appends a reason and the end.
-fn put_ending(out: &mut Vec<u8>, reason: &Reason) -> Result<(), NoMemory>
-    ensures { OnOk result (IsWritten out.old.items (ending_lines (reason_said reason.now))
+/// Appends the lines of an ending, up to the end.
+fn put_ending(out: &mut Vec<u8>, ending: &Ending) -> Result<(), NoMemory>
+    requires { HasValues (ending_said ending.now) }
+    ensures { OnOk result (IsWritten out.old.items (ending_lines (ending_said ending.now))
         out.new.items) }
 {
-    put_reason(out, reason)?;
+    put_form(out, ending)?;
     out.extend_from_slice(b"end\n")?;
     Ok(())
 }
 
-/// Appends the lines of a reason.
-fn put_reason(out: &mut Vec<u8>, reason: &Reason) -> Result<(), NoMemory>
-    ensures { OnOk result (IsWritten out.old.items (reason_lines (reason_said reason.now))
+/// Appends the line of a form, and those of its entries.
+fn put_form(out: &mut Vec<u8>, ending: &Ending) -> Result<(), NoMemory>
+    requires { HasValues (ending_said ending.now) }
+    ensures { OnOk result (IsWritten out.old.items (form_lines (ending_said ending.now))
         out.new.items) }
 {
-    match reason {
-        Reason::Impossible(call) => put_call_line(out, b"impossible", *call),
-        Reason::Closed(entries) => put_list(out, entries),
+    match ending {
+        Ending::Impossible(call) => put_call_line(out, b"impossible", *call),
+        Ending::CountsTakes(value, moment) => put_takes_line(out, *value, *moment),
+        Ending::CountsFind(caller, number, values) => put_find_line(out, *caller, *number, values),
+        Ending::Closed(entries) => put_list(out, entries),
+        Ending::Pairs(entries) => put_pair_list(out, entries),
     }
+}
+
+/// Appends the line that counts takes of a value up to a moment.
+fn put_takes_line(out: &mut Vec<u8>, value: u64, moment: u64) -> Result<(), NoMemory>
+    ensures { OnOk result (out.new.items ≡ out.old.items ++ line_text (takes_words value moment)) }
+{
+    out.extend_from_slice(b"counts takes")?;
+    put_spaced(out, value)?;
+    put_spaced(out, moment)?;
+    out.push(b'\n')?;
+    Ok(())
+}
+
+/// Appends the line that counts values before a take that finds nothing.
+fn put_find_line(
+    out: &mut Vec<u8>,
+    caller: u64,
+    number: u64,
+    values: &[u64],
+) -> Result<(), NoMemory>
+    ensures { OnOk result (out.new.items ≡ out.old.items
+        ++ line_text (find_words (record { caller = caller; number = number }) values.now)) }
+{
+    out.extend_from_slice(b"counts find")?;
+    put_spaced(out, caller)?;
+    put_spaced(out, number)?;
+    put_numbers(out, values)?;
+    out.push(b'\n')?;
+    Ok(())
 }
 
 /// Appends the line that begins a closed list, and the lines of its entries.
@@ -163,4 +193,40 @@ fn put_entry(out: &mut Vec<u8>, entry: Entry) -> Result<(), NoMemory>
     put_spaced(out, entry.caller)?;
     out.push(b'\n')?;
     Ok(())
+}
+
+/// Appends the line that begins a closed list of standings, and the lines of its entries.
+fn put_pair_list(out: &mut Vec<u8>, entries: &[PairEntry]) -> Result<(), NoMemory>
+    ensures { OnOk result (IsWritten out.old.items (PairsLine ∷ map MoveLine entries.now)
+        out.new.items) }
+{
+    out.extend_from_slice(b"closed pairs\n")?;
+    for entry in entries {
+        put_pair_entry(out, *entry)?;
+    }
+    Ok(())
+}
+
+/// Appends the line of an entry that makes a standing.
+fn put_pair_entry(out: &mut Vec<u8>, entry: PairEntry) -> Result<(), NoMemory>
+    ensures { OnOk result (IsWritten out.old.items (MoveLine entry ∷ []) out.new.items) }
+{
+    put_number(out, entry.item)?;
+    put_move(out, entry.by)?;
+    out.push(b'\n')?;
+    Ok(())
+}
+
+/// Appends the words of a move, each after a space.
+fn put_move(out: &mut Vec<u8>, by: Move) -> Result<(), NoMemory>
+    ensures text { OnOk result (out.new.items ≡ out.old.items ++ spaced (move_words by)) }
+    ensures may { OnOk result (IsMove by) }
+{
+    match by {
+        Move::Finds => Ok(out.extend_from_slice(b" find")?),
+        Move::Callers(putter, taker) => {
+            put_spaced(out, putter)?;
+            put_spaced(out, taker)
+        }
+    }
 }

@@ -6,6 +6,9 @@ use Rattle.list_laws.proofs.Decimals.{decimal_byte}
 use Rattle.book_base.specs.declared.call.Call.{Call}
 use Rattle.book_base.proofs.ViewLemmas.{same_call}
 use Rattle.refutations.specs.declared.entry.Entry.{Entry}
+use Rattle.pair_refutations.specs.declared.entry.Move.{Move}
+use Rattle.pair_refutations.specs.declared.entry.Move.TheVariants.{Finds, Callers}
+use Rattle.pair_refutations.specs.declared.entry.PairEntry.{PairEntry}
 use Rattle.text_fields.specs.Counts.{AreNumbers}
 use Rattle.text_fields.specs.Lines.{IsSolid, AreSolid}
 use Rattle.text_fields.proofs.NumberTexts.{same_first, same_number, solid_decimal}
@@ -14,8 +17,8 @@ use Rattle.book_text.specs.CallLines.{place_words}
 use Rattle.book_text.proofs.CallTexts.{pairs_once}
 use Rattle.book_text.proofs.SharpBooks.{solid_pairs}
 use Rattle.certificate_text.specs.Grammar.{IsNamed}
-use Rattle.refutation_text.specs.Said.{At, Keys, Leave, LineSaid, StepLine, ImpossibleLine, TakesLine, FindLine, PlainLine, ItemLine, EndLine}
-use Rattle.refutation_text.specs.Grammar.{IsAnyCall, MaySay, line_words, takes_words, find_words, IsEntry, IsLine}
+use Rattle.refutation_text.specs.Said.{At, Keys, Leave, LineSaid, StepLine, ImpossibleLine, TakesLine, FindLine, PlainLine, PairsLine, ItemLine, MoveLine, EndLine}
+use Rattle.refutation_text.specs.Grammar.{IsAnyCall, MaySay, line_words, takes_words, find_words, IsEntry, IsMove, IsPairEntry, move_words, pair_entry_words, IsLine}
 
 -- how far the first byte of a line is above the digits
 abbrev initial : List (List ℕ) → ℕ
@@ -32,7 +35,9 @@ letter (ImpossibleLine call) = 48
 letter (TakesLine value moment) = 42
 letter (FindLine call values) = 42
 letter PlainLine = 42
+letter PairsLine = 42
 letter (ItemLine entry) = 0
+letter (MoveLine entry) = 0
 letter EndLine = 44
 
 initial-letter : (line : LineSaid) → MaySay line → initial (line_words line) ≡ letter line
@@ -44,7 +49,11 @@ initial-letter (ImpossibleLine call) may = refl
 initial-letter (TakesLine value moment) may = refl
 initial-letter (FindLine call values) may = refl
 initial-letter PlainLine may = refl
+initial-letter PairsLine may = refl
 initial-letter (ItemLine entry) may =
+    let digit = decimal_byte entry.item 0 may.0 (decimal_nonempty entry.item may.0) in
+    omega (arith, digit.1)
+initial-letter (MoveLine entry) may =
     let digit = decimal_byte entry.item 0 may.0 (decimal_nonempty entry.item may.0) in
     omega (arith, digit.1)
 initial-letter EndLine may = refl
@@ -68,6 +77,51 @@ one_entry a b h k e =
     let callers = same_number a.caller b.caller h.1 k.1 (same_first _ _ _ _ first.1).0 in
     let made : ℕ → ℕ → Entry = λ n i. record { item = n; caller = i } in
     ap (λ (n : ℕ). made n a.caller) items ∙ ap (made b.item) callers
+
+-- how far the first byte of a word is above the digits
+abbrev above_digits : List ℕ → ℕ
+above_digits word = get_or word 0 0 - 57
+
+-- a number isn't the word `find`
+number_or_find : (n : ℕ) → n < 2 ^ 64 → decimal n ≡ codes "find" → ⊥
+number_or_find n low e =
+    let digit = decimal_byte n 0 low (decimal_nonempty n low) in
+    omega (arith, digit.1, ap above_digits e)
+
+one_move : (a b : Move) → IsMove a → IsMove b → move_words a ≡ move_words b → a ≡ b
+one_move Finds Finds h k e = refl
+one_move Finds (Callers i j) h k e =
+    absurd (number_or_find i k.0 (sym (same_first _ _ _ _ e).0))
+one_move (Callers i j) Finds h k e = absurd (number_or_find i h.0 (same_first _ _ _ _ e).0)
+one_move (Callers i j) (Callers k l) h m e =
+    let first = same_first _ _ _ _ e in
+    let putters = same_number i k h.0 m.0 first.0 in
+    let takers = same_number j l h.1 m.1 (same_first _ _ _ _ first.1).0 in
+    ap (λ (n : ℕ). Callers n j) putters ∙ ap (Callers k) takers
+
+one_pair_entry : (a b : PairEntry) → IsPairEntry a → IsPairEntry b
+    → pair_entry_words a ≡ pair_entry_words b → a ≡ b
+one_pair_entry a b h k e =
+    let first = same_first _ _ _ _ e in
+    let items = same_number a.item b.item h.0 k.0 first.0 in
+    let moves = one_move a.by b.by h.1 k.1 first.1 in
+    let made : ℕ → Move → PairEntry = λ n by. record { item = n; by = by } in
+    ap (λ (n : ℕ). made n a.by) items ∙ ap (made b.item) moves
+
+-- an entry of a caller isn't one of a move
+item_or_move : (x : Entry) (m : ℕ) (by : Move) → IsEntry x
+    → ◌≡◌ {A = List (List ℕ)} (decimal x.item ∷ decimal x.caller ∷ [])
+    (decimal m ∷ move_words by) → ⊥
+item_or_move x m Finds h e =
+    number_or_find x.caller h.1 (same_first _ _ _ _ (same_first _ _ _ _ e).1).0
+item_or_move x m (Callers i j) h e = absurd (cc e)
+
+-- words that are neither `find` nor the callers of a move are those of no move
+pub no_move : (words : List (List ℕ)) → (words ≡ codes "find" ∷ [] → ⊥)
+    → ((i j : ℕ) → i < 2 ^ 64 → j < 2 ^ 64 → words ≡ decimal i ∷ decimal j ∷ [] → ⊥)
+    → (by : Move) → IsMove by → words ≡ move_words by → ⊥
+no_move words find callers Finds may e = find e
+no_move words find callers (Callers i j) may e = callers i j may.0 may.1 e
 
 -- values that a line can say are numbers that a line can say
 pub are_numbers : (values : List ℕ) → ((k : ℕ) → k < length values → get_or values k 0 < 2 ^ 32)
@@ -145,6 +199,23 @@ same_line_said (FindLine a xs) PlainLine h k l e =
 same_line_said PlainLine (FindLine b ys) h k l e =
     absurd (omega (arith, other_byte 0 1 (line_words PlainLine) (find_words b ys) e))
 same_line_said PlainLine PlainLine h k l e = refl
+same_line_said (TakesLine v m) PairsLine h k l e =
+    absurd (omega (arith, other_byte 0 1 (takes_words v m) (line_words PairsLine) e))
+same_line_said PairsLine (TakesLine w n) h k l e =
+    absurd (omega (arith, other_byte 0 1 (line_words PairsLine) (takes_words w n) e))
+same_line_said (FindLine a xs) PairsLine h k l e =
+    absurd (omega (arith, other_byte 0 1 (find_words a xs) (line_words PairsLine) e))
+same_line_said PairsLine (FindLine b ys) h k l e =
+    absurd (omega (arith, other_byte 0 1 (line_words PairsLine) (find_words b ys) e))
+same_line_said PlainLine PairsLine h k l e =
+    absurd (omega (arith, other_byte 1 1 (line_words PlainLine) (line_words PairsLine) e))
+same_line_said PairsLine PlainLine h k l e =
+    absurd (omega (arith, other_byte 1 1 (line_words PairsLine) (line_words PlainLine) e))
+same_line_said PairsLine PairsLine h k l e = refl
+same_line_said (MoveLine x) (MoveLine y) h k l e = ap MoveLine (one_pair_entry x y h k e)
+same_line_said (ItemLine x) (MoveLine y) h k l e = absurd (item_or_move x y.item y.by h e)
+same_line_said (MoveLine x) (ItemLine y) h k l e =
+    absurd (item_or_move y x.item x.by k (sym e))
 same_line_said (ItemLine x) (ItemLine y) h k l e = ap ItemLine (one_entry x y h k e)
 same_line_said EndLine EndLine h k l e = refl
 same_line_said a (StepLine (Keys true y)) h k l e = absurd (omega (arith, l))
@@ -173,6 +244,30 @@ counts_solid = plain (codes "counts") (
   omega arith,
   (omega arith, (omega arith, (omega arith, (omega arith, (omega arith, tt))))),
 ) (omega arith)
+
+closed_solid : IsSolid (codes "closed")
+closed_solid = plain (codes "closed") (
+  omega arith,
+  (omega arith, (omega arith, (omega arith, (omega arith, (omega arith, tt))))),
+) (omega arith)
+
+solid_move : (item : ℕ) (by : Move) → item < 2 ^ 64 → IsMove by
+    → AreSolid (decimal item ∷ move_words by)
+solid_move item Finds low may = record {
+  some = omega arith;
+  each = (
+    solid_decimal item low,
+    (
+      plain (codes "find") (omega arith, (omega arith, (omega arith, (omega arith, tt))))
+          (omega arith),
+      tt,
+    ),
+  );
+}
+solid_move item (Callers i j) low may = record {
+  some = omega arith;
+  each = (solid_decimal item low, (solid_decimal i may.0, (solid_decimal j may.1, tt)));
+}
 
 solid_said : (line : LineSaid) → MaySay line → AreSolid (line_words line)
 solid_said (StepLine (At counts)) may = record {
@@ -267,36 +362,23 @@ solid_said (FindLine call values) may = record {
 solid_said PlainLine may = record {
   some = omega arith;
   each = (
-    plain (codes "closed") (
-      omega arith,
-      (
-        omega arith,
-        (
-          omega arith,
-          (
-            omega arith,
-            (
-              omega arith,
-              (omega arith, tt),
-            ),
-          ),
-        ),
-      ),
-    ) (omega arith),
+    closed_solid,
     (
-      plain (codes "plain") (
-        omega arith,
-        (
-          omega arith,
-          (
-            omega arith,
-            (
-              omega arith,
-              (omega arith, tt),
-            ),
-          ),
-        ),
-      ) (omega arith),
+      plain (codes "plain")
+          (omega arith, (omega arith, (omega arith, (omega arith, (omega arith, tt)))))
+          (omega arith),
+      tt,
+    ),
+  );
+}
+solid_said PairsLine may = record {
+  some = omega arith;
+  each = (
+    closed_solid,
+    (
+      plain (codes "pairs")
+          (omega arith, (omega arith, (omega arith, (omega arith, (omega arith, tt)))))
+          (omega arith),
       tt,
     ),
   );
@@ -305,6 +387,7 @@ solid_said (ItemLine entry) may = record {
   some = omega arith;
   each = (solid_decimal entry.item may.0, (solid_decimal entry.caller may.1, tt));
 }
+solid_said (MoveLine entry) may = solid_move entry.item entry.by may.0 may.1
 solid_said EndLine may = record {
   some = omega arith;
   each = (plain (codes "end") (omega arith, (omega arith, (omega arith, tt))) (omega arith), tt);

@@ -11,6 +11,8 @@ use Rattle.smaller_book.specs.ReadOnly.{IsReadOnly}
 use Rattle.broken_rules.specs.Deeds.{reading_of}
 use Rattle.refutations.specs.Impossible.{IsImpossible}
 use Rattle.refutations.specs.Counts.{FindMissesPuts}
+use Rattle.pair_refutations.proofs.Refuting.{refuted-none}
+use Rattle.pair_refutations.proofs.Faults as pair_laws
 use Rattle.refutations.proofs.Containers.{excess_takes, missed_puts}
 use Rattle.refutations.proofs.Refuting.{closed_lists_have_no_order, impossible_replies_have_no_order}
 use Rattle.refutations.proofs.Faults.{closed_lists_fail_no_test, first_faults_are_one}
@@ -20,9 +22,9 @@ use Rattle.refutation_text.specs.declared.part_steps.StepFault.{StepFault}
 use Rattle.refutation_text.specs.declared.part_steps.StepFault.TheVariants as reasons
 use Rattle.refutation_text.specs.declared.verdict.RefutationVerdict.{RefutationVerdict}
 use Rattle.refutation_text.specs.declared.verdict.RefutationVerdict.TheVariants.{Illegal, Faulty}
-use Rattle.refutation_text.specs.Said.{StepSaid, At, Keys, Leave, EndingSaid, Impossible, Takes, Find, Closed}
+use Rattle.refutation_text.specs.Said.{StepSaid, At, Keys, Leave, EndingSaid, Impossible, Takes, Find, Closed, Pairs}
 use Rattle.refutation_text.specs.Steps.{IsStep, StepFails, LeaveAfter, IsFirstStepFault}
-use Rattle.refutation_text.specs.Verdicts.{IsShown, EndingFails, IsRefutation, step_fault, IsFaultOf, IsVerdictOf}
+use Rattle.refutation_text.specs.Verdicts.{IsShown, EndingFails, IsRefutation, step_fault, pairs_fault, IsFaultOf, IsVerdictOf}
 use Rattle.refutation_text.specs.Laws.{RefutedBooksHaveNoOrder}
 use Rattle.refutation_text.proofs.StepLaws.{steps_leave}
 use Rattle.refutation_text.proofs.OnePart.{one_called, after_part, one_after}
@@ -39,6 +41,8 @@ shown_is_illegal kind names part (Find named values) h legal =
     missed_puts kind part values h.1 h.0 h.3 legal
 shown_is_illegal kind names part (Closed entries) h legal =
     closed_lists_have_no_order (kind_spec kind) part _ h.closed legal
+shown_is_illegal kind names part (Pairs entries) h legal = refuted-none part entries h.1 h.2
+    (subst (λ (k : Kind). HasLegalOrder (kind_spec k) part) h.0 legal)
 
 -- a book with a right refutation has no legal order
 pub refuted : RefutedBooksHaveNoOrder
@@ -151,6 +155,9 @@ shown_or_fails kind book names part s (Find named values) faults.Possible is h k
     (one_called book names part named h.1 k.1 is h.2 k.2) h.3)
 shown_or_fails kind book names part s (Closed entries) (faults.Closed fault) is h k =
     closed_lists_fail_no_test (kind_spec kind) part entries h fault k.fails
+shown_or_fails kind book names part s (Pairs entries) fault is h (inl k) = k.0 h.0
+shown_or_fails kind book names part s (Pairs entries) fault is h (inr k) =
+    pair_laws.refutations_fail_no_test part entries h.2 k.1 k.2.fails
 shown_or_fails kind book names part s ending fault is h k = k
 
 one_ending_fault : (kind : Kind) (names : List (List ℕ)) (part : List Page) (s : ℕ)
@@ -165,6 +172,12 @@ one_ending_fault kind names part s (Impossible named) faults.Possible (faults.La
 one_ending_fault kind names part s (Impossible named) faults.Possible faults.Possible h k = refl
 one_ending_fault kind names part s (Closed entries) (faults.Closed x) (faults.Closed y) h k =
     ap faults.Closed (first_faults_are_one (kind_spec kind) part entries x y h k)
+one_ending_fault kind names part s (Pairs entries) a b (inl h) (inl k) = h.1 ∙ sym k.1
+one_ending_fault kind names part s (Pairs entries) a b (inl h) (inr k) = absurd (h.0 k.0)
+one_ending_fault kind names part s (Pairs entries) a b (inr h) (inl k) = absurd (k.0 h.0)
+one_ending_fault kind names part s (Pairs entries) a b (inr h) (inr k) =
+    h.3 ∙ ap (pairs_fault names s) (pair_laws.first_faults_are_one part entries h.1 k.1 h.2 k.2)
+    ∙ sym k.3
 one_ending_fault kind names part s (Takes value moment) faults.Kind faults.Kind h k = refl
 one_ending_fault kind names part s (Takes value moment) faults.Kind faults.Possible h k =
     absurd (false≢true (sym h ∙ k.0))
@@ -219,6 +232,14 @@ one_ending_fault kind names part s (Closed entries) a (faults.Lacks y) h k = abs
 one_ending_fault kind names part s (Closed entries) a (faults.Open y) h k = absurd k
 one_ending_fault kind names part s (Closed entries) a (faults.Changes y) h k = absurd k
 one_ending_fault kind names part s (Closed entries) a faults.Possible h k = absurd k
+one_ending_fault kind names part s (Impossible named) (faults.Pairs x) b h k = absurd h
+one_ending_fault kind names part s (Impossible named) a (faults.Pairs y) h k = absurd k
+one_ending_fault kind names part s (Takes value moment) (faults.Pairs x) b h k = absurd h
+one_ending_fault kind names part s (Takes value moment) a (faults.Pairs y) h k = absurd k
+one_ending_fault kind names part s (Find named values) (faults.Pairs x) b h k = absurd h
+one_ending_fault kind names part s (Find named values) a (faults.Pairs y) h k = absurd k
+one_ending_fault kind names part s (Closed entries) (faults.Pairs x) b h k = absurd h
+one_ending_fault kind names part s (Closed entries) a (faults.Pairs y) h k = absurd k
 
 -- ---- one verdict
 

@@ -1,10 +1,13 @@
 -- The lines of a book and the lines after the title within the text of a refutation.
-use Rattle.std.proofs.Common.{◌≡◌, ℕ, List, [], ◌∷◌, decimal, Some, None, refl, sym, ap}
+use Rattle.std.proofs.Common.{◌≡◌, ℕ, List, [], ◌∷◌, decimal, Some, None, Vec, Global, refl, sym, ap}
+use Rattle.book_base.specs.declared.fault.TextFault.{TextFault}
+use Rattle.book_base.specs.declared.fault.ReadFault.TheVariants.{Text}
 use Rattle.book_base.specs.declared.fault.What.{What}
 use Rattle.book_base.specs.declared.fault.What.TheVariants as what
 use Rattle.book_base.specs.Book.{Page}
 use Rattle.seq_objects.specs.declared.kind.Kind.{Kind}
 use Rattle.text_fields.specs.declared.version.Version.TheVariants.{Second}
+use Rattle.text_fields.specs.Lines.{Unread}
 use Rattle.text_fields.specs.Faults.{IsFirstTest, IsWrong}
 use Rattle.text_fields.proofs.Sharp.{only_test}
 use Rattle.text_fields.proofs.Within.{AreWithin, wrong_alike}
@@ -12,10 +15,13 @@ use Rattle.book_text.specs.BookRules.{BookDue, InHead, InCalls, AtEnd, BookPasse
 use Rattle.certificate_text.specs.Reading.{part_wanted, book_part}
 use Rattle.book_text.specs.Grammar.{end_words}
 use Rattle.refutations.specs.declared.entry.Entry.{Entry}
-use Rattle.refutation_text.specs.Said.{StepSaid, EndingSaid, Impossible, Takes, Find, Closed, LineSaid, StepLine, ImpossibleLine, TakesLine, FindLine, PlainLine, ItemLine, EndLine}
-use Rattle.refutation_text.specs.Grammar.{IsEntry, IsLine}
-use Rattle.refutation_text.specs.RefutationRules.{BodyDue, InSteps, EndDue, InEntries, BodyRead, after_line, body_wanted, BodyFails, body_rules, InBody, after_book, RefutationPasses, refutation_wanted, refutation_rules}
-use Rattle.refutation_text.specs.Reading.{opening_line, HasNoEntries, ending_due}
+use Rattle.pair_refutations.specs.declared.entry.PairEntry.{PairEntry}
+use Rattle.refutation_text.specs.Said.{ending_said, StepSaid, EndingSaid, Impossible, Takes, Find, Closed, Pairs, LineSaid, StepLine, ImpossibleLine, TakesLine, FindLine, PlainLine, PairsLine, ItemLine, MoveLine, EndLine}
+use Rattle.refutation_text.specs.declared.refutation.Ending.{Ending}
+use Rattle.refutation_text.specs.declared.refutation.Ending.TheVariants as endings
+use Rattle.refutation_text.specs.Grammar.{IsEntry, IsPairEntry, pair_entry_words, IsLine}
+use Rattle.refutation_text.specs.RefutationRules.{BodyDue, InSteps, EndDue, InEntries, InPairs, BodyRead, after_line, body_wanted, BodyFails, body_rules, InBody, after_book, RefutationPasses, refutation_wanted, refutation_rules}
+use Rattle.refutation_text.specs.Reading.{opening_line, HasNoEntries, ending_due, IsNoEnd, IsNoRestOf}
 
 book_right : (due after : BookDue) (words : List (List ℕ)) → BookPasses Second due words after
     → RefutationPasses (after_book due) words (after_book after)
@@ -50,6 +56,9 @@ module _ (kind : Kind) (book : List Page) where
   body_wrong (InEntries steps entries) bytes what h = wrong_alike body_rules refutation_rules
       (InEntries steps entries) (InBody kind book (InEntries steps entries))
       (λ words what. (λ h. h, λ h. h)) bytes what h
+  body_wrong (InPairs steps entries) bytes what h = wrong_alike body_rules refutation_rules
+      (InPairs steps entries) (InBody kind book (InPairs steps entries))
+      (λ words what. (λ h. h, λ h. h)) bytes what h
   body_wrong (BodyRead steps ending) bytes what h = h
 
   pub body_within : AreWithin body_rules refutation_rules (InBody kind book)
@@ -71,7 +80,9 @@ no_step steps words none opens =
       fails (TakesLine value moment) h = absurd (opens (Takes value moment) h)
       fails (FindLine call values) h = absurd (opens (Find call values) h)
       fails PlainLine h = absurd (opens (Closed []) h)
+      fails PairsLine h = absurd (opens (Pairs []) h)
       fails (ItemLine entry) h = refl
+      fails (MoveLine entry) h = refl
       fails EndLine h = refl
 
 -- a line that is neither an entry nor the end fails the test of an entry
@@ -90,7 +101,29 @@ no_entry steps entries words none not_end =
       fails (TakesLine value moment) h = refl
       fails (FindLine call values) h = refl
       fails PlainLine h = refl
+      fails PairsLine h = refl
       fails (ItemLine entry) h = absurd (none entry h.may h.text)
+      fails (MoveLine entry) h = refl
+      fails EndLine h = absurd (not_end h.text)
+
+-- a line that is neither an entry that makes a standing nor the end fails the test of an entry
+pub no_pair_entry : (steps : List StepSaid) (entries : List PairEntry) (words : List (List ℕ))
+    → ((entry : PairEntry) → IsPairEntry entry → words ≡ pair_entry_words entry → ⊥)
+    → (words ≡ end_words → ⊥)
+    → IsFirstTest (BodyFails (InPairs steps entries) words) what.Place
+no_pair_entry steps entries words none not_end =
+    only_test (BodyFails (InPairs steps entries) words) what.Place (refl, fails)
+    (λ other k. k.0) where
+      fails : (line : LineSaid) → IsLine words line
+          → after_line (InPairs steps entries) line ≡ None
+      fails (StepLine step) h = refl
+      fails (ImpossibleLine call) h = refl
+      fails (TakesLine value moment) h = refl
+      fails (FindLine call values) h = refl
+      fails PlainLine h = refl
+      fails PairsLine h = refl
+      fails (ItemLine entry) h = refl
+      fails (MoveLine entry) h = absurd (none entry h.may h.text)
       fails EndLine h = absurd (not_end h.text)
 
 -- a line that isn't the end fails the test of the end
@@ -104,7 +137,9 @@ no_end steps ending words not_end =
       fails (TakesLine value moment) h = refl
       fails (FindLine call values) h = refl
       fails PlainLine h = refl
+      fails PairsLine h = refl
       fails (ItemLine entry) h = refl
+      fails (MoveLine entry) h = refl
       fails EndLine h = absurd (not_end h.text)
 
 -- the line that begins an ending leads to what is due then
@@ -114,3 +149,16 @@ opens steps (Impossible call) none = refl
 opens steps (Takes value moment) none = refl
 opens steps (Find call values) none = refl
 opens steps (Closed entries) none = ap (λ (e : List Entry). Some (InEntries steps e)) (sym none)
+opens steps (Pairs entries) none = ap (λ (e : List PairEntry). Some (InPairs steps e)) (sym none)
+
+-- where no entries follow, what stops the end stops the rest
+pub no_rest : (begun : Ending) (text : Unread) (fault : TextFault)
+    → ((e : Vec Entry Global) → begun ≡ endings.Closed e → ⊥)
+    → ((e : Vec PairEntry Global) → begun ≡ endings.Pairs e → ⊥) → IsNoEnd text fault
+    → IsNoRestOf (ending_said begun) text (Text fault)
+no_rest (endings.Impossible call) text fault a b h steps = h steps (Impossible call)
+no_rest (endings.CountsTakes v m) text fault a b h steps = h steps (Takes v m)
+no_rest (endings.CountsFind i n values) text fault a b h steps =
+    h steps (Find (record { caller = i; number = n }) values.items)
+no_rest (endings.Closed entries) text fault a b h steps = absurd (a entries refl)
+no_rest (endings.Pairs entries) text fault a b h steps = absurd (b entries refl)

@@ -2,6 +2,9 @@
 use Rattle.std.specs.Prelude.{◌≡◌, ℕ, ◌-◌, ◌<◌, ◌⊎◌, ◌^◌, true, false, List, [], ◌∷◌, length, map, decimal, codes, slice_index}
 use Rattle.book_base.specs.declared.call.Call.{Call}
 use Rattle.refutations.specs.declared.entry.Entry.{Entry}
+use Rattle.pair_refutations.specs.declared.entry.Move.{Move}
+use Rattle.pair_refutations.specs.declared.entry.Move.TheVariants.{Finds, Callers}
+use Rattle.pair_refutations.specs.declared.entry.PairEntry.{PairEntry}
 use Rattle.text_fields.specs.declared.version.Version.TheVariants.{Second}
 use Rattle.text_fields.specs.Counts.{AreNumbers, pair_words}
 use Rattle.text_fields.specs.Head.{title_words}
@@ -9,7 +12,7 @@ use Rattle.book_text.specs.CallLines.{place_words}
 use Rattle.book_text.specs.Grammar.{end_words}
 use Rattle.certificate_text.specs.Grammar.{IsNamed}
 use Rattle.refutation_text.specs.declared.TheConstants.{STEP_CALLERS}
-use Rattle.refutation_text.specs.Said.{At, Keys, Leave, LineSaid, StepLine, ImpossibleLine, TakesLine, FindLine, PlainLine, ItemLine, EndLine}
+use Rattle.refutation_text.specs.Said.{At, Keys, Leave, LineSaid, StepLine, ImpossibleLine, TakesLine, FindLine, PlainLine, PairsLine, ItemLine, MoveLine, EndLine}
 
 -- the title of a refutation, which is the line after the book's lines
 abbrev pub refutation_words : List (List ℕ)
@@ -22,6 +25,24 @@ AreCounts counts = (length counts ≡ STEP_CALLERS) × AreNumbers counts
 -- an entry that a line can say
 abbrev pub IsEntry : Entry → Type 0
 IsEntry entry = (entry.item < 2 ^ 64) × (entry.caller < 2 ^ 64)
+
+-- a move that a line can say
+abbrev pub IsMove : Move → Type 0
+IsMove Finds = Unit {0}
+IsMove (Callers i j) = (i < 2 ^ 64) × (j < 2 ^ 64)
+
+-- the words of a move
+abbrev pub move_words : Move → List (List ℕ)
+move_words Finds = codes "find" ∷ []
+move_words (Callers i j) = decimal i ∷ decimal j ∷ []
+
+-- an entry that makes a standing, where a line can say it
+abbrev pub IsPairEntry : PairEntry → Type 0
+IsPairEntry entry = (entry.item < 2 ^ 64) × IsMove entry.by
+
+-- the words of an entry that makes a standing
+abbrev pub pair_entry_words : PairEntry → List (List ℕ)
+pair_entry_words entry = decimal entry.item ∷ move_words entry.by
 
 -- the value at a place is below 2^32, and above the one before
 abbrev pub IsValueAt : List ℕ → ℕ → Type 0
@@ -56,7 +77,9 @@ MaySay (ImpossibleLine call) = IsNamed call
 MaySay (TakesLine value moment) = (value < 2 ^ 32) × (moment < 2 ^ 64)
 MaySay (FindLine call values) = IsAnyCall call × AreValues values
 MaySay PlainLine = Unit {0}
+MaySay PairsLine = Unit {0}
 MaySay (ItemLine entry) = IsEntry entry
+MaySay (MoveLine entry) = IsPairEntry entry
 MaySay EndLine = Unit {0}
 
 -- the words of a line
@@ -69,7 +92,9 @@ line_words (ImpossibleLine call) = codes "impossible" ∷ place_words call
 line_words (TakesLine value moment) = takes_words value moment
 line_words (FindLine call values) = find_words call values
 line_words PlainLine = codes "closed" ∷ codes "plain" ∷ []
+line_words PairsLine = codes "closed" ∷ codes "pairs" ∷ []
 line_words (ItemLine entry) = decimal entry.item ∷ decimal entry.caller ∷ []
+line_words (MoveLine entry) = pair_entry_words entry
 line_words EndLine = end_words
 
 -- the words are the line that says this

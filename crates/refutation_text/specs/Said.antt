@@ -2,6 +2,7 @@
 use Rattle.std.specs.Prelude.{ℕ, Bool, true, false, List, map}
 use Rattle.book_base.specs.declared.call.Call.{Call}
 use Rattle.refutations.specs.declared.entry.Entry.{Entry}
+use Rattle.pair_refutations.specs.declared.entry.PairEntry.{PairEntry}
 use Rattle.refutation_text.specs.declared.refutation.Step.{Step}
 use Rattle.refutation_text.specs.declared.refutation.Step.TheVariants as steps
 use Rattle.refutation_text.specs.declared.refutation.Ending.{Ending}
@@ -16,12 +17,13 @@ pub data StepSaid : Type 0 where
 
 -- What an ending says: that the reply of a call is impossible; that more takes show a value up to a
 -- moment than puts of it begin up to it; that a call finds nothing although puts of some values are
--- left; or that the entries of a list make it closed.
+-- left; or that the entries of a list, of pairs of calls and a state or of standings, make it closed.
 pub data EndingSaid : Type 0 where
   Impossible : Call → EndingSaid
   Takes : ℕ → ℕ → EndingSaid
   Find : Call → List ℕ → EndingSaid
   Closed : List Entry → EndingSaid
+  Pairs : List PairEntry → EndingSaid
 
 -- what a line after the title says
 pub data LineSaid : Type 0 where
@@ -30,7 +32,9 @@ pub data LineSaid : Type 0 where
   TakesLine : ℕ → ℕ → LineSaid
   FindLine : Call → List ℕ → LineSaid
   PlainLine : LineSaid
+  PairsLine : LineSaid
   ItemLine : Entry → LineSaid
+  MoveLine : PairEntry → LineSaid
   EndLine : LineSaid
 
 -- what a stored step says
@@ -51,3 +55,4 @@ ending_said (endings.CountsTakes value moment) = Takes value moment
 ending_said (endings.CountsFind caller number values) =
     Find (record { caller = caller; number = number }) values.items
 ending_said (endings.Closed entries) = Closed entries.items
+ending_said (endings.Pairs entries) = Pairs entries.items

@@ -1,5 +1,5 @@
 -- What a refutation shows of its book.
-use Rattle.std.specs.Prelude.{◌≡◌, ℕ, ◌⊎◌, true, false, List, [], ◌∷◌, length}
+use Rattle.std.specs.Prelude.{◌≡◌, ◌≢◌, ℕ, ◌⊎◌, true, false, List, [], ◌∷◌, length}
 use Rattle.book_base.specs.declared.call.Call.{Call}
 use Rattle.book_base.specs.Book.{Page}
 use Rattle.book_base.specs.Order.{HasLegalOrder}
@@ -8,6 +8,13 @@ use Rattle.seq_objects.specs.Objects.{kind_spec}
 use Rattle.broken_rules.specs.Deeds.{reading_of}
 use Rattle.broken_rules.specs.Rules.{holds_values}
 use Rattle.refutations.specs.Closed.{MakeClosed}
+use Rattle.pair_refutations.specs.declared.entry.PairEntry.{PairEntry}
+use Rattle.pair_refutations.specs.declared.fault.PairFault.{PairFault}
+use Rattle.pair_refutations.specs.declared.fault.PairFault.TheVariants as pairs
+use Rattle.pair_refutations.specs.Fault.{Refute, HasTable}
+use Rattle.pair_refutations.specs.Fault as pair_tests
+use Rattle.seq_objects.specs.declared.kind.Kind.TheVariants as kinds
+use Rattle.smaller_book.specs.Part.{original}
 use Rattle.refutations.specs.Counts.{TakesExceedPuts, FindMissesPuts}
 use Rattle.refutations.specs.Fault.{IsFirstFault}
 use Rattle.refutations.specs.Impossible.{IsImpossible}
@@ -17,7 +24,7 @@ use Rattle.refutation_text.specs.declared.part_steps.StepFault.{StepFault}
 use Rattle.refutation_text.specs.declared.part_steps.StepFault.TheVariants as reasons
 use Rattle.refutation_text.specs.declared.verdict.RefutationVerdict.{RefutationVerdict}
 use Rattle.refutation_text.specs.declared.verdict.RefutationVerdict.TheVariants.{Illegal, Faulty}
-use Rattle.refutation_text.specs.Said.{StepSaid, EndingSaid, Impossible, Takes, Find, Closed}
+use Rattle.refutation_text.specs.Said.{StepSaid, EndingSaid, Impossible, Takes, Find, Closed, Pairs}
 use Rattle.refutation_text.specs.RefutationRules.{IsRefutationText}
 use Rattle.refutation_text.specs.Steps.{IsCalled, LeaveAfter, IsFirstStepFault}
 
@@ -31,6 +38,25 @@ IsShown kind names part (Find named values) = (holds_values kind ≡ true)
     × (call : Call) × IsCalled names part named call
     × FindMissesPuts (reading_of kind) part values call
 IsShown kind names part (Closed entries) = MakeClosed (kind_spec kind) part entries
+IsShown kind names part (Pairs entries) = (kind ≡ kinds.Queue) × HasTable part
+    × Refute part entries
+
+-- the fault of a refutation with the number `s` of its ending, whose entries fail a test of
+-- standings: a call has the number that it has in the book
+abbrev pub pairs_fault : List (List ℕ) → ℕ → PairFault → RefutationFault
+pairs_fault names s pairs.Open = faults.Open s
+pairs_fault names s (pairs.Odd call) = faults.Pairs (pairs.Odd (original names call))
+pairs_fault names s (pairs.Unlisted e) = faults.Pairs (pairs.Unlisted e)
+pairs_fault names s (pairs.Whole e) = faults.Pairs (pairs.Whole e)
+pairs_fault names s (pairs.Leads e move) = faults.Pairs (pairs.Leads e move)
+
+-- Entries of standings don't refute a part, for this fault: the object is no queue, or a test fails.
+abbrev pub PairsFail : Kind → List (List ℕ) → List Page → ℕ → List PairEntry → RefutationFault
+    → Type 0
+PairsFail kind names part s entries fault =
+    ((kind ≢ kinds.Queue) × (fault ≡ faults.Kind))
+    ⊎ ((kind ≡ kinds.Queue) × (why : PairFault) × pair_tests.IsFirstFault part entries why
+    × (fault ≡ pairs_fault names s why))
 
 -- What an ending with the number `s` says of a part isn't so, for this fault.
 abbrev pub EndingFails : Kind → List (List ℕ) → List Page → ℕ → EndingSaid
@@ -50,6 +76,7 @@ EndingFails kind names part s (Find named values) faults.Possible = (holds_value
     × (FindMissesPuts (reading_of kind) part values call → ⊥)
 EndingFails kind names part s (Closed entries) (faults.Closed fault) =
     IsFirstFault (kind_spec kind) part entries fault
+EndingFails kind names part s (Pairs entries) fault = PairsFail kind names part s entries fault
 EndingFails kind names part s ending fault = ⊥
 
 -- A refutation is right: all its steps can be made, and what the ending says of the part that they

@@ -2,13 +2,14 @@
 
 ghost use Rattle.std.specs.Prelude.{◌≡◌, [], IfOk, IfErr};
 ghost use Rattle.refutation_text.specs.Said.{steps_said, ending_said};
-ghost use Rattle.refutation_text.specs.Reading.{IsTitle, IsNoTitle, AreSteps, AreEntries, AreNoEntries, IsEnd, IsNoEnd, IsRestOf, IsNoRestOf, IsBody, IsNoBody, IsRest};
+ghost use Rattle.refutation_text.specs.Reading.{IsTitle, IsNoTitle, AreSteps, AreEntries, AreNoEntries, ArePairs, AreNoPairs, IsEnd, IsNoEnd, IsRestOf, IsNoRestOf, IsBody, IsNoBody, IsRest};
 
-use crate::fields::entry_of;
+use crate::fields::{entry_of, pair_entry_of};
 use crate::line::{opening_of, step_of};
 use crate::refutation::{Ending, Step};
 use book_base::{ReadFault, TextFault, What};
 use certificate_text::is_end;
+use pair_refutations::PairEntry;
 use refutations::Entry;
 use std::alloc::Global;
 use text_fields::{Lines, Words, are_words};
@@ -49,6 +50,7 @@ fn read_ending(lines: &mut Lines, begun: Ending) -> Result<Ending, ReadFault>
 {
     match begun {
         Ending::Closed(entries) => Ok(Ending::Closed(read_entries(lines, entries)?)),
+        Ending::Pairs(entries) => Ok(Ending::Pairs(read_pairs(lines, entries)?)),
         whole => {
             read_end(lines)?;
             Ok(whole)
@@ -95,6 +97,31 @@ fn read_entries(lines: &mut Lines, first: Vec<Entry>) -> Result<Vec<Entry>, Read
         let line = lines.number();
         let words = Words::new(lines.line()?);
         match entry_of(&mut words.copy()) {
+            Some(entry) => entries.push(entry)?,
+            None => {
+                if is_end(&mut words.copy()) {
+                    return Ok(entries);
+                }
+                return Err(ReadFault::Text(TextFault {
+                    line,
+                    what: What::Place,
+                }));
+            }
+        }
+    }
+}
+
+/// Some entries that make standings, and those that the lines give, up to the end.
+fn read_pairs(lines: &mut Lines, first: Vec<PairEntry>) -> Result<Vec<PairEntry>, ReadFault>
+    ensures found { IfOk result (λ entries.
+        ArePairs first.items lines.old entries.items lines.new) }
+    ensures refused { IfErr result (AreNoPairs first.items lines.old) }
+{
+    let mut entries = first;
+    loop {
+        let line = lines.number();
+        let words = Words::new(lines.line()?);
+        match pair_entry_of(&mut words.copy()) {
             Some(entry) => entries.push(entry)?,
             None => {
                 if is_end(&mut words.copy()) {

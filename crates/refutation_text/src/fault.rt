@@ -1,3 +1,4 @@
+use pair_refutations::PairFault;
 use refutations::ClosedFault;
 use thiserror::Error;
 
@@ -13,7 +14,7 @@ pub enum RefutationFault {
     /// This step or ending names a caller that the book lacks, or a call that the part lacks.
     #[error("step {0} names what isn't there")]
     Lacks(u64),
-    /// This step is of keys, and some view holds two unanswered calls of one caller.
+    /// This step is of keys, or the ending lists standings, and some view holds two unanswered calls of one caller.
     #[error("some view holds two unanswered calls of one caller at step {0}")]
     Open(u64),
     /// The call of this step `leave` isn't read-only.
@@ -26,4 +27,7 @@ pub enum RefutationFault {
     /// The entries make no closed list.
     #[error(transparent)]
     Closed(ClosedFault),
+    /// The entries make no closed list of standings. A call has the number that it has in the book.
+    #[error(transparent)]
+    Pairs(PairFault),
 }

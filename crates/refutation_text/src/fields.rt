@@ -3,15 +3,18 @@
 ghost use Rattle.std.specs.Prelude.{◌≡◌, ◌≢◌, ◌↔◌, ℕ, ◌<◌, ◌^◌, ◌∷◌, ◌++◌, [], List, length, map, decimal, codes, IfOk, IfSome, IfNone, IsTrue};
 ghost use Rattle.book_base.specs.declared.call.Call.{Call};
 ghost use Rattle.refutations.specs.declared.entry.Entry.{Entry};
+ghost use Rattle.pair_refutations.specs.declared.entry.Move.{Move};
+ghost use Rattle.pair_refutations.specs.declared.entry.PairEntry.{PairEntry};
 ghost use Rattle.text_fields.specs.Counts.{AreNumbers, pair_words};
 ghost use Rattle.book_text.specs.CallLines.{place_words};
 ghost use Rattle.certificate_text.specs.Grammar.{IsNamed};
-ghost use Rattle.refutation_text.specs.Grammar.{AreCounts, AreValues, IsAnyCall, IsValueAt, IsEntry, takes_words, find_words};
+ghost use Rattle.refutation_text.specs.Grammar.{AreCounts, AreValues, IsAnyCall, IsValueAt, IsEntry, IsMove, IsPairEntry, move_words, pair_entry_words, takes_words, find_words};
 
 use crate::STEP_CALLERS;
 use book_base::{Call, Cut, NoMemory};
 use book_text::take_word;
 use certificate_text::take_call;
+use pair_refutations::{Move, PairEntry};
 use refutations::Entry;
 use std::alloc::Global;
 use text_fields::{Words, next_number, read_pairs};
@@ -142,7 +145,7 @@ fn find_call_of(words: &mut Words) -> Option<(u64, u64)>
 }
 
 /// Whether there is a value, each is below 2^32, and they rise.
-fn are_values(values: &[u64]) -> bool
+pub fn are_values(values: &[u64]) -> bool
     ensures { IsTrue result ↔ AreValues values.now }
 {
     for k in 0..values.len() {
@@ -178,6 +181,52 @@ pub(crate) fn entry_of(words: &mut Words) -> Option<Entry>
     let caller = next_number(words, u64::MAX)?;
     match words.next() {
         None => Some(Entry { item, caller }),
+        Some(_) => None,
+    }
+}
+
+/// The number of a standing and a move, as an entry.
+pub(crate) fn pair_entry_of(words: &mut Words) -> Option<PairEntry>
+    ensures found { IfSome result (λ entry. IsPairEntry entry
+        × (words.old ≡ pair_entry_words entry)) }
+    ensures none { IfNone result ((entry : PairEntry) → IsPairEntry entry
+        → words.old ≢ pair_entry_words entry) }
+{
+    let item = next_number(words, u64::MAX)?;
+    let by = move_of(words)?;
+    Some(PairEntry { item, by })
+}
+
+/// The word `find`, or the callers of a put and of a take, as a move.
+fn move_of(words: &mut Words) -> Option<Move>
+    ensures found { IfSome result (λ by. IsMove by × (words.old ≡ move_words by)) }
+    ensures none { IfNone result ((by : Move) → IsMove by → words.old ≢ move_words by) }
+{
+    if is_find(&mut words.copy()) {
+        return Some(Move::Finds);
+    }
+    let (putter, taker) = callers_of(words)?;
+    Some(Move::Callers(putter, taker))
+}
+
+/// Whether the word is `find`, and the only one.
+fn is_find(words: &mut Words) -> bool
+    ensures { IsTrue result ↔ (words.old ≡ codes "find" ∷ []) }
+{
+    words.next() == Some(b"find".as_slice()) && words.next().is_none()
+}
+
+/// Two numbers.
+fn callers_of(words: &mut Words) -> Option<(u64, u64)>
+    ensures found { IfSome result (λ (i, j). (i < 2 ^ 64) × (j < 2 ^ 64)
+        × (words.old ≡ decimal i ∷ decimal j ∷ [])) }
+    ensures none { IfNone result ((i j : ℕ) → i < 2 ^ 64 → j < 2 ^ 64
+        → words.old ≢ decimal i ∷ decimal j ∷ []) }
+{
+    let putter = next_number(words, u64::MAX)?;
+    let taker = next_number(words, u64::MAX)?;
+    match words.next() {
+        None => Some((putter, taker)),
         Some(_) => None,
     }
 }

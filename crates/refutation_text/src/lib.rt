@@ -13,6 +13,7 @@ mod refutation;
 mod verdict;
 
 pub use fault::RefutationFault;
+pub use fields::are_values;
 pub use laws::{
     no_fault_of_a_refutation, one_first_refutation_fault, refuted_books_have_no_order,
     steps_leave_a_legal_order,

@@ -47,6 +47,9 @@ pub(crate) fn opening_of(alloc: Global, line: &[u8]) -> Result<Option<Ending>, N
     if are_words(&mut words.copy(), b"closed", b"plain") {
         return Ok(Some(Ending::Closed(Vec::new(alloc))));
     }
+    if are_words(&mut words.copy(), b"closed", b"pairs") {
+        return Ok(Some(Ending::Pairs(Vec::new(alloc))));
+    }
     if let Some(call) = call_of(&mut words.copy(), b"impossible") {
         return Ok(Some(Ending::Impossible(call)));
     }

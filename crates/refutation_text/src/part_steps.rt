@@ -268,7 +268,7 @@ pub(crate) fn call_in(left: &Smaller, named: Call) -> Option<Call>
 }
 
 // The number in the book of a call of a part.
-fn number_of(left: &Smaller, call: Call) -> u64
+pub(crate) fn number_of(left: &Smaller, call: Call) -> u64
     requires names { AreNamesOf (numbers_in left.now.numbers.items) left.now.book }
     requires call { IsCall left.now.book call }
     ensures { result ≡ slice_index (numbers_of (numbers_in left.now.numbers.items) call.caller)

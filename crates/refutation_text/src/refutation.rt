@@ -1,4 +1,5 @@
 use book_base::{Book, Call, Cut};
+use pair_refutations::PairEntry;
 use refutations::Entry;
 use seq_objects::Kind;
 
@@ -31,6 +32,8 @@ pub enum Ending {
     CountsFind(u64, u64, Vec<u64>),
     /// These entries make a closed list of pairs of calls and a state.
     Closed(Vec<Entry>),
+    /// These entries make a closed list of standings.
+    Pairs(Vec<PairEntry>),
 }
 
 /// A book with a reason why it has no legal order, which is right or not.

@@ -9,15 +9,16 @@ ghost use Rattle.refutations.specs.Impossible.{IsImpossible};
 ghost use Rattle.text_fields.specs.Faults.{IsFaultOf};
 ghost use Rattle.smaller_book.specs.Numbers.{numbers_in};
 ghost use Rattle.refutation_text.specs.RefutationRules.{IsFirstRefutationFault};
-ghost use Rattle.refutation_text.specs.Said.{Impossible, Takes, Find, steps_said, ending_said};
+ghost use Rattle.refutation_text.specs.Said.{Impossible, Takes, Find, Pairs, steps_said, ending_said};
 ghost use Rattle.refutation_text.specs.Steps.{AreNamesOf, IsCalled};
-ghost use Rattle.refutation_text.specs.Verdicts.{IsShown, EndingFails, step_fault, IsVerdictOf, IsRefutationVerdict, IsOfIllegalBook};
+ghost use Rattle.refutation_text.specs.Verdicts.{IsShown, EndingFails, step_fault, pairs_fault, IsVerdictOf, IsRefutationVerdict, IsOfIllegalBook};
 
 use crate::fault::RefutationFault;
-use crate::part_steps::{StepFault, call_in, part_of};
+use crate::part_steps::{StepFault, call_in, number_of, part_of};
 use crate::reader::read_refutation;
 use crate::refutation::{Ending, Refutation};
 use book_base::{Book, Call, NoMemory, ReadFault};
+use pair_refutations::{PairEntry, PairFault, check_pairs};
 use refutations::{
     check_closed, find_misses_puts, has_impossible_reply, holds_values, takes_exceed_puts,
 };
@@ -126,6 +127,7 @@ fn fault_of_ending(
             Ok(()) => Ok(None),
             Err(fault) => Ok(Some(RefutationFault::Closed(fault))),
         },
+        Ending::Pairs(entries) => fault_of_pairs(alloc, kind, left, steps, entries),
     }
 }
 
@@ -222,4 +224,52 @@ fn any_call_in(left: &Smaller, caller: u64, number: u64) -> Option<Call>
     }
     let caller = caller as u32;
     call_in(left, Call { caller, number })
+}
+
+// Why entries that make standings don't refute a queue's book.
+fn fault_of_pairs(
+    alloc: Global,
+    kind: Kind,
+    left: &Smaller,
+    steps: u64,
+    entries: &[PairEntry],
+) -> Result<Option<RefutationFault>, NoMemory>
+    requires { AreNamesOf (numbers_in left.now.numbers.items) left.now.book }
+    ensures fault { IfOk result (λ found. IfSome found (EndingFails kind
+        (numbers_in left.now.numbers.items) left.now.book steps (Pairs entries.now))) }
+    ensures shown { IfOk result (λ found. IfNone found (IsShown kind
+        (numbers_in left.now.numbers.items) left.now.book (Pairs entries.now))) }
+{
+    if !is_queue(kind) {
+        return Ok(Some(RefutationFault::Kind));
+    }
+    match check_pairs(alloc, &left.book, entries)? {
+        Ok(()) => Ok(None),
+        Err(why) => Ok(Some(pairs_fault(left, steps, why))),
+    }
+}
+
+// Whether an object is a queue.
+fn is_queue(kind: Kind) -> bool
+    ensures { IsTrue result ↔ (kind ≡ Kind.Queue) }
+{
+    matches!(kind, Kind::Queue)
+}
+
+// The fault of a refutation whose entries fail a test of standings.
+fn pairs_fault(left: &Smaller, steps: u64, why: PairFault) -> RefutationFault
+    requires names { AreNamesOf (numbers_in left.now.numbers.items) left.now.book }
+    requires call { (call : Call) → why ≡ PairFault.Odd call → IsCall left.now.book call }
+    ensures { result ≡ pairs_fault (numbers_in left.now.numbers.items) steps why }
+{
+    match why {
+        PairFault::Open => RefutationFault::Open(steps),
+        PairFault::Odd(call) => RefutationFault::Pairs(PairFault::Odd(Call {
+            caller: call.caller,
+            number: number_of(left, call),
+        })),
+        PairFault::Unlisted(e) => RefutationFault::Pairs(PairFault::Unlisted(e)),
+        PairFault::Whole(e) => RefutationFault::Pairs(PairFault::Whole(e)),
+        PairFault::Leads(e, by) => RefutationFault::Pairs(PairFault::Leads(e, by)),
+    }
 }

@@ -2,6 +2,9 @@
 use Rattle.std.specs.Prelude.{◌≡◌, ℕ, List, ◌++◌, codes, decimal}
 use Rattle.book_base.specs.declared.fault.TextFault.{TextFault}
 use Rattle.refutations.specs.declared.fault.ClosedFault.TheVariants as closed
+use Rattle.pair_refutations.specs.declared.entry.Move.TheVariants.{Finds, Callers}
+use Rattle.pair_refutations.specs.declared.fault.PairFault.{PairFault}
+use Rattle.pair_refutations.specs.declared.fault.PairFault.TheVariants as pairs
 use Rattle.refutation_text.specs.declared.fault.RefutationFault.{RefutationFault}
 use Rattle.refutation_text.specs.declared.fault.RefutationFault.TheVariants as faults
 use Rattle.refutation_text.specs.declared.verdict.RefutationVerdict.TheVariants.{Illegal, Faulty}
@@ -12,6 +15,17 @@ use Rattle.refutation_tool.specs.declared.judge.Judge.{Judge}
 -- a number after a space
 abbrev pub after_space : ℕ → List ℕ
 after_space n = codes " " ++ decimal n
+
+-- the name of a fault of entries that make standings, with its numbers
+abbrev pub pair_fault_words : PairFault → List ℕ
+pair_fault_words pairs.Open = codes "Open"
+pair_fault_words (pairs.Odd call) =
+    codes "Odd" ++ after_space call.caller ++ after_space call.number
+pair_fault_words (pairs.Unlisted e) = codes "Unlisted" ++ after_space e
+pair_fault_words (pairs.Whole e) = codes "Whole" ++ after_space e
+pair_fault_words (pairs.Leads e Finds) = codes "Leads" ++ after_space e ++ codes " find"
+pair_fault_words (pairs.Leads e (Callers i j)) =
+    codes "Leads" ++ after_space e ++ after_space i ++ after_space j
 
 -- the name of a fault, with its numbers
 abbrev pub fault_words : RefutationFault → List ℕ
@@ -24,6 +38,7 @@ fault_words (faults.Closed (closed.Unlisted e)) = codes "Unlisted" ++ after_spac
 fault_words (faults.Closed (closed.Whole e)) = codes "Whole" ++ after_space e
 fault_words (faults.Closed (closed.Leads e caller)) =
     codes "Leads" ++ after_space e ++ after_space caller
+fault_words (faults.Pairs why) = pair_fault_words why
 
 -- the line of a fault
 abbrev pub fault_text : RefutationFault → List ℕ

@@ -1,10 +1,11 @@
 //! What the program answers to an input.
 
 ghost use Rattle.std.specs.Prelude.{◌≡◌, ◌++◌, IfOk, OnOk};
-ghost use Rattle.refutation_tool.specs.Output.{after_space, fault_words, fault_text};
+ghost use Rattle.refutation_tool.specs.Output.{after_space, pair_fault_words, fault_words, fault_text};
 
 use book_base::{NoMemory, ReadFault};
 use byte_streams::{ProgramAnswer, TextProgram};
+use pair_refutations::{Move, PairFault};
 use refutation_text::{RefutationFault, RefutationVerdict, refute};
 use refutations::ClosedFault;
 use seq_objects::put_number;
@@ -56,6 +57,31 @@ fn put_fault(out: &mut Vec<u8>, fault: RefutationFault) -> Result<(), NoMemory>
         RefutationFault::Closed(ClosedFault::Leads(e, caller)) => {
             put_numbered(out, b"Leads", e)?;
             put_numbered(out, b"", u64::from(caller))
+        }
+        RefutationFault::Pairs(why) => put_pair_fault(out, why),
+    }
+}
+
+// Appends the name of a fault of entries that make standings, with its numbers.
+fn put_pair_fault(out: &mut Vec<u8>, why: PairFault) -> Result<(), NoMemory>
+    ensures { OnOk result (out.new.items ≡ out.old.items ++ pair_fault_words why) }
+{
+    match why {
+        PairFault::Open => Ok(out.extend_from_slice(b"Open")?),
+        PairFault::Odd(call) => {
+            put_numbered(out, b"Odd", u64::from(call.caller))?;
+            put_numbered(out, b"", call.number)
+        }
+        PairFault::Unlisted(e) => put_numbered(out, b"Unlisted", e),
+        PairFault::Whole(e) => put_numbered(out, b"Whole", e),
+        PairFault::Leads(e, Move::Finds) => {
+            put_numbered(out, b"Leads", e)?;
+            Ok(out.extend_from_slice(b" find")?)
+        }
+        PairFault::Leads(e, Move::Callers(putter, taker)) => {
+            put_numbered(out, b"Leads", e)?;
+            put_numbered(out, b"", putter)?;
+            put_numbered(out, b"", taker)
         }
     }
 }

@@ -27,10 +27,10 @@ returns-in_ok-text_of_reply-in-Some-clause-impossible c call h =
     within (NamesFirst c.args.kind c.args.book.now) ⊥ c.args.limits text.field-0
     c.within.result named c.within.ensures.within c.within.ensures.met
 
-pub returns-in_ok-parts-in-None-clause-impossible :
-    goal.returns-in_ok-parts-in-None-clause-impossible
-returns-in_ok-parts-in-None-clause-impossible c =
+pub returns-in-None-clause-impossible :
+    goal.returns-in-None-clause-impossible
+returns-in-None-clause-impossible c =
     of_answer (λ (found : Result (Vec ℕ Global) Limit). (call : Call)
     → IsImpossible (kind_spec c.args.kind) c.args.book.now call
-    → IsFirstNamed c.args.kind c.args.book.now c.args.limits found) c.of_parts.result
+    → IsFirstNamed c.args.kind c.args.book.now c.args.limits found) c.of_possible.result
     (λ found call h. absurd (c.in-None.ensures.none call h))
