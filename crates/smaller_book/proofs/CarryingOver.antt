@@ -8,8 +8,8 @@ use Rattle.seq_objects.specs.declared.kind.Kind.{Kind}
 use Rattle.seq_objects.specs.declared.kind.Kind.TheVariants as kinds
 use Rattle.seq_objects.specs.Objects.{kind_next}
 use Rattle.smaller_book.specs.Part.{CarriesOver}
-use Rattle.smaller_book.specs.Keys.{key_of_item, is_among, items_without, IsWellFormed, CarriesOverWithoutSome}
-use Rattle.smaller_book.proofs.Filtering.{filter-all, filter-filter, rises-filter, keys_once-filter}
+use Rattle.smaller_book.specs.Keys.{key_of_item, is_among, items_without, IsWellFormed, HasOnce, CarriesOverWithoutSome}
+use Rattle.smaller_book.proofs.Filtering.{filter-all, filter-filter, rises-filter, items_once-filter, keys_once-filter}
 
 -- the set of no keys
 abbrev pub no_keys : ℕ → Bool
@@ -73,13 +73,26 @@ well_formed-without kinds.Register keys list formed = tt
 well_formed-without kinds.Counter keys list formed = tt
 well_formed-without kinds.CasRegister keys list formed = tt
 
+-- A list in which no item stands twice is so without the items of some keys.
+once-without : (kind : Kind) (keys : ℕ → Bool) (list : List ℕ) → HasOnce kind list
+    → HasOnce kind (items_without kind keys list)
+once-without kinds.IntSet keys list once =
+    items_once-filter (λ (item : ℕ). not (is_among keys (key_of_item kinds.IntSet item))) list once
+once-without kinds.Pqueue keys list once = tt
+once-without kinds.Map keys list once = tt
+once-without kinds.Queue keys list once = tt
+once-without kinds.Stack keys list once = tt
+once-without kinds.Register keys list once = tt
+once-without kinds.Counter keys list once = tt
+once-without kinds.CasRegister keys list once = tt
+
 -- Where a part has a legal order from each list from which the book has one, the book carries over
 -- to it without the items of no keys.
 pub carries_from_all : (kind : Kind) (book part : List Page)
     → CarriesOver (kind_next kind) book part → CarriesOverWithoutSome kind book part
 carries_from_all kind book part carries = (
   no_keys,
-  λ list formed legal.
+  λ list formed once legal.
       subst (λ (l : List ℕ). HasLegalOrder (spec_from l (kind_next kind)) part)
       (sym (items_without-none kind list)) (carries list legal),
 )
@@ -91,9 +104,9 @@ pub carries_twice : (kind : Kind) (book mid part : List Page)
     → CarriesOverWithoutSome kind book part
 carries_twice kind book mid part (first, outer) (second, inner) = (
   either_keys first second,
-  λ list formed legal.
+  λ list formed once legal.
       subst (λ (l : List ℕ). HasLegalOrder (spec_from l (kind_next kind)) part)
       (items_without-twice kind first second list)
       (inner (items_without kind first list) (well_formed-without kind first list formed)
-      (outer list formed legal)),
+      (once-without kind first list once) (outer list formed once legal)),
 )

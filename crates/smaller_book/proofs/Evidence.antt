@@ -24,13 +24,13 @@ use Rattle.seq_objects.specs.Objects.{kind_next, kind_spec}
 use Rattle.smaller_book.specs.Part.{numbers_of, count_below, original, IsNamed, IsPart}
 use Rattle.smaller_book.specs.Numbers.{picked}
 use Rattle.smaller_book.specs.ReadOnly.{IsReadOnly}
-use Rattle.smaller_book.specs.Unseen.{Sets, IsHiddenFrom}
+use Rattle.smaller_book.specs.Unseen.{IsAnyList, Sets, IsHiddenFrom}
 use Rattle.smaller_book.specs.Earliest.{all_numbers}
 use Rattle.smaller_book.specs.Keys.{value_shown, key_by_kind, key_of_step, key_of_call, is_among, CarriesOverWithoutSome}
 use Rattle.smaller_book.specs.Evidence.{IsStep, AreSteps, EvidenceIsAPart, EvidenceCarriesOver, EvidenceTells, EvidenceKeepsTheRest}
 use Rattle.smaller_book.proofs.Counts.{counted_from_below, find_number}
 use Rattle.smaller_book.proofs.Following.{some_that, record_was, preceded_in_book}
-use Rattle.smaller_book.proofs.Unseen.{has_one_without_unseen}
+use Rattle.smaller_book.proofs.OneKeyCarries.{all_named, unseen_carries, hidden_without_key}
 use Rattle.smaller_book.proofs.LeastCuts.{numbers_of-all, original-all, carried_to_cut}
 use Rattle.smaller_book.proofs.CarryingOver.{carries_from_all, carries_twice}
 use Rattle.smaller_book.proofs.KeyRows.{unnamed_goes}
@@ -53,12 +53,12 @@ step_carries kind book names part step =
           back.at_some_cut.within (book_at_some_cut book part step.valid back.at_some_cut))
       | inr other ↦ elim other [
         | inl lacks ↦
-            carries_from_all kind book part
-            (has_one_without_unseen (kind_next kind) book names part lacks.is_part lacks.unseen)
+            unseen_carries kind book names part step.valid lacks.is_part lacks.unseen
         | inr lacks ↦ (
           lacks.keys,
-          has_one_without_keys kind lacks.keys book part lacks.may_go
-              (subst (λ (ns : List (List ℕ)). IsPart book ns part) lacks.named lacks.is_part),
+          λ list formed once. has_one_without_keys kind lacks.keys book part lacks.may_go
+              (subst (λ (ns : List (List ℕ)). IsPart book ns part) lacks.named lacks.is_part) list
+              formed,
         )
       ]
     ]
@@ -83,14 +83,14 @@ evidence_carries_over kind book names part evidence =
 -- begins with an item that has a key.
 carries_tells : (kind : Kind) (book part : List Page) → CarriesOverWithoutSome kind book part
     → HasLegalOrder (kind_spec kind) book → HasLegalOrder (kind_spec kind) part
-carries_tells kinds.Queue book part (keys, carries) order = carries [] tt order
-carries_tells kinds.Stack book part (keys, carries) order = carries [] tt order
-carries_tells kinds.Register book part (keys, carries) order = carries (0 ∷ []) tt order
-carries_tells kinds.Counter book part (keys, carries) order = carries (0 ∷ []) tt order
-carries_tells kinds.IntSet book part (keys, carries) order = carries [] tt order
-carries_tells kinds.Pqueue book part (keys, carries) order = carries [] tt order
-carries_tells kinds.CasRegister book part (keys, carries) order = carries (0 ∷ []) tt order
-carries_tells kinds.Map book part (keys, carries) order = carries [] tt order
+carries_tells kinds.Queue book part (keys, carries) order = carries [] tt tt order
+carries_tells kinds.Stack book part (keys, carries) order = carries [] tt tt order
+carries_tells kinds.Register book part (keys, carries) order = carries (0 ∷ []) tt tt order
+carries_tells kinds.Counter book part (keys, carries) order = carries (0 ∷ []) tt tt order
+carries_tells kinds.IntSet book part (keys, carries) order = carries [] tt tt order
+carries_tells kinds.Pqueue book part (keys, carries) order = carries [] tt tt order
+carries_tells kinds.CasRegister book part (keys, carries) order = carries (0 ∷ []) tt tt order
+carries_tells kinds.Map book part (keys, carries) order = carries [] tt tt order
 
 -- A legal order of a book gives one of each part that is evidence of it.
 pub evidence_tells : EvidenceTells
@@ -98,17 +98,6 @@ evidence_tells kind book names part evidence order =
     carries_tells kind book part (evidence_carries_over kind book names part evidence) order
 
 -- ---- the calls that evidence keeps
-
-all_named : (book : List Page) (call : Call) → IsCall book call → IsNamed (all_numbers book) call
-all_named book call inside =
-    let n : ℕ = calls_of book call.caller in
-    let P : List ℕ → Type 0 = λ xs. (k : ℕ) × (k < length xs) × (get_or xs k 0 ≡ call.number) in
-    let there : P (range_with_len 0 n) = (
-      call.number,
-      omega (arith, length-range_with_len 0 n, inside),
-      omega (arith, get_or-range_with_len 0 n call.number 0 inside),
-    ) in
-    subst P (sym (numbers_of-all book call.caller)) there
 
 -- A call of a part has the operation that it had in the book.
 word_was : (book : List Page) (names : List (List ℕ)) (part : List Page) → IsPart book names part
@@ -120,11 +109,12 @@ word_was book names part is call inside =
 -- A call of a part that sets a list set it in the book.
 was_set : (next : List ℕ → ℕ → List ℕ × ℕ) (book : List Page) (names : List (List ℕ))
     (part : List Page) → IsPart book names part → (call : Call) (after : List ℕ) → IsCall part call
-    → Sets next part call after → Sets next book (original names call) after
-was_set next book names part is call after inside sets before may =
+    → Sets next part IsAnyList call after
+    → Sets next book IsAnyList (original names call) after
+was_set next book names part is call after inside sets before any may =
     let word = word_was book names part is call inside in
     ap (λ (op : ℕ). (next before op).0) (sym word)
-    ∙ sets before (λ (r : Record) known.
+    ∙ sets before any (λ (r : Record) known.
     let was = record_was book names part is call r known in
     was.2.reply ∙ (may was.0 was.1 ∙ ap (λ (op : ℕ). (next before op).1) (sym word)))
 
@@ -183,8 +173,12 @@ was_hidden next book names part is seer setting answered inside (after, sets, ca
       after,
       was_set next book names part is setting after inside sets,
       elim cannot [
-        | inl blind ↦ inl (subst
-            (λ (op : ℕ). (before other : List ℕ) → next before op ≡ next other op) word blind)
+        | inl blind ↦ inl (λ before other any also.
+            let same = blind before other any also in (
+              subst (λ (op : ℕ). (next before op).0 ≡ (next other op).0) word same.0,
+              λ known. subst (λ (op : ℕ). (next before op).1 ≡ (next other op).1) word
+                  (same.1 answered),
+            ))
         | inr rest ↦ elim rest [
           | inl earlier ↦
               inr (inl (preceded_in_book book names part is seer setting inside earlier))
@@ -309,13 +303,11 @@ step_keeps kind book names part step call other small r there known held writes 
             | inr by_calls ↦ elim by_calls [
               | inl lacks ↦ absurd (elim (lacks.unseen other inside unnamed) [
                 | inl only ↦ writes only
-                | inr unseen ↦ seen_by (
-                  unseen.after,
-                  unseen.sets,
-                  unseen.unseen (original names call)
-                      (original_is_call book names part is call here)
-                      (call.number, omega (arith, is.calls call.caller, here), refl),
-                )
+                | inr unseen ↦ seen_by (hidden_without_key kind book (original names call) other
+                    inside keyless unseen.after unseen.sets
+                    (unseen.unseen (original names call)
+                    (original_is_call book names part is call here)
+                    (call.number, omega (arith, is.calls call.caller, here), refl)))
               ])
               | inr lacks ↦
                   let goes : is_among lacks.keys (key_of_call kind book other) ≡ true =

@@ -8,7 +8,7 @@ use Rattle.legal_orders.specs.Container.{one_if, times}
 use Rattle.seq_objects.specs.MapSteps.{key_of}
 use Rattle.seq_objects.specs.MapLaws.{LacksKey, HasKeysOnce}
 use Rattle.smaller_book.specs.Part.{AreRising}
-use Rattle.smaller_book.specs.Keys.{Rises}
+use Rattle.smaller_book.specs.Keys.{HasItemsOnce, Rises}
 
 -- ---- what a filter keeps
 
@@ -120,15 +120,15 @@ rising-filter_range p n j k less inside =
 
 -- ---- lists that rise
 
--- Where a number is at most each item of a list, it is at most each item that a filter keeps.
-pub above-filter : (p : ℕ → Bool) (x : ℕ) (xs : List ℕ) → AllByRecursion (λ y. x ≤ y) xs
-    → AllByRecursion (λ y. x ≤ y) (filter p xs)
-above-filter p x [] above = tt
-above-filter p x (y ∷ ys) above = elim (cases_Bool (p y)) [
-  | inl kept ↦ subst (AllByRecursion (λ z. x ≤ z)) (sym (filter-kept p y ys kept))
-      (above.0, above-filter p x ys above.1)
-  | inr gone ↦ subst (AllByRecursion (λ z. x ≤ z)) (sym (filter-gone p y ys gone))
-      (above-filter p x ys above.1)
+-- What holds of each item of a list holds of each item that a filter keeps.
+pub all-filter : (p : ℕ → Bool) (P : ℕ → Type 0) (xs : List ℕ) → AllByRecursion P xs
+    → AllByRecursion P (filter p xs)
+all-filter p P [] all = tt
+all-filter p P (y ∷ ys) all = elim (cases_Bool (p y)) [
+  | inl kept ↦ subst (AllByRecursion P) (sym (filter-kept p y ys kept))
+      (all.0, all-filter p P ys all.1)
+  | inr gone ↦ subst (AllByRecursion P) (sym (filter-gone p y ys gone))
+      (all-filter p P ys all.1)
 ]
 
 -- What a filter keeps of a rising list rises.
@@ -136,8 +136,18 @@ pub rises-filter : (p : ℕ → Bool) (xs : List ℕ) → Rises xs → Rises (fi
 rises-filter p [] rises = tt
 rises-filter p (x ∷ xs) rises = elim (cases_Bool (p x)) [
   | inl kept ↦ subst Rises (sym (filter-kept p x xs kept))
-      (above-filter p x xs rises.0, rises-filter p xs rises.1)
+      (all-filter p (λ y. x ≤ y) xs rises.0, rises-filter p xs rises.1)
   | inr gone ↦ subst Rises (sym (filter-gone p x xs gone)) (rises-filter p xs rises.1)
+]
+
+-- What a filter keeps of a list without an item twice has none twice.
+pub items_once-filter : (p : ℕ → Bool) (xs : List ℕ) → HasItemsOnce xs
+    → HasItemsOnce (filter p xs)
+items_once-filter p [] once = tt
+items_once-filter p (x ∷ xs) once = elim (cases_Bool (p x)) [
+  | inl kept ↦ subst HasItemsOnce (sym (filter-kept p x xs kept))
+      (all-filter p (λ y. x ≢ y) xs once.0, items_once-filter p xs once.1)
+  | inr gone ↦ subst HasItemsOnce (sym (filter-gone p x xs gone)) (items_once-filter p xs once.1)
 ]
 
 -- ---- lists of items with keys

@@ -1,18 +1,17 @@
 -- The numbers of the calls that are about none of some keys.
-use Rattle.std.proofs.Common.{◌≡◌, ℕ, ◌<◌, ◌≤◌, ◌∙◌, Bool, true, false, not, List, [], length, map, get_or, sym, ap, subst, inl, inr, zero-add, arith}
+use Rattle.std.proofs.Common.{◌≡◌, ℕ, ◌<◌, ◌∙◌, Bool, true, false, not, List, [], length, get_or, sym, ap, subst, inl, inr, zero-add, arith}
 use Rattle.std.specs.List.{range_with_len}
-use Rattle.std.proofs.lemmas.Bool.{cases_lt, cases_Bool, not-true}
-use Rattle.std.proofs.lemmas.List.{get_or_past}
-use Rattle.std.proofs.lemmas.List.FromFn.{get_or-range_with_len, length-range_with_len, get_or-map-range_with_len, length-map-range_with_len}
-use Rattle.std.proofs.lemmas.List.Elements.{All-filter}
+use Rattle.std.proofs.lemmas.Bool.{cases_Bool, not-true}
+use Rattle.std.proofs.lemmas.List.FromFn.{get_or-range_with_len, length-range_with_len, get_or-map-range_with_len}
 use Rattle.book_base.specs.declared.call.Call.{Call}
 use Rattle.book_base.specs.Book.{Page, calls_of, IsCall}
 use Rattle.book_base.proofs.PageLemmas.{caller_from_call}
 use Rattle.seq_objects.specs.declared.kind.Kind.{Kind}
-use Rattle.smaller_book.specs.Part.{numbers_of, AreRising, IsNamed}
+use Rattle.smaller_book.specs.Part.{numbers_of, IsNamed}
 use Rattle.smaller_book.specs.Numbers.{AreNumbersOf}
 use Rattle.smaller_book.specs.Keys.{key_of_call, is_among, row_without, all_without}
-use Rattle.smaller_book.proofs.Filtering.{filter-passes, filter-finds, rising-filter_range}
+use Rattle.smaller_book.proofs.Filtering.{filter-passes, filter-finds}
+use Rattle.smaller_book.proofs.PassingRows.{passing_are_numbers}
 
 -- Whether the call of a caller with this number is about none of these keys.
 abbrev stays_in : Kind → (ℕ → Bool) → List Page → ℕ → ℕ → Bool
@@ -26,48 +25,10 @@ module _ (kind : Kind) (keys : ℕ → Bool) (book : List Page) where
       let remaining : ℕ → List ℕ = row_without kind keys book in
       get_or-map-range_with_len remaining 0 (length book) i i [] inside (zero-add i)
 
-  numbers_of-past : (i : ℕ) → length book ≤ i → numbers_of (all_without kind keys book) i ≡ []
-  numbers_of-past i past =
-      let remaining : ℕ → List ℕ = row_without kind keys book in
-      get_or_past (map remaining (range_with_len 0 (length book)))
-      i [] (omega (arith, past, length-map-range_with_len remaining 0 (length book)))
-
-  -- A property of a caller and its numbers holds of each caller where it holds of the numbers of
-  -- its calls that are about none of these keys, and of no numbers.
-  cases_rows : (P : ℕ → List ℕ → Type 0) → ((i : ℕ) → P i (row_without kind keys book i))
-      → ((i : ℕ) → P i []) → (i : ℕ) → P i (numbers_of (all_without kind keys book) i)
-  cases_rows P here past i = elim (cases_lt i (length book)) [
-    | inl inside ↦ subst (P i) (sym (numbers_of-here i inside)) (here i)
-    | inr out ↦ subst (P i) (sym (numbers_of-past i out)) (past i)
-  ]
-
-  inside-row : (i k : ℕ) → k < length (row_without kind keys book i)
-      → get_or (row_without kind keys book i) k 0 < calls_of book i
-  inside-row i k room =
-      All-filter (stays_in kind keys book i) (λ (n : ℕ). n < calls_of book i)
-      (range_with_len 0 (calls_of book i))
-      (λ j d less. omega (
-        arith,
-        less,
-        length-range_with_len 0 (calls_of book i),
-        get_or-range_with_len 0 (calls_of book i) j d
-            (omega (arith, less, length-range_with_len 0 (calls_of book i))),
-      ))
-      k 0 room
-
   -- The numbers of all calls that are about none of these keys are rising numbers of calls of the
   -- book, a list for each caller.
   pub all_without_are_numbers : AreNumbersOf book (all_without kind keys book)
-  all_without_are_numbers = record {
-    wide =
-        let remaining : ℕ → List ℕ = row_without kind keys book in
-        length-map-range_with_len remaining 0 (length book);
-    rising = cases_rows (λ i xs. AreRising xs)
-        (λ i. rising-filter_range (stays_in kind keys book i) (calls_of book i))
-        (λ i j k less room. absurd (omega arith));
-    inside = cases_rows (λ i xs. (k : ℕ) → k < length xs → get_or xs k 0 < calls_of book i)
-        (λ i k room. inside-row i k room) (λ i k room. absurd (omega arith));
-  }
+  all_without_are_numbers = passing_are_numbers (stays_in kind keys book) book
 
   -- A call that is named is about none of these keys.
   pub named_stays : (call : Call) → IsCall book call → IsNamed (all_without kind keys book) call

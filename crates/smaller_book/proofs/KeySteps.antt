@@ -29,7 +29,7 @@ use Rattle.broken_rules.proofs.ObjectStanding.{times-insert, times-remove, times
 use Rattle.book_base.specs.Book.{Page}
 use Rattle.book_base.specs.Pruning.{HasOneOpen}
 use Rattle.smaller_book.specs.Keys.{value_shown, key_by_kind, key_of_step, key_of_item, is_among, items_without, Rises, IsWellFormed, KeysMayGo}
-use Rattle.smaller_book.proofs.Filtering.{filter-kept, filter-gone, filter-all, above-filter, keys_once-filter, times-filter}
+use Rattle.smaller_book.proofs.Filtering.{filter-kept, filter-gone, filter-all, all-filter, keys_once-filter, times-filter}
 
 -- A relation of a list with all items and one without the items of some keys, which each step of
 -- the object keeps.
@@ -381,7 +381,7 @@ placed_kept p v (x ∷ xs) rises kept = elim (cases_Bool (nat_lt v x)) [
       = ap (filter p) (cond-true (nat_lt v x) (v ∷ x ∷ xs) (x ∷ placed v xs) less)
       ∙ filter-kept p v (x ∷ xs) kept in
       let all : AllByRecursion (λ y. x ≤ y) (x ∷ xs) = (omega arith, rises.0) in
-      here ∙ sym (placed_first v x (filter p (x ∷ xs)) before (above-filter p x (x ∷ xs) all))
+      here ∙ sym (placed_first v x (filter p (x ∷ xs)) before (all-filter p (λ y. x ≤ y) (x ∷ xs) all))
   | inr most ↦
       let here : filter p (placed v (x ∷ xs)) ≡ filter p (x ∷ placed v xs) =
       ap (filter p) (cond-false (nat_lt v x) (v ∷ x ∷ xs) (x ∷ placed v xs) most) in

@@ -9,6 +9,7 @@ pub mod Named
 pub mod Filtering
 pub mod CarryingOver
 pub mod KeySteps
+pub mod PassingRows
 pub mod KeyRows
 pub mod KeyCodes
 pub mod KeyLaw
@@ -23,5 +24,7 @@ pub mod Evidence
 pub mod KeyRemoval
 pub mod LoneCalls
 pub mod Moments
-pub mod RegisterValues
+pub mod OneKey
+pub mod Settings
+pub mod OneKeyCarries
 pub mod Sizes

@@ -11,7 +11,8 @@ use Rattle.seq_objects.specs.Objects.{kind_next, kind_spec}
 use Rattle.smaller_book.specs.Part.{original, IsNamed, IsPart, KeepsAnswers}
 use Rattle.smaller_book.specs.Numbers.{composed}
 use Rattle.smaller_book.specs.ReadOnly.{IsReadOnly}
-use Rattle.smaller_book.specs.Unseen.{IsHiddenFrom, LacksUnseenAlone}
+use Rattle.smaller_book.specs.Unseen.{IsHiddenFrom}
+use Rattle.smaller_book.specs.OneKey.{LacksUnseen}
 use Rattle.smaller_book.specs.Earliest.{all_numbers, IsAtSomeCut}
 use Rattle.smaller_book.specs.Keys.{key_of_call, all_without, KeysMayGo, CarriesOverWithoutSome}
 
@@ -27,7 +28,7 @@ pub record LacksUnseenCalls (kind : Kind) (book : List Page) (names : List (List
   pub wide : length names ≡ length book
   pub is_part : IsPart book names part
   pub answers : KeepsAnswers book names part
-  pub unseen : LacksUnseenAlone (kind_next kind) book names
+  pub unseen : LacksUnseen kind book names
 
 -- Calls of keys may be left out of the book. The part has all calls of the book but those that are
 -- about some keys, answered where the book has them answered.
@@ -69,7 +70,8 @@ EvidenceIsAPart = (kind : Kind) (book : List Page) (names : List (List ℕ)) (pa
     → IsEvidence kind book names part → IsPart book names part
 
 -- For each part that is evidence of a book there are keys such that, from whichever well-formed
--- list the book has a legal order, the part has one from the list without the items of these keys.
+-- list the book has a legal order, of a set one in which no item stands twice, the part has one from
+-- the list without the items of these keys.
 abbrev pub EvidenceCarriesOver : Type 0
 EvidenceCarriesOver = (kind : Kind) (book : List Page) (names : List (List ℕ)) (part : List Page)
     → IsEvidence kind book names part → CarriesOverWithoutSome kind book part

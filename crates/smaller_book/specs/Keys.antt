@@ -1,6 +1,6 @@
 -- The rule of keys: all calls that are about some keys may be left out together; of a queue, a
 -- stack or a priority queue where each view holds at most one unanswered call of each caller.
-use Rattle.std.specs.Prelude.{ℕ, ◌≤◌, ◌&&◌, nat_le, Bool, false, not, List, [], ◌∷◌, map, filter, length, unwrap_or, Option, Some, None, option_map, if◌then◌else◌}
+use Rattle.std.specs.Prelude.{◌≢◌, ℕ, ◌≤◌, ◌&&◌, nat_le, Bool, false, not, List, [], ◌∷◌, map, filter, length, unwrap_or, Option, Some, None, option_map, if◌then◌else◌}
 use Rattle.std.specs.List.{range_with_len, AllByRecursion}
 use Rattle.book_base.specs.declared.call.Call.{Call}
 use Rattle.book_base.specs.SeqSpec.{spec_from}
@@ -98,6 +98,11 @@ abbrev pub Rises : List ℕ → Type 0
 Rises [] = Unit {0}
 Rises (x ∷ xs) = AllByRecursion (λ y. x ≤ y) xs × Rises xs
 
+-- No item stands in the list twice.
+abbrev pub HasItemsOnce : List ℕ → Type 0
+HasItemsOnce [] = Unit {0}
+HasItemsOnce (x ∷ xs) = AllByRecursion (λ y. x ≢ y) xs × HasItemsOnce xs
+
 -- A list is well-formed for a kind: in a priority queue the items rise, in a map no two items have
 -- the same key, and for the other kinds each list is well-formed.
 abbrev pub IsWellFormed : Kind → List ℕ → Type 0
@@ -110,6 +115,17 @@ IsWellFormed kinds.Register list = Unit {0}
 IsWellFormed kinds.Counter list = Unit {0}
 IsWellFormed kinds.CasRegister list = Unit {0}
 
+-- No item stands in a set's list twice; for the other kinds each list will do.
+abbrev pub HasOnce : Kind → List ℕ → Type 0
+HasOnce kinds.IntSet list = HasItemsOnce list
+HasOnce kinds.Pqueue list = Unit {0}
+HasOnce kinds.Map list = Unit {0}
+HasOnce kinds.Queue list = Unit {0}
+HasOnce kinds.Stack list = Unit {0}
+HasOnce kinds.Register list = Unit {0}
+HasOnce kinds.Counter list = Unit {0}
+HasOnce kinds.CasRegister list = Unit {0}
+
 -- For each well-formed list: if the book has a legal order from this list on, the part has one from
 -- the list without the items of these keys.
 abbrev pub CarriesOverWithout : Kind → (ℕ → Bool) → List Page → List Page → Type 0
@@ -117,10 +133,13 @@ CarriesOverWithout kind keys book part = (list : List ℕ) → IsWellFormed kind
     → HasLegalOrder (spec_from list (kind_next kind)) book
     → HasLegalOrder (spec_from (items_without kind keys list) (kind_next kind)) part
 
--- There are keys such that, from whichever well-formed list the book has a legal order, the part
--- has one from the list without the items of these keys.
+-- There are keys such that, from whichever well-formed list the book has a legal order, of a set one
+-- in which no item stands twice, the part has one from the list without the items of these keys.
 abbrev pub CarriesOverWithoutSome : Kind → List Page → List Page → Type 0
-CarriesOverWithoutSome kind book part = (keys : ℕ → Bool) × CarriesOverWithout kind keys book part
+CarriesOverWithoutSome kind book part = (keys : ℕ → Bool) × ((list : List ℕ)
+    → IsWellFormed kind list → HasOnce kind list
+    → HasLegalOrder (spec_from list (kind_next kind)) book
+    → HasLegalOrder (spec_from (items_without kind keys list) (kind_next kind)) part)
 
 -- All calls of a key may be left out of a book. An unanswered take of a queue, a stack or a
 -- priority queue is about no key and stays; so there each view has to hold at most one unanswered

@@ -4,5 +4,7 @@ pub mod ReadOnly
 pub mod Earliest
 pub mod Keys
 pub mod Unseen
+pub mod OneKey
+pub mod Settings
 pub mod Evidence
 pub mod Minimal

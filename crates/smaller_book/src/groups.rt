@@ -2,12 +2,14 @@
 ghost use Rattle.std.specs.Prelude.{◌<◌, length, IfOk, IfSome, IsTrue};
 ghost use Rattle.book_base.specs.Book.{IsCall};
 ghost use Rattle.smaller_book.specs.Numbers.{numbers_in};
+ghost use Rattle.smaller_book.specs.Settings.{IsWithoutUnseen};
 ghost use Rattle.smaller_book.specs.Minimal.{IsSmaller};
 
 use crate::kept::{illegal_part, is_illegal_with, keep, keeps};
+use crate::one_key::sets_lists;
 use crate::read_only::is_read_only;
 use crate::removal::Smaller;
-use crate::unseen_calls::{cannot_see, is_blind, overwritten_from, value_set};
+use crate::unseen_calls::{cannot_see, is_blind, item_set, overwritten_from};
 use book_base::{Book, Call, MAX_CALLERS, MAX_CALLS, NoMemory};
 use seq_objects::Kind;
 use std::alloc::Global;
@@ -18,12 +20,12 @@ const MOST_SEEDS: usize = 64;
 /// How many steps a search for the fewest seeds takes at most; with each two it halves the range.
 const MOST_STEPS: usize = 64;
 
-// A call that sets a value.
+// A call that sets a list: the only item of the list after it, or no item.
 #[derive(Drop)]
 struct Setting {
     call: Call,
-    value: u64,
-    // for each caller the number from which on its calls come after one that overwrites the value
+    item: Option<u64>,
+    // for each caller the number from which on its calls come after one that overwrites the list
     until: Vec<u64>,
 }
 
@@ -42,8 +44,13 @@ type Seen = Vec<Vec<Vec<Call>>>;
 /// have no legal order together: such as few other calls stay with come first, and of these the
 /// fewest (after Junker 2004). No book is answered where all calls stay.
 pub fn without_unseen(alloc: Global, kind: Kind, book: &Book) -> Result<Option<Smaller>, NoMemory>
-    ensures { IfOk result (λ found. IfSome found (λ smaller.
+    // The answered book is evidence of the book, has no legal order, and has fewer calls.
+    ensures smaller { IfOk result (λ found. IfSome found (λ smaller.
         IsSmaller kind book.now (numbers_in smaller.numbers.items) smaller.book)) }
+    // It has the calls with the answered numbers, answered as in the book, and lacks only calls that
+    // are read-only, or unseen by their words.
+    ensures unseen { IfOk result (λ found. IfSome found (λ smaller.
+        IsWithoutUnseen kind book.now (numbers_in smaller.numbers.items) smaller.book)) }
 {
     let kept = chosen(alloc, kind, book)?;
     illegal_part(alloc, kind, book, &kept)
@@ -200,19 +207,22 @@ fn none_kept(alloc: Global, book: &Book) -> Result<Vec<Vec<bool>>, NoMemory> {
     Ok(kept)
 }
 
-// The calls that are neither read-only nor set a value: these can't go.
+// The calls that are neither read-only nor set a list: these can't go.
 fn lasting_calls(alloc: Global, kind: Kind, book: &Book) -> Result<Vec<Call>, NoMemory> {
+    let lists = sets_lists(kind, book);
     let mut lasting = Vec::new(alloc);
     for caller in 0..book.callers() {
-        push_lasting(kind, book, caller, &mut lasting)?;
+        push_lasting(kind, book, lists, caller, &mut lasting)?;
     }
     Ok(lasting)
 }
 
-// Appends the calls of a caller that are neither read-only nor set a value.
+// Appends the calls of a caller that are neither read-only nor set a list, where `lists` says whether
+// calls of the book do.
 fn push_lasting(
     kind: Kind,
     book: &Book,
+    lists: bool,
     caller: u32,
     lasting: &mut Vec<Call>,
 ) -> Result<(), NoMemory>
@@ -220,7 +230,8 @@ fn push_lasting(
 {
     for number in 0..book.calls(caller) {
         let call = Call { caller, number };
-        if !is_read_only(kind, book, call) && value_set(kind, book, call).is_none() {
+        let sets = lists && item_set(kind, book, call).is_some();
+        if !sets && !is_read_only(kind, book, call) {
             lasting.push(call)?;
         }
     }
@@ -254,8 +265,8 @@ fn seen_by_caller(
     Ok(rows)
 }
 
-// The calls whose values a call may see. Where all such values are overwritten before it, one of
-// these calls counts, so that it stays where a value is shown.
+// The calls whose lists a call may see. Where all such lists are overwritten before it, one of these
+// calls counts, so that it stays where a list is shown.
 fn seen_by(
     alloc: Global,
     kind: Kind,
@@ -287,13 +298,13 @@ fn seen_by(
     Ok(seen)
 }
 
-// Whether a call may show a value that another one sets.
+// Whether a call may show a list that another one sets.
 fn may_show(kind: Kind, book: &Book, setting: &Setting, seer: Call) -> bool
     requires { IsCall book.now seer }
 {
     setting.call != seer
         && is_call_of(book, setting.call)
-        && !cannot_see(kind, book, setting.call, setting.value, seer)
+        && !cannot_see(kind, book, setting.call, setting.item, seer)
 }
 
 // Whether a call comes after one that overwrites what a call has set.
@@ -331,16 +342,19 @@ fn is_call_of(book: &Book, call: Call) -> bool
     call.caller < book.callers() && call.number < book.calls(call.caller)
 }
 
-// The calls of a book that set a value.
+// The calls of a book that set a list.
 fn settings_of(alloc: Global, kind: Kind, book: &Book) -> Result<Vec<Setting>, NoMemory> {
     let mut settings = Vec::new(alloc);
+    if !sets_lists(kind, book) {
+        return Ok(settings);
+    }
     for caller in 0..book.callers() {
         push_settings(alloc, kind, book, caller, &mut settings)?;
     }
     Ok(settings)
 }
 
-// Appends the calls of a caller that set a value.
+// Appends the calls of a caller that set a list.
 fn push_settings(
     alloc: Global,
     kind: Kind,
@@ -352,9 +366,9 @@ fn push_settings(
 {
     for number in 0..book.calls(caller) {
         let call = Call { caller, number };
-        if let Some(value) = value_set(kind, book, call) {
+        if let Some(item) = item_set(kind, book, call) {
             let until = overwritten_by_all(alloc, kind, book, call)?;
-            settings.push(Setting { call, value, until })?;
+            settings.push(Setting { call, item, until })?;
         }
     }
     Ok(())

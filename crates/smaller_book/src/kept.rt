@@ -5,12 +5,13 @@ ghost use Rattle.book_base.specs.Book.{IsCall, calls_of};
 ghost use Rattle.book_base.specs.Order.{HasLegalOrder};
 ghost use Rattle.seq_objects.specs.Objects.{kind_spec};
 ghost use Rattle.smaller_book.specs.Numbers.{numbers_in, AreNumbersOf, AreNumbersBelow};
+ghost use Rattle.smaller_book.specs.Settings.{IsWithoutUnseen};
 ghost use Rattle.smaller_book.specs.Minimal.{IsSmaller};
 
 use crate::judging::is_illegal;
 use crate::numbered::part;
 use crate::removal::{Smaller, has_fewer, push_if};
-use crate::unseen_calls::lacks_unseen_alone;
+use crate::unseen_calls::first_seen;
 use book_base::{Book, Call, NoMemory};
 use seq_objects::Kind;
 use std::alloc::Global;
@@ -24,12 +25,14 @@ pub fn illegal_part(
     book: &Book,
     kept: &[Vec<bool>],
 ) -> Result<Option<Smaller>, NoMemory>
-    ensures { IfOk result (λ found. IfSome found (λ smaller.
+    ensures smaller { IfOk result (λ found. IfSome found (λ smaller.
         IsSmaller kind book.now (numbers_in smaller.numbers.items) smaller.book)) }
+    ensures unseen { IfOk result (λ found. IfSome found (λ smaller.
+        IsWithoutUnseen kind book.now (numbers_in smaller.numbers.items) smaller.book)) }
 {
     let _callers = book.callers();
     let numbers = numbers_kept(alloc, book, kept)?;
-    if !lacks_unseen_alone(kind, book, &numbers) {
+    if first_seen(kind, book, &numbers).is_some() {
         return Ok(None);
     }
     let smaller = part(alloc, book, &numbers)?;

@@ -2,6 +2,8 @@
 
 ghost use Rattle.smaller_book.specs.ReadOnly.{HasOneWithoutReadOnly, HasOneExactlyWithoutOpenReadOnly};
 ghost use Rattle.smaller_book.specs.Unseen.{HasOneWithoutUnseen};
+ghost use Rattle.smaller_book.specs.OneKey.{HasOneWithoutUnseenOfKind};
+ghost use Rattle.smaller_book.specs.Settings.{WordsTell};
 ghost use Rattle.smaller_book.specs.Keys.{HasOneWithoutKeys};
 ghost use Rattle.smaller_book.specs.Evidence.{EvidenceIsAPart, EvidenceCarriesOver, EvidenceTells, EvidenceKeepsTheRest};
 ghost use Rattle.smaller_book.specs.Minimal.{MinimalAtMoments, ClosedCutsAreMoments, FewCallsAtCuts, SeveralOpenAtCuts};
@@ -18,10 +20,17 @@ pub fn read_only_calls_may_be_left_out()
 /// Calls that set the object's list, whatever the list was before, may be left out, many at once,
 /// where no call that stays can tell: each one is blind, precedes the call that goes, comes after
 /// one that overwrites what the call sets, or has a reply that the object doesn't give at the list
-/// that was set. Where a book has a legal order, each part that lacks only such calls and read-only
-/// ones has one.
+/// that was set.
 pub fn unseen_calls_may_be_left_out()
-    ensures { HasOneWithoutUnseen }
+    // Where a book has a legal order, each part that lacks only such calls and read-only ones has
+    // one, whichever list the object begins with.
+    ensures carries_over { HasOneWithoutUnseen }
+    // So it is in a book of one key of a set or a map from each list that has at most this key,
+    // where the calls that go set their lists from such lists.
+    ensures one_key { HasOneWithoutUnseenOfKind }
+    // Calls that are unseen by their words are unseen: of registers, with or without
+    // compare-and-set, and of sets and maps in a book of one key.
+    ensures words { WordsTell }
 {}
 
 /// All calls of some keys may be left out; of a queue, a stack or a priority queue where each view
@@ -36,8 +45,8 @@ pub fn calls_of_keys_may_be_left_out()
 /// none, the book has none.
 pub fn evidence_tells()
     // For each part that is evidence of a book there are keys such that, from whichever well-formed
-    // list the book has a legal order, the part has one from the list without the items of these
-    // keys.
+    // list the book has a legal order, of a set one in which no item stands twice, the part has one
+    // from the list without the items of these keys.
     ensures carries_over { EvidenceCarriesOver }
     // Where a book has a legal order, each part that is evidence of it has one.
     ensures tells { EvidenceTells }

@@ -11,6 +11,7 @@ mod keyless;
 mod keys;
 pub mod laws;
 mod numbered;
+mod one_key;
 mod open_cuts;
 mod read_only;
 mod read_only_calls;
@@ -21,14 +22,16 @@ mod unseen_calls;
 
 pub use composing::{numbers_of_all, numbers_through};
 pub use cuts::{earliest, without_later, without_open};
+pub use groups::without_unseen;
 pub use judging::calls_of_all;
 pub use keyless::without_halves;
 pub use keys::{key_of, keys_of};
 pub use numbered::{count_below, part};
 pub use read_only::is_read_only;
-pub use read_only_calls::{without_singles, without_slices};
+pub use read_only_calls::without_singles;
 pub use removal::{Smaller, all_numbers_but, push_if};
 pub use shrinking::shrink;
+pub use unseen_calls::first_seen;
 
 /// A book has few calls where it has at most this many. Then it is tried at each earlier cut, also
 /// at one at which a view holds several unanswered calls of one caller.

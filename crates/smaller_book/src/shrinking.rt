@@ -28,10 +28,10 @@ use std::alloc::Global;
 ///
 /// The rules are three: the book at an earlier cut, the book without calls that may go, and the
 /// book without all calls of one key. Read-only calls may go, answered or not, and calls that set
-/// the value of a register, with or without compare-and-set, where no call that stays can tell: with
-/// a call that stays, those stay that it may see. A key is
-/// a value of a queue, a stack, a priority queue or a register, or the argument of an operation of
-/// a set or a map. Calls of a queue, a stack or a priority queue go by keys only where each view
+/// the value of a register, with or without compare-and-set, or the item of a set or a map where all
+/// calls are about one key, where no call that stays can tell: with a call that stays, those stay
+/// that it may see. A key is a value of a queue, a stack, a priority queue or a register, or the
+/// argument of an operation of a set or a map. Calls of a queue, a stack or a priority queue go by keys only where each view
 /// holds at most one unanswered call of each caller. Where more than `FEW_CALLS` calls are left,
 /// and each view holds at most one unanswered call of each caller, only such earlier cuts are tried
 /// at which each view of the book still holds at most one. The calls are numbered anew with new

@@ -73,11 +73,11 @@ increment_is_seen : (number : ℕ) (r : Record)
 unfolding kind_next
 increment_is_seen zero r e (after, sets, cannot) =
     let one : ◌≡◌ {A = List ℕ} (1 ∷ []) after =
-    sets (0 ∷ []) (λ s known. sym (ap (λ (x : Record). x.reply) (same_Some _ s known))) in
+    sets (0 ∷ []) tt (λ s known. sym (ap (λ (x : Record). x.reply) (same_Some _ s known))) in
     elim cannot [
       | inl blind ↦
           let same : ◌≡◌ {A = List ℕ} (1 ∷ []) (2 ∷ []) =
-          ap (λ (x : List ℕ × ℕ). x.0) (blind (0 ∷ []) (1 ∷ [])) in
+          (blind (0 ∷ []) (1 ∷ []) tt tt).0 in
           let apart : ◌≡◌ {A = ℕ} 1 2 = ap (λ (xs : List ℕ). get_or xs 0 0) same in
           omega (arith, apart)
       | inr rest ↦ elim rest [
@@ -159,11 +159,11 @@ write_is_seen : (number : ℕ) (r : Record)
 unfolding kind_next
 write_is_seen zero r e (after, sets, cannot) =
     let five : ◌≡◌ {A = List ℕ} (5 ∷ []) after =
-    sets (0 ∷ []) (λ s known. sym (ap (λ (x : Record). x.reply) (same_Some _ s known))) in
+    sets (0 ∷ []) tt (λ s known. sym (ap (λ (x : Record). x.reply) (same_Some _ s known))) in
     elim cannot [
       | inl blind ↦
           let same : ◌≡◌ {A = List ℕ} (0 ∷ []) (1 ∷ []) =
-          ap (λ (x : List ℕ × ℕ). x.0) (blind (0 ∷ []) (1 ∷ [])) in
+          (blind (0 ∷ []) (1 ∷ []) tt tt).0 in
           let apart : ◌≡◌ {A = ℕ} 0 1 = ap (λ (xs : List ℕ). get_or xs 0 0) same in
           omega (arith, apart)
       | inr rest ↦ elim rest [
