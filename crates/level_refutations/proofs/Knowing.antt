@@ -100,18 +100,3 @@ none_known cuts keys none l counts = (
   where
     no_key : (key : NodeKey) → IsKey [] key → ⊥
     no_key key one = absurd cc
-
-join_again : (xs ys zs : List Node) → (xs ++ ys) ++ zs ≡ xs ++ (ys ++ zs)
-join_again [] ys zs = refl
-join_again (x ∷ xs) ys zs = ap (λ (l : List Node). x ∷ l) (join_again xs ys zs)
-
--- Nodes that begin with those of a level with the first k cuts, with one more.
-pub nodes_more : (old nodes new : List Node) (l : ℕ) (cuts : List ℕ) (k : ℕ) → k < length cuts
-    → nodes ≡ old ++ nodes_at l (take k cuts)
-    → new ≡ nodes ++ record { level = l; cut = get_or cuts k 0 } ∷ []
-    → new ≡ old ++ nodes_at l (take (k + 1) cuts)
-nodes_more old nodes new l cuts k less are is =
-    let one : List Node = record { level = l; cut = get_or cuts k 0 } ∷ [] in
-    is ∙ (ap (λ (ns : List Node). ns ++ one) are
-    ∙ (join_again old (nodes_at l (take k cuts)) one
-    ∙ ap (λ (ns : List Node). old ++ ns) (sym (nodes_at_more l cuts k less))))

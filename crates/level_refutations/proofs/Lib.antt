@@ -7,3 +7,4 @@ pub mod Widening
 pub mod Knowing
 pub mod Bounds
 pub mod Opening
+pub mod Alike

@@ -6,6 +6,7 @@ use Rattle.seq_objects.specs.declared.kind.Kind.TheVariants as kinds
 use Rattle.seq_objects.specs.Objects.{kind_spec}
 use Rattle.level_refutations.specs.declared.entry.LevelEntry.{LevelEntry}
 use Rattle.level_refutations.specs.declared.fault.LevelFault.{LevelFault}
+use Rattle.level_refutations.specs.Said.{entries_said}
 use Rattle.level_refutations.specs.Closed.{MakeClosed}
 use Rattle.level_refutations.specs.Fault.{IsFirstFault}
 
@@ -27,3 +28,8 @@ ClosedTablesFailNoTest = (book : List Page) (entries : List LevelEntry) (fault :
 abbrev pub FirstFaultsAreOne : Type 0
 FirstFaultsAreOne = (book : List Page) (entries : List LevelEntry) (e f : LevelFault)
     → IsFirstFault book entries e → IsFirstFault book entries f → e ≡ f
+
+-- Entries that say the same have the same first fault.
+abbrev pub FaultsAreOfWhatIsSaid : Type 0
+FaultsAreOfWhatIsSaid = (book : List Page) (a b : List LevelEntry) (fault : LevelFault)
+    → entries_said a ≡ entries_said b → IsFirstFault book a fault → IsFirstFault book b fault

@@ -1,3 +1,4 @@
+pub mod Said
 pub mod Closed
 pub mod Fault
 pub mod Stored

@@ -238,8 +238,8 @@ fn allows(reply: Option<u64>, said: u64) -> bool
     }
 }
 
-// The callers whose next calls may come next after a cut that lacks an answered call.
-fn next_callers(book: &Book, counts: &[u16], first: u32) -> MarkedCallers
+/// The callers whose next calls may come next after a cut that lacks an answered call.
+pub fn next_callers(book: &Book, counts: &[u16], first: u32) -> MarkedCallers
     requires wide { length counts.now ≡ length book.now }
     requires first { IsLeast book.now counts.now (length book.now) first }
     ensures { MarksAllNext book.now counts.now result }
