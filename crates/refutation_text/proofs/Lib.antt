@@ -1,6 +1,7 @@
 pub mod Lines
 pub mod SharpRefutations
 pub mod NumberLists
+pub mod CallLists
 pub mod Parts
 pub mod StepLaws
 pub mod OnePart

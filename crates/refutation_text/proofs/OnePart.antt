@@ -20,7 +20,7 @@ use Rattle.smaller_book.proofs.Following.{record_was}
 use Rattle.smaller_book.proofs.LeastCuts.{part_with_numbers}
 use Rattle.smaller_book.proofs.PartsOfParts.{part_of_part}
 use Rattle.smaller_book.proofs.Steps.{evidence_part}
-use Rattle.refutation_text.specs.Said.{StepSaid, At, Keys, Leave}
+use Rattle.refutation_text.specs.Said.{StepSaid, At, Keys, Leave, Keep}
 use Rattle.refutation_text.specs.Steps.{IsCalled, HasPlaces, IsStep, Leaves, LeaveAfter}
 use Rattle.refutation_text.proofs.StepLaws.{step_evidence, after_names}
 
@@ -164,6 +164,9 @@ one_step kind book names part (Leave named) p q a b is va vb (x, h0, h1, h2, h) 
     let one : x ≡ y = one_called book names part named x y is h0 k0 in
     let same : p ≡ q =
     h2 ∙ ap (all_but part) one ∙ sym k2 in
+    record { names = same; parts = with_places part p q a b va vb same h k }
+one_step kind book names part (Keep calls) p q a b is va vb (h0, h1, h2, h) (k0, k1, k2, k) =
+    let same : p ≡ q = h2 ∙ sym k2 in
     record { names = same; parts = with_places part p q a b va vb same h k }
 
 -- a part that steps leave is a part of the book

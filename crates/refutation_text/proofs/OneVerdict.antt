@@ -13,6 +13,11 @@ use Rattle.refutations.specs.Impossible.{IsImpossible}
 use Rattle.refutations.specs.Counts.{FindMissesPuts}
 use Rattle.pair_refutations.proofs.Refuting.{refuted-none}
 use Rattle.pair_refutations.proofs.Faults as pair_laws
+use Rattle.level_refutations.specs.Closed as tables
+use Rattle.level_refutations.specs.Fault as level_tests
+use Rattle.level_refutations.proofs.Alike.{faults_are_of_what_is_said}
+use Rattle.level_refutations.proofs.Refuting.{closed_tables_have_no_order}
+use Rattle.level_refutations.proofs.Faults as level_laws
 use Rattle.refutations.proofs.Containers.{excess_takes, missed_puts}
 use Rattle.refutations.proofs.Refuting.{closed_lists_have_no_order, impossible_replies_have_no_order}
 use Rattle.refutations.proofs.Faults.{closed_lists_fail_no_test, first_faults_are_one}
@@ -22,7 +27,7 @@ use Rattle.refutation_text.specs.declared.part_steps.StepFault.{StepFault}
 use Rattle.refutation_text.specs.declared.part_steps.StepFault.TheVariants as reasons
 use Rattle.refutation_text.specs.declared.verdict.RefutationVerdict.{RefutationVerdict}
 use Rattle.refutation_text.specs.declared.verdict.RefutationVerdict.TheVariants.{Illegal, Faulty}
-use Rattle.refutation_text.specs.Said.{StepSaid, At, Keys, Leave, EndingSaid, Impossible, Takes, Find, Closed, Pairs}
+use Rattle.refutation_text.specs.Said.{StepSaid, At, Keys, Leave, EndingSaid, Impossible, Takes, Find, Closed, Pairs, Levels, Keep}
 use Rattle.refutation_text.specs.Steps.{IsStep, StepFails, LeaveAfter, IsFirstStepFault}
 use Rattle.refutation_text.specs.Verdicts.{IsShown, EndingFails, IsRefutation, step_fault, pairs_fault, IsFaultOf, IsVerdictOf}
 use Rattle.refutation_text.specs.Laws.{RefutedBooksHaveNoOrder}
@@ -43,6 +48,8 @@ shown_is_illegal kind names part (Closed entries) h legal =
     closed_lists_have_no_order (kind_spec kind) part _ h.closed legal
 shown_is_illegal kind names part (Pairs entries) h legal = refuted-none part entries h.1 h.2
     (subst (λ (k : Kind). HasLegalOrder (kind_spec k) part) h.0 legal)
+shown_is_illegal kind names part (Levels said) h legal = closed_tables_have_no_order part h.1 h.3
+    (subst (λ (k : Kind). HasLegalOrder (kind_spec k) part) h.0 legal)
 
 -- a book with a right refutation has no legal order
 pub refuted : RefutedBooksHaveNoOrder
@@ -61,6 +68,8 @@ fails_or_leaves kind book names part (Leave named) reasons.Lacks places left is 
 fails_or_leaves kind book names part (Leave named) reasons.Changes places left is h k =
     h.2 (subst (IsReadOnly (kind_next kind) part)
     (one_called book names part named k.0 h.0 is k.1 h.1) k.2)
+fails_or_leaves kind book names part (Keep calls) reasons.Lacks places left is h k = h k.0
+fails_or_leaves kind book names part (Keep calls) reasons.Changes places left is h k = h.1 k.1
 fails_or_leaves kind book names part step why places left is h k = h
 
 one_reason : (kind : Kind) (names : List (List ℕ)) (part : List Page) (step : StepSaid)
@@ -70,6 +79,8 @@ one_reason kind names part step reasons.Open reasons.Open h k = refl
 one_reason kind names part step reasons.Changes reasons.Changes h k = refl
 one_reason kind names part (Leave named) reasons.Lacks reasons.Changes h k = absurd (h k.0 k.1)
 one_reason kind names part (Leave named) reasons.Changes reasons.Lacks h k = absurd (k h.0 h.1)
+one_reason kind names part (Keep calls) reasons.Lacks reasons.Changes h k = absurd (h k.0)
+one_reason kind names part (Keep calls) reasons.Changes reasons.Lacks h k = absurd (k h.0)
 one_reason kind names part (At counts) a reasons.Open h k = absurd k
 one_reason kind names part (At counts) a reasons.Changes h k = absurd k
 one_reason kind names part (At counts) reasons.Open b h k = absurd h
@@ -80,6 +91,8 @@ one_reason kind names part (Keys these keys) reasons.Lacks b h k = absurd h
 one_reason kind names part (Keys these keys) reasons.Changes b h k = absurd h
 one_reason kind names part (Leave named) a reasons.Open h k = absurd k
 one_reason kind names part (Leave named) reasons.Open b h k = absurd h
+one_reason kind names part (Keep calls) a reasons.Open h k = absurd k
+one_reason kind names part (Keep calls) reasons.Open b h k = absurd h
 
 -- ---- the steps before
 
@@ -158,6 +171,10 @@ shown_or_fails kind book names part s (Closed entries) (faults.Closed fault) is 
 shown_or_fails kind book names part s (Pairs entries) fault is h (inl k) = k.0 h.0
 shown_or_fails kind book names part s (Pairs entries) fault is h (inr k) =
     pair_laws.refutations_fail_no_test part entries h.2 k.1 k.2.fails
+shown_or_fails kind book names part s (Levels said) fault is h (inl k) = k.0 h.0
+shown_or_fails kind book names part s (Levels said) fault is h (inr k) =
+    level_laws.closed_tables_fail_no_test part h.1 k.3 h.3
+    (faults_are_of_what_is_said part k.1 h.1 k.3 (k.2 ∙ sym h.2) k.4)
 shown_or_fails kind book names part s ending fault is h k = k
 
 one_ending_fault : (kind : Kind) (names : List (List ℕ)) (part : List Page) (s : ℕ)
@@ -178,6 +195,12 @@ one_ending_fault kind names part s (Pairs entries) a b (inr h) (inl k) = absurd 
 one_ending_fault kind names part s (Pairs entries) a b (inr h) (inr k) =
     h.3 ∙ ap (pairs_fault names s) (pair_laws.first_faults_are_one part entries h.1 k.1 h.2 k.2)
     ∙ sym k.3
+one_ending_fault kind names part s (Levels said) a b (inl h) (inl k) = h.1 ∙ sym k.1
+one_ending_fault kind names part s (Levels said) a b (inl h) (inr k) = absurd (h.0 k.0)
+one_ending_fault kind names part s (Levels said) a b (inr h) (inl k) = absurd (k.0 h.0)
+one_ending_fault kind names part s (Levels said) a b (inr h) (inr k) =
+    h.5 ∙ ap faults.Levels (level_laws.first_faults_are_one part k.1 h.3 k.3
+    (faults_are_of_what_is_said part h.1 k.1 h.3 (h.2 ∙ sym k.2) h.4) k.4) ∙ sym k.5
 one_ending_fault kind names part s (Takes value moment) faults.Kind faults.Kind h k = refl
 one_ending_fault kind names part s (Takes value moment) faults.Kind faults.Possible h k =
     absurd (false≢true (sym h ∙ k.0))
@@ -240,6 +263,14 @@ one_ending_fault kind names part s (Find named values) (faults.Pairs x) b h k = 
 one_ending_fault kind names part s (Find named values) a (faults.Pairs y) h k = absurd k
 one_ending_fault kind names part s (Closed entries) (faults.Pairs x) b h k = absurd h
 one_ending_fault kind names part s (Closed entries) a (faults.Pairs y) h k = absurd k
+one_ending_fault kind names part s (Impossible named) (faults.Levels x) b h k = absurd h
+one_ending_fault kind names part s (Impossible named) a (faults.Levels y) h k = absurd k
+one_ending_fault kind names part s (Takes value moment) (faults.Levels x) b h k = absurd h
+one_ending_fault kind names part s (Takes value moment) a (faults.Levels y) h k = absurd k
+one_ending_fault kind names part s (Find named values) (faults.Levels x) b h k = absurd h
+one_ending_fault kind names part s (Find named values) a (faults.Levels y) h k = absurd k
+one_ending_fault kind names part s (Closed entries) (faults.Levels x) b h k = absurd h
+one_ending_fault kind names part s (Closed entries) a (faults.Levels y) h k = absurd k
 
 -- ---- one verdict
 

@@ -16,11 +16,13 @@ use Rattle.certificate_text.specs.Reading.{part_wanted, book_part}
 use Rattle.book_text.specs.Grammar.{end_words}
 use Rattle.refutations.specs.declared.entry.Entry.{Entry}
 use Rattle.pair_refutations.specs.declared.entry.PairEntry.{PairEntry}
-use Rattle.refutation_text.specs.Said.{ending_said, StepSaid, EndingSaid, Impossible, Takes, Find, Closed, Pairs, LineSaid, StepLine, ImpossibleLine, TakesLine, FindLine, PlainLine, PairsLine, ItemLine, MoveLine, EndLine}
+use Rattle.level_refutations.specs.declared.entry.LevelEntry.{LevelEntry}
+use Rattle.level_refutations.specs.Said.{EntrySaid}
+use Rattle.refutation_text.specs.Said.{ending_said, StepSaid, EndingSaid, Impossible, Takes, Find, Closed, Pairs, Levels, LineSaid, StepLine, ImpossibleLine, TakesLine, FindLine, PlainLine, PairsLine, LevelsLine, ItemLine, MoveLine, TableLine, EndLine}
 use Rattle.refutation_text.specs.declared.refutation.Ending.{Ending}
 use Rattle.refutation_text.specs.declared.refutation.Ending.TheVariants as endings
-use Rattle.refutation_text.specs.Grammar.{IsEntry, IsPairEntry, pair_entry_words, IsLine}
-use Rattle.refutation_text.specs.RefutationRules.{BodyDue, InSteps, EndDue, InEntries, InPairs, BodyRead, after_line, body_wanted, BodyFails, body_rules, InBody, after_book, RefutationPasses, refutation_wanted, refutation_rules}
+use Rattle.refutation_text.specs.Grammar.{IsEntry, IsPairEntry, pair_entry_words, IsTableEntry, table_words, IsLine}
+use Rattle.refutation_text.specs.RefutationRules.{BodyDue, InSteps, EndDue, InEntries, InPairs, InLevels, BodyRead, after_line, body_wanted, BodyFails, body_rules, InBody, after_book, RefutationPasses, refutation_wanted, refutation_rules}
 use Rattle.refutation_text.specs.Reading.{opening_line, HasNoEntries, ending_due, IsNoEnd, IsNoRestOf}
 
 book_right : (due after : BookDue) (words : List (List ℕ)) → BookPasses Second due words after
@@ -59,6 +61,9 @@ module _ (kind : Kind) (book : List Page) where
   body_wrong (InPairs steps entries) bytes what h = wrong_alike body_rules refutation_rules
       (InPairs steps entries) (InBody kind book (InPairs steps entries))
       (λ words what. (λ h. h, λ h. h)) bytes what h
+  body_wrong (InLevels steps entries) bytes what h = wrong_alike body_rules refutation_rules
+      (InLevels steps entries) (InBody kind book (InLevels steps entries))
+      (λ words what. (λ h. h, λ h. h)) bytes what h
   body_wrong (BodyRead steps ending) bytes what h = h
 
   pub body_within : AreWithin body_rules refutation_rules (InBody kind book)
@@ -81,9 +86,8 @@ no_step steps words none opens =
       fails (FindLine call values) h = absurd (opens (Find call values) h)
       fails PlainLine h = absurd (opens (Closed []) h)
       fails PairsLine h = absurd (opens (Pairs []) h)
-      fails (ItemLine entry) h = refl
-      fails (MoveLine entry) h = refl
-      fails EndLine h = refl
+      fails LevelsLine h = absurd (opens (Levels []) h)
+      fails line h = refl
 
 -- a line that is neither an entry nor the end fails the test of an entry
 pub no_entry : (steps : List StepSaid) (entries : List Entry) (words : List (List ℕ))
@@ -96,15 +100,9 @@ no_entry steps entries words none not_end =
     (λ other k. k.0) where
       fails : (line : LineSaid) → IsLine words line
           → after_line (InEntries steps entries) line ≡ None
-      fails (StepLine step) h = refl
-      fails (ImpossibleLine call) h = refl
-      fails (TakesLine value moment) h = refl
-      fails (FindLine call values) h = refl
-      fails PlainLine h = refl
-      fails PairsLine h = refl
       fails (ItemLine entry) h = absurd (none entry h.may h.text)
-      fails (MoveLine entry) h = refl
       fails EndLine h = absurd (not_end h.text)
+      fails line h = refl
 
 -- a line that is neither an entry that makes a standing nor the end fails the test of an entry
 pub no_pair_entry : (steps : List StepSaid) (entries : List PairEntry) (words : List (List ℕ))
@@ -116,15 +114,23 @@ no_pair_entry steps entries words none not_end =
     (λ other k. k.0) where
       fails : (line : LineSaid) → IsLine words line
           → after_line (InPairs steps entries) line ≡ None
-      fails (StepLine step) h = refl
-      fails (ImpossibleLine call) h = refl
-      fails (TakesLine value moment) h = refl
-      fails (FindLine call values) h = refl
-      fails PlainLine h = refl
-      fails PairsLine h = refl
-      fails (ItemLine entry) h = refl
       fails (MoveLine entry) h = absurd (none entry h.may h.text)
       fails EndLine h = absurd (not_end h.text)
+      fails line h = refl
+
+-- a line that is neither an entry of a table of levels nor the end fails the test of an entry
+pub no_table_entry : (steps : List StepSaid) (entries : List EntrySaid) (words : List (List ℕ))
+    → ((entry : EntrySaid) → IsTableEntry entry → words ≡ table_words entry → ⊥)
+    → (words ≡ end_words → ⊥)
+    → IsFirstTest (BodyFails (InLevels steps entries) words) what.Place
+no_table_entry steps entries words none not_end =
+    only_test (BodyFails (InLevels steps entries) words) what.Place (refl, fails)
+    (λ other k. k.0) where
+      fails : (line : LineSaid) → IsLine words line
+          → after_line (InLevels steps entries) line ≡ None
+      fails (TableLine entry) h = absurd (none entry h.may h.text)
+      fails EndLine h = absurd (not_end h.text)
+      fails line h = refl
 
 -- a line that isn't the end fails the test of the end
 pub no_end : (steps : List StepSaid) (ending : EndingSaid) (words : List (List ℕ))
@@ -132,15 +138,8 @@ pub no_end : (steps : List StepSaid) (ending : EndingSaid) (words : List (List �
 no_end steps ending words not_end =
     only_test (BodyFails (EndDue steps ending) words) what.End (refl, fails) (λ other k. k.0) where
       fails : (line : LineSaid) → IsLine words line → after_line (EndDue steps ending) line ≡ None
-      fails (StepLine step) h = refl
-      fails (ImpossibleLine call) h = refl
-      fails (TakesLine value moment) h = refl
-      fails (FindLine call values) h = refl
-      fails PlainLine h = refl
-      fails PairsLine h = refl
-      fails (ItemLine entry) h = refl
-      fails (MoveLine entry) h = refl
       fails EndLine h = absurd (not_end h.text)
+      fails line h = refl
 
 -- the line that begins an ending leads to what is due then
 pub opens : (steps : List StepSaid) (ending : EndingSaid) → HasNoEntries ending
@@ -150,15 +149,19 @@ opens steps (Takes value moment) none = refl
 opens steps (Find call values) none = refl
 opens steps (Closed entries) none = ap (λ (e : List Entry). Some (InEntries steps e)) (sym none)
 opens steps (Pairs entries) none = ap (λ (e : List PairEntry). Some (InPairs steps e)) (sym none)
+opens steps (Levels entries) none =
+    ap (λ (e : List EntrySaid). Some (InLevels steps e)) (sym none)
 
 -- where no entries follow, what stops the end stops the rest
 pub no_rest : (begun : Ending) (text : Unread) (fault : TextFault)
     → ((e : Vec Entry Global) → begun ≡ endings.Closed e → ⊥)
-    → ((e : Vec PairEntry Global) → begun ≡ endings.Pairs e → ⊥) → IsNoEnd text fault
+    → ((e : Vec PairEntry Global) → begun ≡ endings.Pairs e → ⊥)
+    → ((e : Vec LevelEntry Global) → begun ≡ endings.Levels e → ⊥) → IsNoEnd text fault
     → IsNoRestOf (ending_said begun) text (Text fault)
-no_rest (endings.Impossible call) text fault a b h steps = h steps (Impossible call)
-no_rest (endings.CountsTakes v m) text fault a b h steps = h steps (Takes v m)
-no_rest (endings.CountsFind i n values) text fault a b h steps =
+no_rest (endings.Impossible call) text fault a b c h steps = h steps (Impossible call)
+no_rest (endings.CountsTakes v m) text fault a b c h steps = h steps (Takes v m)
+no_rest (endings.CountsFind i n values) text fault a b c h steps =
     h steps (Find (record { caller = i; number = n }) values.items)
-no_rest (endings.Closed entries) text fault a b h steps = absurd (a entries refl)
-no_rest (endings.Pairs entries) text fault a b h steps = absurd (b entries refl)
+no_rest (endings.Closed entries) text fault a b c h steps = absurd (a entries refl)
+no_rest (endings.Pairs entries) text fault a b c h steps = absurd (b entries refl)
+no_rest (endings.Levels entries) text fault a b c h steps = absurd (c entries refl)

@@ -9,7 +9,7 @@ use Rattle.text_fields.proofs.HeadTexts.{plain}
 use Rattle.book_text.specs.BookRules.{book_rules}
 use Rattle.book_text.proofs.SharpBooks.{book_sharp}
 use Rattle.refutation_text.specs.Grammar.{refutation_words}
-use Rattle.refutation_text.specs.RefutationRules.{BodyDue, InSteps, EndDue, InEntries, InPairs, BodyRead, after_line, body_wanted, BodyPasses, BodyFails, RefutationDue, InBook, StepsDue, InBody, after_book, RefutationPasses, RefutationFails, refutation_wanted, refutation_rules}
+use Rattle.refutation_text.specs.RefutationRules.{BodyDue, InSteps, EndDue, InEntries, InPairs, InLevels, BodyRead, after_line, body_wanted, BodyPasses, BodyFails, RefutationDue, InBook, StepsDue, InBody, after_book, RefutationPasses, RefutationFails, refutation_wanted, refutation_rules}
 use Rattle.refutation_text.proofs.Lines.{one_line, line_solid}
 
 same_some : (a b : BodyDue) → ◌≡◌ {A = Option BodyDue} (Some a) (Some b) → a ≡ b
@@ -30,6 +30,7 @@ body_lines (InSteps steps) after words h = refl
 body_lines (EndDue steps ending) after words h = refl
 body_lines (InEntries steps entries) after words h = refl
 body_lines (InPairs steps entries) after words h = refl
+body_lines (InLevels steps entries) after words h = refl
 body_lines (BodyRead steps ending) after words h = absurd (cc (h.2))
 
 book : AreSharp (book_rules Second)

@@ -3,6 +3,7 @@ use Rattle.std.proofs.Common.{◌≡◌, ℕ, zero, suc, ◌≤◌, ◌∙◌, m
 use Rattle.std.specs.List.{range_with_len}
 use Rattle.std.proofs.lemmas.List.{length-map}
 use Rattle.std.proofs.lemmas.List.FromFn.{length-range_with_len, length-map-range_with_len}
+use Rattle.book_base.specs.declared.call.Call.{Call}
 use Rattle.book_base.specs.Cut.{IsWithin}
 use Rattle.book_base.specs.Book.{Page, calls_of, answers_of, answered, IsValid}
 use Rattle.book_base.specs.Order.{HasLegalOrder}
@@ -12,21 +13,23 @@ use Rattle.legal_orders.proofs.BookAtLaws.{is_the_only_one}
 use Rattle.seq_objects.specs.declared.kind.Kind.{Kind}
 use Rattle.seq_objects.specs.declared.kind.Kind.TheVariants as kinds
 use Rattle.seq_objects.specs.Objects.{kind_next, kind_spec}
-use Rattle.smaller_book.specs.Part.{numbers_of, count_below, IsPart}
-use Rattle.smaller_book.specs.Numbers.{picked}
+use Rattle.smaller_book.specs.Part.{numbers_of, count_below, original, IsPart}
+use Rattle.smaller_book.specs.Numbers.{picked, AreNumbersOf}
 use Rattle.smaller_book.specs.Keys.{KeysMayGo}
 use Rattle.smaller_book.specs.Earliest.{all_numbers}
 use Rattle.smaller_book.specs.ReadOnly.{IsReadOnly}
-use Rattle.smaller_book.specs.Unseen.{LacksUnseenAlone}
+use Rattle.smaller_book.specs.OneKey.{LacksUnseen}
 use Rattle.smaller_book.specs.Evidence.{IsEvidence}
 use Rattle.smaller_book.proofs.LeastCuts.{numbers_of-all}
 use Rattle.smaller_book.proofs.Removing.{all_but_are_numbers, lacks_one}
+use Rattle.smaller_book.proofs.PassingRows.{passing_are_numbers}
 use Rattle.smaller_book.proofs.KeyRows.{all_without_are_numbers}
 use Rattle.smaller_book.proofs.PartsOfParts.{numbers_of-composed}
+use Rattle.smaller_book.proofs.Settings.{words_tell}
 use Rattle.smaller_book.proofs.Steps.{cut_evidence, keys_evidence, unseen_evidence, evidence_part}
 use Rattle.smaller_book.proofs.Evidence.{evidence_tells}
-use Rattle.refutation_text.specs.Said.{StepSaid, At, Keys, Leave}
-use Rattle.refutation_text.specs.Steps.{AreNamesOf, keys_gone, IsCutOf, IsStep, Leaves, LeaveAfter}
+use Rattle.refutation_text.specs.Said.{StepSaid, At, Keys, Leave, Keep}
+use Rattle.refutation_text.specs.Steps.{AreNamesOf, is_listed, all_listed, keys_gone, IsCutOf, HasPlaces, IsStep, Leaves, LeaveAfter}
 use Rattle.refutation_text.specs.Laws.{StepsLeaveALegalOrder}
 
 min-right : (m n : ℕ) → min m n ≤ n
@@ -53,6 +56,25 @@ keys_may_go kinds.Register book one = tt
 keys_may_go kinds.Counter book one = tt
 keys_may_go kinds.CasRegister book one = tt
 
+-- the places of listed calls are rising numbers of calls of the part, a list for each caller
+pub all_listed_are_numbers : (names : List (List ℕ)) (calls : List Call) (part : List Page)
+    → AreNumbersOf part (all_listed names calls part)
+all_listed_are_numbers names calls part = passing_are_numbers
+    (λ (i number : ℕ). is_listed calls (original names (record { caller = i; number = number })))
+    part
+
+-- a part that lacks only read-only and unseen calls of a part is evidence of it
+lacking_evidence : (kind : Kind) (part : List Page) (places : List (List ℕ)) (left : List Page)
+    → IsValid part → IsValid left → length places ≡ length part → HasPlaces part places left
+    → LacksUnseen kind part places → IsEvidence kind part places left
+lacking_evidence kind part places left valid still wide has lacks =
+    unseen_evidence kind part places left valid still (record {
+      wide = wide;
+      is_part = has.is_part;
+      answers = has.answers;
+      unseen = lacks;
+    })
+
 -- the part that a step leaves is evidence of the part before
 pub step_evidence : (kind : Kind) (names : List (List ℕ)) (part : List Page) (step : StepSaid)
     (places : List (List ℕ)) (left : List Page) → IsValid part → IsValid left
@@ -74,14 +96,16 @@ step_evidence kind names part (Keys these keys) places left valid still (one, na
     })
 step_evidence kind names part (Leave called) places left valid still
     (call, is, leaves, named, has) =
-    unseen_evidence kind part places left valid still (record {
-      wide = ap length named ∙ (all_but_are_numbers part call is.inside).wide;
-      is_part = has.is_part;
-      answers = has.answers;
-      unseen = subst (LacksUnseenAlone (kind_next kind) part) (sym named)
-          (λ other there unnamed. inl (lacks_one (IsReadOnly (kind_next kind) part) part call
-          is.inside leaves other there unnamed));
-    })
+    lacking_evidence kind part places left valid still
+    (ap length named ∙ (all_but_are_numbers part call is.inside).wide) has
+    (subst (LacksUnseen kind part) (sym named)
+    (λ other there unnamed. inl (lacks_one (IsReadOnly (kind_next kind) part) part call
+    is.inside leaves other there unnamed)))
+step_evidence kind names part (Keep calls) places left valid still (there, lacks, named, has) =
+    lacking_evidence kind part places left valid still
+    (ap length named ∙ (all_listed_are_numbers names calls part).wide) has
+    (subst (LacksUnseen kind part) (sym named)
+    (words_tell kind part (all_listed names calls part) lacks))
 
 -- the places of a step are a list for each caller
 pub places_wide : (kind : Kind) (names : List (List ℕ)) (part : List Page) (step : StepSaid)
@@ -96,6 +120,8 @@ places_wide kind names part (Keys these keys) places left (one, named, has) =
     ∙ sym has.is_part.callers)
 places_wide kind names part (Leave called) places left (call, is, leaves, named, has) =
     ap length named ∙ ((all_but_are_numbers part call is.inside).wide ∙ sym has.is_part.callers)
+places_wide kind names part (Keep calls) places left (there, lacks, named, has) =
+    ap length named ∙ ((all_listed_are_numbers names calls part).wide ∙ sym has.is_part.callers)
 
 -- numbers go with the part that a step leaves
 pub leaves_names : (kind : Kind) (names : List (List ℕ)) (part : List Page) (step : StepSaid)

@@ -1,10 +1,13 @@
 -- The words of the lines after a refutation's title.
 use Rattle.std.specs.Prelude.{◌≡◌, ℕ, ◌-◌, ◌<◌, ◌⊎◌, ◌^◌, true, false, List, [], ◌∷◌, length, map, decimal, codes, slice_index}
+use Rattle.std.specs.List.{AllByRecursion, flat_map}
 use Rattle.book_base.specs.declared.call.Call.{Call}
 use Rattle.refutations.specs.declared.entry.Entry.{Entry}
 use Rattle.pair_refutations.specs.declared.entry.Move.{Move}
 use Rattle.pair_refutations.specs.declared.entry.Move.TheVariants.{Finds, Callers}
 use Rattle.pair_refutations.specs.declared.entry.PairEntry.{PairEntry}
+use Rattle.level_refutations.specs.Said as table
+use Rattle.level_refutations.specs.Said.{EntrySaid}
 use Rattle.text_fields.specs.declared.version.Version.TheVariants.{Second}
 use Rattle.text_fields.specs.Counts.{AreNumbers, pair_words}
 use Rattle.text_fields.specs.Head.{title_words}
@@ -12,7 +15,7 @@ use Rattle.book_text.specs.CallLines.{place_words}
 use Rattle.book_text.specs.Grammar.{end_words}
 use Rattle.certificate_text.specs.Grammar.{IsNamed}
 use Rattle.refutation_text.specs.declared.TheConstants.{STEP_CALLERS}
-use Rattle.refutation_text.specs.Said.{At, Keys, Leave, LineSaid, StepLine, ImpossibleLine, TakesLine, FindLine, PlainLine, PairsLine, ItemLine, MoveLine, EndLine}
+use Rattle.refutation_text.specs.Said.{At, Keys, Leave, LineSaid, StepLine, ImpossibleLine, TakesLine, FindLine, PlainLine, PairsLine, LevelsLine, ItemLine, MoveLine, TableLine, EndLine, Keep}
 
 -- the title of a refutation, which is the line after the book's lines
 abbrev pub refutation_words : List (List ℕ)
@@ -44,6 +47,22 @@ IsPairEntry entry = (entry.item < 2 ^ 64) × IsMove entry.by
 abbrev pub pair_entry_words : PairEntry → List (List ℕ)
 pair_entry_words entry = decimal entry.item ∷ move_words entry.by
 
+-- numbers that a line can say, of which there is at least one
+abbrev pub AreSome : List ℕ → Type 0
+AreSome numbers = (0 < length numbers) × AreNumbers numbers
+
+-- an entry of a table of levels, where a line can say it
+abbrev pub IsTableEntry : EntrySaid → Type 0
+IsTableEntry (table.Cut p i) = (p < 2 ^ 64) × (i < 2 ^ 64)
+IsTableEntry (table.Level v below) = (v < 2 ^ 32) × AreSome below
+IsTableEntry (table.At l cuts) = (l < 2 ^ 64) × AreSome cuts
+
+-- the words of an entry of a table of levels
+abbrev pub table_words : EntrySaid → List (List ℕ)
+table_words (table.Cut p i) = codes "cut" ∷ decimal p ∷ decimal i ∷ []
+table_words (table.Level v below) = codes "level" ∷ decimal v ∷ map decimal below
+table_words (table.At l cuts) = codes "at" ∷ decimal l ∷ map decimal cuts
+
 -- the value at a place is below 2^32, and above the one before
 abbrev pub IsValueAt : List ℕ → ℕ → Type 0
 IsValueAt values k = (slice_index values k < 2 ^ 32)
@@ -73,13 +92,16 @@ abbrev pub MaySay : LineSaid → Type 0
 MaySay (StepLine (At counts)) = AreCounts counts
 MaySay (StepLine (Keys these keys)) = AreNumbers keys
 MaySay (StepLine (Leave call)) = IsNamed call
+MaySay (StepLine (Keep calls)) = AllByRecursion IsNamed calls
 MaySay (ImpossibleLine call) = IsNamed call
 MaySay (TakesLine value moment) = (value < 2 ^ 32) × (moment < 2 ^ 64)
 MaySay (FindLine call values) = IsAnyCall call × AreValues values
 MaySay PlainLine = Unit {0}
 MaySay PairsLine = Unit {0}
+MaySay LevelsLine = Unit {0}
 MaySay (ItemLine entry) = IsEntry entry
 MaySay (MoveLine entry) = IsPairEntry entry
+MaySay (TableLine entry) = IsTableEntry entry
 MaySay EndLine = Unit {0}
 
 -- the words of a line
@@ -88,13 +110,16 @@ line_words (StepLine (At counts)) = codes "at" ∷ pair_words 0 counts
 line_words (StepLine (Keys true keys)) = codes "without" ∷ map decimal keys
 line_words (StepLine (Keys false keys)) = codes "only" ∷ map decimal keys
 line_words (StepLine (Leave call)) = codes "leave" ∷ place_words call
+line_words (StepLine (Keep calls)) = codes "keep" ∷ flat_map place_words calls
 line_words (ImpossibleLine call) = codes "impossible" ∷ place_words call
 line_words (TakesLine value moment) = takes_words value moment
 line_words (FindLine call values) = find_words call values
 line_words PlainLine = codes "closed" ∷ codes "plain" ∷ []
 line_words PairsLine = codes "closed" ∷ codes "pairs" ∷ []
+line_words LevelsLine = codes "closed" ∷ codes "levels" ∷ []
 line_words (ItemLine entry) = decimal entry.item ∷ decimal entry.caller ∷ []
 line_words (MoveLine entry) = pair_entry_words entry
+line_words (TableLine entry) = table_words entry
 line_words EndLine = end_words
 
 -- the words are the line that says this

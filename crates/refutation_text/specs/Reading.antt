@@ -6,11 +6,12 @@ use Rattle.book_base.specs.Book.{Page}
 use Rattle.seq_objects.specs.declared.kind.Kind.{Kind}
 use Rattle.refutations.specs.declared.entry.Entry.{Entry}
 use Rattle.pair_refutations.specs.declared.entry.PairEntry.{PairEntry}
+use Rattle.level_refutations.specs.Said.{EntrySaid}
 use Rattle.text_fields.specs.Lines.{Unread}
 use Rattle.text_fields.specs.Faults.{GoesTo, IsFirstFault, StopsFor}
-use Rattle.refutation_text.specs.Said.{StepSaid, EndingSaid, Impossible, Takes, Find, Closed, Pairs, LineSaid, ImpossibleLine, TakesLine, FindLine, PlainLine, PairsLine}
+use Rattle.refutation_text.specs.Said.{StepSaid, EndingSaid, Impossible, Takes, Find, Closed, Pairs, Levels, LineSaid, ImpossibleLine, TakesLine, FindLine, PlainLine, PairsLine, LevelsLine}
 use Rattle.refutation_text.specs.Grammar.{IsLine}
-use Rattle.refutation_text.specs.RefutationRules.{BodyDue, InSteps, EndDue, InEntries, InPairs, BodyRead, body_rules, StepsDue, InBody, refutation_rules}
+use Rattle.refutation_text.specs.RefutationRules.{BodyDue, InSteps, EndDue, InEntries, InPairs, InLevels, BodyRead, body_rules, StepsDue, InBody, refutation_rules}
 
 -- the text begins with the title of a refutation
 abbrev pub IsTitle : Unread → Unread → Type 0
@@ -29,11 +30,13 @@ opening_line (Takes value moment) = TakesLine value moment
 opening_line (Find call values) = FindLine call values
 opening_line (Closed entries) = PlainLine
 opening_line (Pairs entries) = PairsLine
+opening_line (Levels entries) = LevelsLine
 
 -- an ending that a line begins has no entries as yet
 abbrev pub HasNoEntries : EndingSaid → Type 0
 HasNoEntries (Closed entries) = entries ≡ []
 HasNoEntries (Pairs entries) = entries ≡ []
+HasNoEntries (Levels entries) = entries ≡ []
 HasNoEntries ending = Unit {0}
 
 -- a line of these words begins this ending
@@ -44,6 +47,7 @@ Opens words ending = HasNoEntries ending × IsLine words (opening_line ending)
 abbrev pub ending_due : List StepSaid → EndingSaid → BodyDue
 ending_due steps (Closed entries) = InEntries steps entries
 ending_due steps (Pairs entries) = InPairs steps entries
+ending_due steps (Levels entries) = InLevels steps entries
 ending_due steps ending = EndDue steps ending
 
 -- the text begins with the lines of these steps and the line that begins the ending
@@ -70,6 +74,16 @@ ArePairs first text entries left = (steps : List StepSaid)
 abbrev pub AreNoPairs : List PairEntry → Unread → ReadFault → Type 0
 AreNoPairs first text fault = (steps : List StepSaid)
     → StopsFor body_rules (InPairs steps first) text fault
+
+-- the text begins with the lines of the other ones of these entries of a table of levels, and the end
+abbrev pub AreLevels : List EntrySaid → Unread → List EntrySaid → Unread → Type 0
+AreLevels first text entries left = (steps : List StepSaid)
+    → GoesTo body_rules (InLevels steps first) text (BodyRead steps (Levels entries)) left
+
+-- a reader of the lines of entries of a table of levels, after the first ones, stops for this reason
+abbrev pub AreNoLevels : List EntrySaid → Unread → ReadFault → Type 0
+AreNoLevels first text fault = (steps : List StepSaid)
+    → StopsFor body_rules (InLevels steps first) text fault
 
 -- the text begins with the end of a refutation whose ending has no entries
 abbrev pub IsEnd : Unread → Unread → Type 0

@@ -8,12 +8,13 @@ use Rattle.book_base.specs.Book.{Page}
 use Rattle.seq_objects.specs.declared.kind.Kind.{Kind}
 use Rattle.refutations.specs.declared.entry.Entry.{Entry}
 use Rattle.pair_refutations.specs.declared.entry.PairEntry.{PairEntry}
+use Rattle.level_refutations.specs.Said.{EntrySaid}
 use Rattle.text_fields.specs.declared.version.Version.TheVariants.{Second}
 use Rattle.text_fields.specs.Lines.{Unread}
 use Rattle.text_fields.specs.Faults.{Wanted, ALine, TheEnd, Rules, IsFirstFault, IsReadTo}
 use Rattle.text_fields.specs.Head.{TitleDue}
 use Rattle.book_text.specs.BookRules.{BookDue, InHead, InCalls, AtEnd, BookPasses, BookFails, whole_text}
-use Rattle.refutation_text.specs.Said.{StepSaid, EndingSaid, Impossible, Takes, Find, Closed, Pairs, LineSaid, StepLine, ImpossibleLine, TakesLine, FindLine, PlainLine, PairsLine, ItemLine, MoveLine, EndLine}
+use Rattle.refutation_text.specs.Said.{StepSaid, EndingSaid, Impossible, Takes, Find, Closed, Pairs, Levels, LineSaid, StepLine, ImpossibleLine, TakesLine, FindLine, PlainLine, PairsLine, LevelsLine, ItemLine, MoveLine, TableLine, EndLine}
 use Rattle.refutation_text.specs.Grammar.{refutation_words, IsLine}
 
 -- ---- the lines after the title
@@ -24,6 +25,7 @@ pub data BodyDue : Type 0 where
   EndDue : List StepSaid → EndingSaid → BodyDue
   InEntries : List StepSaid → List Entry → BodyDue
   InPairs : List StepSaid → List PairEntry → BodyDue
+  InLevels : List StepSaid → List EntrySaid → BodyDue
   BodyRead : List StepSaid → EndingSaid → BodyDue
 
 -- the state after a line that says this, where the line is right
@@ -34,6 +36,7 @@ after_line (InSteps steps) (TakesLine value moment) = Some (EndDue steps (Takes 
 after_line (InSteps steps) (FindLine call values) = Some (EndDue steps (Find call values))
 after_line (InSteps steps) PlainLine = Some (InEntries steps [])
 after_line (InSteps steps) PairsLine = Some (InPairs steps [])
+after_line (InSteps steps) LevelsLine = Some (InLevels steps [])
 after_line (EndDue steps ending) EndLine = Some (BodyRead steps ending)
 after_line (InEntries steps entries) (ItemLine entry) =
     Some (InEntries steps (entries ++ entry ∷ []))
@@ -41,6 +44,9 @@ after_line (InEntries steps entries) EndLine = Some (BodyRead steps (Closed entr
 after_line (InPairs steps entries) (MoveLine entry) =
     Some (InPairs steps (entries ++ entry ∷ []))
 after_line (InPairs steps entries) EndLine = Some (BodyRead steps (Pairs entries))
+after_line (InLevels steps entries) (TableLine entry) =
+    Some (InLevels steps (entries ++ entry ∷ []))
+after_line (InLevels steps entries) EndLine = Some (BodyRead steps (Levels entries))
 after_line due line = None
 
 -- the test that a line fails in a state where it isn't right
@@ -49,6 +55,7 @@ body_test (InSteps steps) = what.Op
 body_test (EndDue steps ending) = what.End
 body_test (InEntries steps entries) = what.Place
 body_test (InPairs steps entries) = what.Place
+body_test (InLevels steps entries) = what.Place
 body_test (BodyRead steps ending) = what.Rest
 
 -- what is due next in each state
@@ -57,6 +64,7 @@ body_wanted (InSteps steps) = ALine
 body_wanted (EndDue steps ending) = ALine
 body_wanted (InEntries steps entries) = ALine
 body_wanted (InPairs steps entries) = ALine
+body_wanted (InLevels steps entries) = ALine
 body_wanted (BodyRead steps ending) = TheEnd
 
 -- a line of these words is right in a state, and leads to another one

@@ -1,8 +1,8 @@
 -- What part of a book each step of a refutation leaves, and when a step can't be made.
-use Rattle.std.specs.Prelude.{◌≡◌, ℕ, zero, suc, ◌<◌, ◌≤◌, min, Bool, true, false, not, ◌==◌, List, length, Some, slice_get, slice_index}
-use Rattle.std.specs.List.{list_any}
+use Rattle.std.specs.Prelude.{◌≡◌, ℕ, zero, suc, ◌<◌, ◌≤◌, min, Bool, true, false, not, ◌&&◌, ◌==◌, List, length, map, filter, Some, slice_get, slice_index}
+use Rattle.std.specs.List.{list_any, range_with_len}
 use Rattle.book_base.specs.declared.call.Call.{Call}
-use Rattle.book_base.specs.Book.{Page, IsCall, IsValid, answers_of}
+use Rattle.book_base.specs.Book.{Page, IsCall, IsValid, calls_of, answers_of}
 use Rattle.book_base.specs.BookAt.{IsBookAt}
 use Rattle.book_base.specs.Pruning.{HasOneOpen}
 use Rattle.seq_objects.specs.declared.kind.Kind.{Kind}
@@ -13,9 +13,10 @@ use Rattle.smaller_book.specs.Keys.{all_without}
 use Rattle.smaller_book.specs.Earliest.{all_numbers}
 use Rattle.smaller_book.specs.Minimal.{all_but}
 use Rattle.smaller_book.specs.ReadOnly.{IsReadOnly}
+use Rattle.smaller_book.specs.Settings.{LacksOnlyUnseen}
 use Rattle.refutation_text.specs.declared.part_steps.StepFault.{StepFault}
 use Rattle.refutation_text.specs.declared.part_steps.StepFault.TheVariants.{Lacks, Open, Changes}
-use Rattle.refutation_text.specs.Said.{StepSaid, At, Keys, Leave}
+use Rattle.refutation_text.specs.Said.{StepSaid, At, Keys, Leave, Keep}
 
 -- Numbers of calls of a whole book go with a part of it: a list for each caller of the part, with a
 -- number for each of the caller's calls.
@@ -29,6 +30,26 @@ pub record AreNamesOf (names : List (List ℕ)) (part : List Page) : Type 0 wher
 pub record IsCalled (names : List (List ℕ)) (part : List Page) (named call : Call) : Type 0 where
   pub inside : IsCall part call
   pub is : original names call ≡ named
+
+-- Each of these calls of the book is in the part.
+abbrev pub AreCalled : List (List ℕ) → List Page → List Call → Type 0
+AreCalled names part calls = (k : ℕ) (named : Call) → slice_get calls k ≡ Some named
+    → (call : Call) × IsCalled names part named call
+
+-- whether a call is one of these
+abbrev pub is_listed : List Call → Call → Bool
+is_listed calls call =
+    list_any (λ other. other.caller == call.caller && other.number == call.number) calls
+
+-- the numbers in a part of those calls of a caller that are, in the book, among these
+abbrev pub row_listed : List (List ℕ) → List Call → List Page → ℕ → List ℕ
+row_listed names calls part i =
+    filter (λ number. is_listed calls (original names (record { caller = i; number = number })))
+    (range_with_len 0 (calls_of part i))
+
+-- for each caller of a part the numbers in it of those calls that are, in the book, among these
+abbrev pub all_listed : List (List ℕ) → List Call → List Page → List (List ℕ)
+all_listed names calls part = map (row_listed names calls part) (range_with_len 0 (length part))
 
 -- the keys whose calls go: those of a list, or all others
 abbrev pub keys_gone : Bool → List ℕ → ℕ → Bool
@@ -61,6 +82,9 @@ IsStep kind names part (Keys these keys) places left = HasOneOpen part
 IsStep kind names part (Leave named) places left = (call : Call)
     × IsCalled names part named call × IsReadOnly (kind_next kind) part call
     × (places ≡ all_but part call) × HasPlaces part places left
+IsStep kind names part (Keep calls) places left = AreCalled names part calls
+    × LacksOnlyUnseen kind part (all_listed names calls part)
+    × (places ≡ all_listed names calls part) × HasPlaces part places left
 
 -- a step leaves a valid part, with the numbers that its calls have in the book
 abbrev pub Leaves : Kind → List (List ℕ) → List Page → StepSaid → List (List ℕ) → List Page → Type 0
@@ -75,6 +99,9 @@ StepFails kind names part (Leave named) Lacks =
     (call : Call) → IsCalled names part named call → ⊥
 StepFails kind names part (Leave named) Changes = (call : Call)
     × IsCalled names part named call × (IsReadOnly (kind_next kind) part call → ⊥)
+StepFails kind names part (Keep calls) Lacks = AreCalled names part calls → ⊥
+StepFails kind names part (Keep calls) Changes = AreCalled names part calls
+    × (LacksOnlyUnseen kind part (all_listed names calls part) → ⊥)
 StepFails kind names part step why = ⊥
 
 -- The first steps, as many as the count says, leave a part of a book, one after another; these are

@@ -13,6 +13,11 @@ use Rattle.pair_refutations.specs.declared.fault.PairFault.{PairFault}
 use Rattle.pair_refutations.specs.declared.fault.PairFault.TheVariants as pairs
 use Rattle.pair_refutations.specs.Fault.{Refute, HasTable}
 use Rattle.pair_refutations.specs.Fault as pair_tests
+use Rattle.level_refutations.specs.declared.entry.LevelEntry.{LevelEntry}
+use Rattle.level_refutations.specs.declared.fault.LevelFault.{LevelFault}
+use Rattle.level_refutations.specs.Said.{EntrySaid, entries_said}
+use Rattle.level_refutations.specs.Closed as tables
+use Rattle.level_refutations.specs.Fault as level_tests
 use Rattle.seq_objects.specs.declared.kind.Kind.TheVariants as kinds
 use Rattle.smaller_book.specs.Part.{original}
 use Rattle.refutations.specs.Counts.{TakesExceedPuts, FindMissesPuts}
@@ -24,7 +29,7 @@ use Rattle.refutation_text.specs.declared.part_steps.StepFault.{StepFault}
 use Rattle.refutation_text.specs.declared.part_steps.StepFault.TheVariants as reasons
 use Rattle.refutation_text.specs.declared.verdict.RefutationVerdict.{RefutationVerdict}
 use Rattle.refutation_text.specs.declared.verdict.RefutationVerdict.TheVariants.{Illegal, Faulty}
-use Rattle.refutation_text.specs.Said.{StepSaid, EndingSaid, Impossible, Takes, Find, Closed, Pairs}
+use Rattle.refutation_text.specs.Said.{StepSaid, EndingSaid, Impossible, Takes, Find, Closed, Pairs, Levels}
 use Rattle.refutation_text.specs.RefutationRules.{IsRefutationText}
 use Rattle.refutation_text.specs.Steps.{IsCalled, LeaveAfter, IsFirstStepFault}
 
@@ -40,6 +45,8 @@ IsShown kind names part (Find named values) = (holds_values kind ≡ true)
 IsShown kind names part (Closed entries) = MakeClosed (kind_spec kind) part entries
 IsShown kind names part (Pairs entries) = (kind ≡ kinds.Queue) × HasTable part
     × Refute part entries
+IsShown kind names part (Levels said) = (kind ≡ kinds.Stack) × (entries : List LevelEntry)
+    × (entries_said entries ≡ said) × tables.MakeClosed part entries
 
 -- the fault of a refutation with the number `s` of its ending, whose entries fail a test of
 -- standings: a call has the number that it has in the book
@@ -57,6 +64,14 @@ PairsFail kind names part s entries fault =
     ((kind ≢ kinds.Queue) × (fault ≡ faults.Kind))
     ⊎ ((kind ≡ kinds.Queue) × (why : PairFault) × pair_tests.IsFirstFault part entries why
     × (fault ≡ pairs_fault names s why))
+
+-- Entries of a table of levels don't refute a part, for this fault: the object is no stack, or a test
+-- fails.
+abbrev pub LevelsFail : Kind → List Page → List EntrySaid → RefutationFault → Type 0
+LevelsFail kind part said fault = ((kind ≢ kinds.Stack) × (fault ≡ faults.Kind))
+    ⊎ ((kind ≡ kinds.Stack) × (entries : List LevelEntry) × (entries_said entries ≡ said)
+    × (why : LevelFault) × level_tests.IsFirstFault part entries why
+    × (fault ≡ faults.Levels why))
 
 -- What an ending with the number `s` says of a part isn't so, for this fault.
 abbrev pub EndingFails : Kind → List (List ℕ) → List Page → ℕ → EndingSaid
@@ -77,6 +92,7 @@ EndingFails kind names part s (Find named values) faults.Possible = (holds_value
 EndingFails kind names part s (Closed entries) (faults.Closed fault) =
     IsFirstFault (kind_spec kind) part entries fault
 EndingFails kind names part s (Pairs entries) fault = PairsFail kind names part s entries fault
+EndingFails kind names part s (Levels said) fault = LevelsFail kind part said fault
 EndingFails kind names part s ending fault = ⊥
 
 -- A refutation is right: all its steps can be made, and what the ending says of the part that they

@@ -1,14 +1,17 @@
 //! The lines after a book: the title of the refutation, its steps, its ending, and the end.
 
 ghost use Rattle.std.specs.Prelude.{◌≡◌, [], IfOk, IfErr};
+ghost use Rattle.level_refutations.specs.Said.{entries_said};
 ghost use Rattle.refutation_text.specs.Said.{steps_said, ending_said};
-ghost use Rattle.refutation_text.specs.Reading.{IsTitle, IsNoTitle, AreSteps, AreEntries, AreNoEntries, ArePairs, AreNoPairs, IsEnd, IsNoEnd, IsRestOf, IsNoRestOf, IsBody, IsNoBody, IsRest};
+ghost use Rattle.refutation_text.specs.Reading.{IsTitle, IsNoTitle, AreSteps, AreEntries, AreNoEntries, ArePairs, AreNoPairs, AreLevels, AreNoLevels, IsEnd, IsNoEnd, IsRestOf, IsNoRestOf, IsBody, IsNoBody, IsRest};
 
 use crate::fields::{entry_of, pair_entry_of};
+use crate::level_lines::level_entry_of;
 use crate::line::{opening_of, step_of};
 use crate::refutation::{Ending, Step};
 use book_base::{ReadFault, TextFault, What};
 use certificate_text::is_end;
+use level_refutations::LevelEntry;
 use pair_refutations::PairEntry;
 use refutations::Entry;
 use std::alloc::Global;
@@ -38,12 +41,12 @@ pub(crate) fn read_body(alloc: Global, lines: &mut Lines) -> Result<(Vec<Step>, 
     ensures refused { IfErr result (IsNoBody lines.old) }
 {
     let (steps, begun) = read_steps(alloc, lines)?;
-    let ending = read_ending(lines, begun)?;
+    let ending = read_ending(alloc, lines, begun)?;
     Ok((steps, ending))
 }
 
 /// The ending that the lines give after the one that begins it.
-fn read_ending(lines: &mut Lines, begun: Ending) -> Result<Ending, ReadFault>
+fn read_ending(alloc: Global, lines: &mut Lines, begun: Ending) -> Result<Ending, ReadFault>
     ensures found { IfOk result (λ ending.
         IsRestOf (ending_said begun) lines.old (ending_said ending) lines.new) }
     ensures refused { IfErr result (IsNoRestOf (ending_said begun) lines.old) }
@@ -51,6 +54,7 @@ fn read_ending(lines: &mut Lines, begun: Ending) -> Result<Ending, ReadFault>
     match begun {
         Ending::Closed(entries) => Ok(Ending::Closed(read_entries(lines, entries)?)),
         Ending::Pairs(entries) => Ok(Ending::Pairs(read_pairs(lines, entries)?)),
+        Ending::Levels(entries) => Ok(Ending::Levels(read_levels(alloc, lines, entries)?)),
         whole => {
             read_end(lines)?;
             Ok(whole)
@@ -122,6 +126,35 @@ fn read_pairs(lines: &mut Lines, first: Vec<PairEntry>) -> Result<Vec<PairEntry>
         let line = lines.number();
         let words = Words::new(lines.line()?);
         match pair_entry_of(&mut words.copy()) {
+            Some(entry) => entries.push(entry)?,
+            None => {
+                if is_end(&mut words.copy()) {
+                    return Ok(entries);
+                }
+                return Err(ReadFault::Text(TextFault {
+                    line,
+                    what: What::Place,
+                }));
+            }
+        }
+    }
+}
+
+/// Some entries of a table of levels, and those that the lines give, up to the end.
+fn read_levels(
+    alloc: Global,
+    lines: &mut Lines,
+    first: Vec<LevelEntry>,
+) -> Result<Vec<LevelEntry>, ReadFault>
+    ensures found { IfOk result (λ entries. AreLevels (entries_said first.items) lines.old
+        (entries_said entries.items) lines.new) }
+    ensures refused { IfErr result (AreNoLevels (entries_said first.items) lines.old) }
+{
+    let mut entries = first;
+    loop {
+        let line = lines.number();
+        let words = Words::new(lines.line()?);
+        match level_entry_of(alloc, &words)? {
             Some(entry) => entries.push(entry)?,
             None => {
                 if is_end(&mut words.copy()) {

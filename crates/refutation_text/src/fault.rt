@@ -1,3 +1,4 @@
+use level_refutations::LevelFault;
 use pair_refutations::PairFault;
 use refutations::ClosedFault;
 use thiserror::Error;
@@ -17,7 +18,7 @@ pub enum RefutationFault {
     /// This step is of keys, or the ending lists standings, and some view holds two unanswered calls of one caller.
     #[error("some view holds two unanswered calls of one caller at step {0}")]
     Open(u64),
-    /// The call of this step `leave` isn't read-only.
+    /// A call that goes by this step isn't read-only, and calls that stay may tell what it sets.
     #[error("the call of step {0} isn't read-only")]
     Changes(u64),
     /// What an ending without entries says isn't so: some state gives the call's operation its
@@ -30,4 +31,7 @@ pub enum RefutationFault {
     /// The entries make no closed list of standings. A call has the number that it has in the book.
     #[error(transparent)]
     Pairs(PairFault),
+    /// The entries make no closed table of levels.
+    #[error(transparent)]
+    Levels(LevelFault),
 }

@@ -1,6 +1,7 @@
 //! The words of a line after the title of a refutation, read as one form of line.
 
 ghost use Rattle.std.specs.Prelude.{◌≡◌, ◌≢◌, ◌↔◌, ℕ, ◌<◌, ◌^◌, ◌∷◌, ◌++◌, [], List, length, map, decimal, codes, IfOk, IfSome, IfNone, IsTrue};
+ghost use Rattle.std.specs.List.{AllByRecursion, flat_map};
 ghost use Rattle.book_base.specs.declared.call.Call.{Call};
 ghost use Rattle.refutations.specs.declared.entry.Entry.{Entry};
 ghost use Rattle.pair_refutations.specs.declared.entry.Move.{Move};
@@ -52,7 +53,7 @@ pub(crate) fn keys_of(
 }
 
 /// All words as numbers.
-fn numbers_of(alloc: Global, words: &mut Words) -> Result<Option<Vec<u64>>, NoMemory>
+pub(crate) fn numbers_of(alloc: Global, words: &mut Words) -> Result<Option<Vec<u64>>, NoMemory>
     ensures found { IfOk result (λ found. IfSome found (λ keys.
         AreNumbers keys.items × (words.old ≡ map decimal keys.items))) }
     ensures none { IfOk result (λ found. IfNone found ((keys : List ℕ) → AreNumbers keys
@@ -82,6 +83,43 @@ pub(crate) fn call_of(words: &mut Words, first: &[u8]) -> Option<Call>
     match words.next() {
         None => Some(call),
         Some(_) => None,
+    }
+}
+
+/// A first word, and callers and numbers, whether or not a book has such calls.
+pub(crate) fn calls_of(
+    alloc: Global,
+    words: &mut Words,
+    first: &[u8],
+) -> Result<Option<Vec<Call>>, NoMemory>
+    ensures found { IfOk result (λ found. IfSome found (λ calls.
+        AllByRecursion IsNamed calls.items
+        × (words.old ≡ first.now ∷ flat_map place_words calls.items))) }
+    ensures none { IfOk result (λ found. IfNone found ((calls : List Call)
+        → AllByRecursion IsNamed calls → words.old ≢ first.now ∷ flat_map place_words calls)) }
+{
+    match take_word(words, first) {
+        Some(()) => all_calls_of(alloc, words),
+        None => Ok(None),
+    }
+}
+
+/// All words as callers and numbers.
+fn all_calls_of(alloc: Global, words: &mut Words) -> Result<Option<Vec<Call>>, NoMemory>
+    ensures found { IfOk result (λ found. IfSome found (λ calls.
+        AllByRecursion IsNamed calls.items × (words.old ≡ flat_map place_words calls.items))) }
+    ensures none { IfOk result (λ found. IfNone found ((calls : List Call)
+        → AllByRecursion IsNamed calls → words.old ≢ flat_map place_words calls)) }
+{
+    let mut calls = Vec::new(alloc);
+    loop {
+        if words.copy().next().is_none() {
+            return Ok(Some(calls));
+        }
+        match take_call(words) {
+            Some(call) => calls.push(call)?,
+            None => return Ok(None),
+        }
     }
 }
 
@@ -217,7 +255,7 @@ fn is_find(words: &mut Words) -> bool
 }
 
 /// Two numbers.
-fn callers_of(words: &mut Words) -> Option<(u64, u64)>
+pub(crate) fn callers_of(words: &mut Words) -> Option<(u64, u64)>
     ensures found { IfSome result (λ (i, j). (i < 2 ^ 64) × (j < 2 ^ 64)
         × (words.old ≡ decimal i ∷ decimal j ∷ [])) }
     ensures none { IfNone result ((i j : ℕ) → i < 2 ^ 64 → j < 2 ^ 64

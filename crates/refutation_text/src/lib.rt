@@ -6,6 +6,7 @@ mod body;
 mod fault;
 mod fields;
 mod laws;
+mod level_lines;
 mod line;
 mod part_steps;
 mod reader;

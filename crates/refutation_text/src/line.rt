@@ -6,7 +6,7 @@ ghost use Rattle.refutation_text.specs.Said.{StepSaid, EndingSaid, StepLine, ste
 ghost use Rattle.refutation_text.specs.Grammar.{IsLine};
 ghost use Rattle.refutation_text.specs.Reading.{opening_line, Opens};
 
-use crate::fields::{call_of, counts_of, find_of, keys_of, takes_of};
+use crate::fields::{call_of, calls_of, counts_of, find_of, keys_of, takes_of};
 use crate::refutation::{Ending, Step};
 use book_base::NoMemory;
 use std::alloc::Global;
@@ -25,6 +25,9 @@ pub(crate) fn step_of(alloc: Global, line: &[u8]) -> Result<Option<Step>, NoMemo
     }
     if let Some(call) = call_of(&mut words.copy(), b"leave") {
         return Ok(Some(Step::Leave(call)));
+    }
+    if let Some(calls) = calls_of(alloc, &mut words.copy(), b"keep")? {
+        return Ok(Some(Step::Keep(calls)));
     }
     if let Some(keys) = keys_of(alloc, &mut words.copy(), b"without")? {
         return Ok(Some(Step::Without(keys)));
@@ -49,6 +52,9 @@ pub(crate) fn opening_of(alloc: Global, line: &[u8]) -> Result<Option<Ending>, N
     }
     if are_words(&mut words.copy(), b"closed", b"pairs") {
         return Ok(Some(Ending::Pairs(Vec::new(alloc))));
+    }
+    if are_words(&mut words.copy(), b"closed", b"levels") {
+        return Ok(Some(Ending::Levels(Vec::new(alloc))));
     }
     if let Some(call) = call_of(&mut words.copy(), b"impossible") {
         return Ok(Some(Ending::Impossible(call)));

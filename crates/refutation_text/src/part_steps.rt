@@ -1,22 +1,22 @@
 //! The parts that the steps of a refutation leave, one after another.
 
-ghost use Rattle.std.specs.Prelude.{◌≡◌, ◌<◌, min, length, slice_index, IfOk, IfErr, IfSome, IfNone};
+ghost use Rattle.std.specs.Prelude.{◌≡◌, ◌↔◌, ◌<◌, min, length, slice_index, IfOk, IfErr, IfSome, IfNone, IsTrue};
 ghost use Rattle.book_base.specs.declared.call.Call.{Call};
 ghost use Rattle.book_base.specs.Book.{IsCall, IsValid, answers_of};
 ghost use Rattle.seq_objects.specs.declared.kind.Kind.{Kind};
 ghost use Rattle.smaller_book.specs.Part.{numbers_of, count_below};
 ghost use Rattle.smaller_book.specs.Numbers.{numbers_in, composed, AreNumbersOf};
 ghost use Rattle.smaller_book.specs.Keys.{is_among, row_without, all_without};
-ghost use Rattle.refutation_text.specs.Said.{At, Keys, Leave, step_said, steps_said};
-ghost use Rattle.refutation_text.specs.Steps.{AreNamesOf, IsCalled, keys_gone, IsCutOf, HasPlaces, Leaves, StepFails, LeaveAfter, IsFirstStepFault};
+ghost use Rattle.refutation_text.specs.Said.{At, Keys, Leave, Keep, step_said, steps_said};
+ghost use Rattle.refutation_text.specs.Steps.{AreNamesOf, IsCalled, AreCalled, is_listed, row_listed, all_listed, keys_gone, IsCutOf, HasPlaces, Leaves, StepFails, LeaveAfter, IsFirstStepFault};
 
 use crate::refutation::Step;
 use book_base::{Book, Call, Cut, NoMemory};
 use search_hints::has_one_open;
 use seq_objects::Kind;
 use smaller_book::{
-    Smaller, all_numbers_but, count_below, is_read_only, key_of, numbers_of_all, numbers_through,
-    part, push_if,
+    Smaller, all_numbers_but, count_below, first_seen, is_read_only, key_of, numbers_of_all,
+    numbers_through, part, push_if,
 };
 use std::alloc::Global;
 
@@ -27,7 +27,7 @@ pub enum StepFault {
     Lacks,
     /// It is of keys, and some view holds two unanswered calls of one caller.
     Open,
-    /// Its call isn't read-only.
+    /// A call that goes isn't read-only, and calls that stay may tell what it sets.
     Changes,
 }
 
@@ -81,6 +81,7 @@ fn after_step(
         Step::Without(keys) => without_keys(alloc, kind, left, true, keys),
         Step::Only(keys) => without_keys(alloc, kind, left, false, keys),
         Step::Leave(call) => without_call(alloc, kind, left, *call),
+        Step::Keep(calls) => with_calls(alloc, kind, left, calls),
     }
 }
 
@@ -242,6 +243,86 @@ fn without_call(
     }
     let places = all_numbers_but(alloc, &left.book, call)?;
     Ok(Ok(part_at(alloc, left, &places)?))
+}
+
+// The part with these calls alone, where each other one may go.
+fn with_calls(
+    alloc: Global,
+    kind: Kind,
+    left: &Smaller,
+    calls: &[Call],
+) -> Result<Result<Smaller, StepFault>, NoMemory>
+    requires { AreNamesOf (numbers_in left.now.numbers.items) left.now.book }
+    ensures left { IfOk result (λ answer. IfOk answer (λ next.
+        Leaves kind (numbers_in left.now.numbers.items) left.now.book (Keep calls.now)
+        (numbers_in next.numbers.items) next.book)) }
+    ensures fault { IfOk result (λ answer. IfErr answer
+        (StepFails kind (numbers_in left.now.numbers.items) left.now.book (Keep calls.now))) }
+{
+    if !has_calls(left, calls) {
+        return Ok(Err(StepFault::Lacks));
+    }
+    let places = places_of(alloc, left, calls)?;
+    if first_seen(kind, &left.book, &places).is_some() {
+        return Ok(Err(StepFault::Changes));
+    }
+    Ok(Ok(part_at(alloc, left, &places)?))
+}
+
+// Whether each of these calls of the book is in a part.
+fn has_calls(left: &Smaller, calls: &[Call]) -> bool
+    requires { AreNamesOf (numbers_in left.now.numbers.items) left.now.book }
+    ensures { IsTrue result
+        ↔ AreCalled (numbers_in left.now.numbers.items) left.now.book calls.now }
+{
+    for k in 0..calls.len() {
+        if call_in(left, calls[k]).is_none() {
+            return false;
+        }
+    }
+    true
+}
+
+// The places in a part of the calls that are, in the book, among these.
+fn places_of(alloc: Global, left: &Smaller, calls: &[Call]) -> Result<Vec<Vec<u64>>, NoMemory>
+    requires { AreNamesOf (numbers_in left.now.numbers.items) left.now.book }
+    ensures { IfOk result (λ rows. numbers_in rows.items
+        ≡ all_listed (numbers_in left.now.numbers.items) calls.now left.now.book) }
+{
+    let mut rows = Vec::new(alloc);
+    for caller in 0..left.book.callers() {
+        rows.push(row_of(alloc, left, calls, caller)?)?;
+    }
+    Ok(rows)
+}
+
+// The places in a part of the calls of a caller that are, in the book, among these.
+fn row_of(alloc: Global, left: &Smaller, calls: &[Call], caller: u32) -> Result<Vec<u64>, NoMemory>
+    requires names { AreNamesOf (numbers_in left.now.numbers.items) left.now.book }
+    requires caller { caller < length left.now.book }
+    ensures { IfOk result (λ row. row.items
+        ≡ row_listed (numbers_in left.now.numbers.items) calls.now left.now.book caller) }
+{
+    let mut row = Vec::new(alloc);
+    for place in 0..left.book.calls(caller) {
+        let number = number_of(
+            left,
+            Call {
+                caller,
+                number: place,
+            },
+        );
+        let stays = is_listed(calls, Call { caller, number });
+        push_if(&mut row, stays, place)?;
+    }
+    Ok(row)
+}
+
+// Whether a call is one of these.
+fn is_listed(calls: &[Call], call: Call) -> bool
+    ensures { result ≡ is_listed calls.now call }
+{
+    calls.iter().any(|other| other.caller == call.caller && other.number == call.number)
 }
 
 /// The call of a part that is, in the book, the one that is named.

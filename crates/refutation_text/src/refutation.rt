@@ -1,4 +1,5 @@
 use book_base::{Book, Call, Cut};
+use level_refutations::LevelEntry;
 use pair_refutations::PairEntry;
 use refutations::Entry;
 use seq_objects::Kind;
@@ -15,6 +16,9 @@ pub enum Step {
     Only(Vec<u64>),
     /// This call goes, which is read-only. The book need not have it.
     Leave(Call),
+    /// These calls alone stay, and each other one is read-only, or sets a value and no call that
+    /// stays can tell. The book need not have them.
+    Keep(Vec<Call>),
 }
 
 /// What is said of the part that the steps leave.
@@ -34,6 +38,8 @@ pub enum Ending {
     Closed(Vec<Entry>),
     /// These entries make a closed list of standings.
     Pairs(Vec<PairEntry>),
+    /// These entries make a closed table of levels.
+    Levels(Vec<LevelEntry>),
 }
 
 /// A book with a reason why it has no legal order, which is right or not.

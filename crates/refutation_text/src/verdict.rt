@@ -8,16 +8,18 @@ ghost use Rattle.seq_objects.specs.Objects.{kind_spec};
 ghost use Rattle.refutations.specs.Impossible.{IsImpossible};
 ghost use Rattle.text_fields.specs.Faults.{IsFaultOf};
 ghost use Rattle.smaller_book.specs.Numbers.{numbers_in};
+ghost use Rattle.level_refutations.specs.Said.{entries_said};
 ghost use Rattle.refutation_text.specs.RefutationRules.{IsFirstRefutationFault};
-ghost use Rattle.refutation_text.specs.Said.{Impossible, Takes, Find, Pairs, steps_said, ending_said};
+ghost use Rattle.refutation_text.specs.Said.{Impossible, Takes, Find, Pairs, Levels, steps_said, ending_said};
 ghost use Rattle.refutation_text.specs.Steps.{AreNamesOf, IsCalled};
-ghost use Rattle.refutation_text.specs.Verdicts.{IsShown, EndingFails, step_fault, pairs_fault, IsVerdictOf, IsRefutationVerdict, IsOfIllegalBook};
+ghost use Rattle.refutation_text.specs.Verdicts.{IsShown, EndingFails, LevelsFail, step_fault, pairs_fault, IsVerdictOf, IsRefutationVerdict, IsOfIllegalBook};
 
 use crate::fault::RefutationFault;
 use crate::part_steps::{StepFault, call_in, number_of, part_of};
 use crate::reader::read_refutation;
 use crate::refutation::{Ending, Refutation};
 use book_base::{Book, Call, NoMemory, ReadFault};
+use level_refutations::{LevelEntry, check_levels};
 use pair_refutations::{PairEntry, PairFault, check_pairs};
 use refutations::{
     check_closed, find_misses_puts, has_impossible_reply, holds_values, takes_exceed_puts,
@@ -128,6 +130,7 @@ fn fault_of_ending(
             Err(fault) => Ok(Some(RefutationFault::Closed(fault))),
         },
         Ending::Pairs(entries) => fault_of_pairs(alloc, kind, left, steps, entries),
+        Ending::Levels(entries) => fault_of_levels(alloc, kind, left, entries),
     }
 }
 
@@ -272,4 +275,32 @@ fn pairs_fault(left: &Smaller, steps: u64, why: PairFault) -> RefutationFault
         PairFault::Whole(e) => RefutationFault::Pairs(PairFault::Whole(e)),
         PairFault::Leads(e, by) => RefutationFault::Pairs(PairFault::Leads(e, by)),
     }
+}
+
+// Why entries of a table of levels don't refute a stack's book.
+fn fault_of_levels(
+    alloc: Global,
+    kind: Kind,
+    left: &Smaller,
+    entries: &[LevelEntry],
+) -> Result<Option<RefutationFault>, NoMemory>
+    ensures fault { IfOk result (λ found. IfSome found
+        (LevelsFail kind left.now.book (entries_said entries.now))) }
+    ensures shown { IfOk result (λ found. IfNone found (IsShown kind
+        (numbers_in left.now.numbers.items) left.now.book (Levels (entries_said entries.now)))) }
+{
+    if !is_stack(kind) {
+        return Ok(Some(RefutationFault::Kind));
+    }
+    match check_levels(alloc, &left.book, entries)? {
+        Ok(()) => Ok(None),
+        Err(why) => Ok(Some(RefutationFault::Levels(why))),
+    }
+}
+
+// Whether an object is a stack.
+fn is_stack(kind: Kind) -> bool
+    ensures { IsTrue result ↔ (kind ≡ Kind.Stack) }
+{
+    matches!(kind, Kind::Stack)
 }

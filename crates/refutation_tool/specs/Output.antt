@@ -5,6 +5,8 @@ use Rattle.refutations.specs.declared.fault.ClosedFault.TheVariants as closed
 use Rattle.pair_refutations.specs.declared.entry.Move.TheVariants.{Finds, Callers}
 use Rattle.pair_refutations.specs.declared.fault.PairFault.{PairFault}
 use Rattle.pair_refutations.specs.declared.fault.PairFault.TheVariants as pairs
+use Rattle.level_refutations.specs.declared.fault.LevelFault.{LevelFault}
+use Rattle.level_refutations.specs.declared.fault.LevelFault.TheVariants as levels
 use Rattle.refutation_text.specs.declared.fault.RefutationFault.{RefutationFault}
 use Rattle.refutation_text.specs.declared.fault.RefutationFault.TheVariants as faults
 use Rattle.refutation_text.specs.declared.verdict.RefutationVerdict.TheVariants.{Illegal, Faulty}
@@ -27,6 +29,13 @@ pair_fault_words (pairs.Leads e Finds) = codes "Leads" ++ after_space e ++ codes
 pair_fault_words (pairs.Leads e (Callers i j)) =
     codes "Leads" ++ after_space e ++ after_space i ++ after_space j
 
+-- the name of a fault of entries of a table of levels, with its numbers
+abbrev pub level_fault_words : LevelFault → List ℕ
+level_fault_words (levels.Unlisted e) = codes "Unlisted" ++ after_space e
+level_fault_words (levels.Whole l c) = codes "Whole" ++ after_space l ++ after_space c
+level_fault_words (levels.Leads l c caller) =
+    codes "Leads" ++ after_space l ++ after_space c ++ after_space caller
+
 -- the name of a fault, with its numbers
 abbrev pub fault_words : RefutationFault → List ℕ
 fault_words (faults.Lacks s) = codes "Lacks" ++ after_space s
@@ -39,6 +48,7 @@ fault_words (faults.Closed (closed.Whole e)) = codes "Whole" ++ after_space e
 fault_words (faults.Closed (closed.Leads e caller)) =
     codes "Leads" ++ after_space e ++ after_space caller
 fault_words (faults.Pairs why) = pair_fault_words why
+fault_words (faults.Levels why) = level_fault_words why
 
 -- the line of a fault
 abbrev pub fault_text : RefutationFault → List ℕ

@@ -1,10 +1,11 @@
 //! What the program answers to an input.
 
 ghost use Rattle.std.specs.Prelude.{◌≡◌, ◌++◌, IfOk, OnOk};
-ghost use Rattle.refutation_tool.specs.Output.{after_space, pair_fault_words, fault_words, fault_text};
+ghost use Rattle.refutation_tool.specs.Output.{after_space, pair_fault_words, level_fault_words, fault_words, fault_text};
 
 use book_base::{NoMemory, ReadFault};
 use byte_streams::{ProgramAnswer, TextProgram};
+use level_refutations::LevelFault;
 use pair_refutations::{Move, PairFault};
 use refutation_text::{RefutationFault, RefutationVerdict, refute};
 use refutations::ClosedFault;
@@ -59,6 +60,7 @@ fn put_fault(out: &mut Vec<u8>, fault: RefutationFault) -> Result<(), NoMemory>
             put_numbered(out, b"", u64::from(caller))
         }
         RefutationFault::Pairs(why) => put_pair_fault(out, why),
+        RefutationFault::Levels(why) => put_level_fault(out, why),
     }
 }
 
@@ -82,6 +84,24 @@ fn put_pair_fault(out: &mut Vec<u8>, why: PairFault) -> Result<(), NoMemory>
             put_numbered(out, b"Leads", e)?;
             put_numbered(out, b"", putter)?;
             put_numbered(out, b"", taker)
+        }
+    }
+}
+
+// Appends the name of a fault of entries of a table of levels, with its numbers.
+fn put_level_fault(out: &mut Vec<u8>, why: LevelFault) -> Result<(), NoMemory>
+    ensures { OnOk result (out.new.items ≡ out.old.items ++ level_fault_words why) }
+{
+    match why {
+        LevelFault::Unlisted(e) => put_numbered(out, b"Unlisted", e),
+        LevelFault::Whole(level, cut) => {
+            put_numbered(out, b"Whole", level)?;
+            put_numbered(out, b"", cut)
+        }
+        LevelFault::Leads(level, cut, caller) => {
+            put_numbered(out, b"Leads", level)?;
+            put_numbered(out, b"", cut)?;
+            put_numbered(out, b"", u64::from(caller))
         }
     }
 }
