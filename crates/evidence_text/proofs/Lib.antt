@@ -1,5 +1,5 @@
 pub mod WrittenLines
 pub mod ReadBack
-pub mod StoredSteps
+pub mod StoredSaid
 pub mod RightTexts
 pub mod Answers

@@ -5,17 +5,15 @@ use Rattle.std.proofs.lemmas.List.{append-nil}
 use Rattle.std.proofs.lemmas.List.Concat.{flat_map-cons, flat_map-append}
 use Rattle.book_base.specs.Book.{Page}
 use Rattle.seq_objects.specs.declared.kind.Kind.{Kind}
-use Rattle.refutations.specs.declared.entry.Entry.{Entry}
-use Rattle.pair_refutations.specs.declared.entry.PairEntry.{PairEntry}
 use Rattle.text_fields.specs.declared.version.Version.TheVariants.{Second}
 use Rattle.text_fields.specs.Lines.{line_text, text_of}
 use Rattle.text_fields.specs.Faults.{AllPass}
 use Rattle.text_fields.specs.Head.{TitleDue}
 use Rattle.text_fields.proofs.Sharp.{AllPass-append}
 use Rattle.book_text.specs.BookRules.{BookDue, InHead, InCalls, AtEnd, BookPasses, IsBookText}
-use Rattle.refutation_text.specs.Said.{StepSaid, EndingSaid, Impossible, Takes, Find, Closed, Pairs, LineSaid, StepLine, ImpossibleLine, TakesLine, FindLine, PlainLine, PairsLine, ItemLine, MoveLine, EndLine}
+use Rattle.refutation_text.specs.Said.{StepSaid, EndingSaid, Impossible, Takes, Find, Closed, Pairs, Levels, LineSaid, StepLine, ImpossibleLine, TakesLine, FindLine, PlainLine, PairsLine, LevelsLine, ItemLine, MoveLine, TableLine, EndLine}
 use Rattle.refutation_text.specs.Grammar.{refutation_words, MaySay, line_words}
-use Rattle.refutation_text.specs.RefutationRules.{BodyDue, InSteps, EndDue, InEntries, InPairs, BodyRead, after_line, BodyPasses, StepsDue, InBody, after_book, RefutationPasses, refutation_rules, nothing_read, IsRefutationText}
+use Rattle.refutation_text.specs.RefutationRules.{BodyDue, InSteps, EndDue, InEntries, InPairs, InLevels, BodyRead, after_line, BodyPasses, StepsDue, InBody, after_book, RefutationPasses, refutation_rules, nothing_read, IsRefutationText}
 use Rattle.evidence_text.specs.Written.{ending_lines, body_lines, IsWritten}
 use Rattle.evidence_text.proofs.WrittenLines.{both_written}
 
@@ -25,43 +23,29 @@ right : (due after : BodyDue) (line : LineSaid) → MaySay line → after_line d
     → BodyPasses due (line_words line) after
 right due after line may leads = (line, record { may = may; text = refl }, leads)
 
-entries_pass : (steps : List StepSaid) (done entries : List Entry)
-    → AllByRecursion MaySay (map ItemLine entries ++ EndLine ∷ [])
-    → AllPass BodyPasses (InEntries steps done)
-    (map line_words (map ItemLine entries ++ EndLine ∷ []))
-    (BodyRead steps (Closed (done ++ entries)))
-entries_pass steps done [] may = (
-  BodyRead steps (Closed done),
-  right (InEntries steps done) (BodyRead steps (Closed done)) EndLine tt refl,
-  ap (λ (all : List Entry). BodyRead steps (Closed all)) (sym (append-nil done)),
-)
-entries_pass steps done (entry ∷ entries) may =
-    let one : List Entry = done ++ entry ∷ [] in (
-      InEntries steps one,
-      right (InEntries steps done) (InEntries steps one) (ItemLine entry) may.0 refl,
-      subst (λ (all : List Entry). AllPass BodyPasses (InEntries steps one)
-          (map line_words (map ItemLine entries ++ EndLine ∷ [])) (BodyRead steps (Closed all)))
-          (append_assoc done (entry ∷ []) entries) (entries_pass steps one entries may.1),
-    )
-
-pairs_pass : (steps : List StepSaid) (done entries : List PairEntry)
-    → AllByRecursion MaySay (map MoveLine entries ++ EndLine ∷ [])
-    → AllPass BodyPasses (InPairs steps done)
-    (map line_words (map MoveLine entries ++ EndLine ∷ []))
-    (BodyRead steps (Pairs (done ++ entries)))
-pairs_pass steps done [] may = (
-  BodyRead steps (Pairs done),
-  right (InPairs steps done) (BodyRead steps (Pairs done)) EndLine tt refl,
-  ap (λ (all : List PairEntry). BodyRead steps (Pairs all)) (sym (append-nil done)),
-)
-pairs_pass steps done (entry ∷ entries) may =
-    let one : List PairEntry = done ++ entry ∷ [] in (
-      InPairs steps one,
-      right (InPairs steps done) (InPairs steps one) (MoveLine entry) may.0 refl,
-      subst (λ (all : List PairEntry). AllPass BodyPasses (InPairs steps one)
-          (map line_words (map MoveLine entries ++ EndLine ∷ [])) (BodyRead steps (Pairs all)))
-          (append_assoc done (entry ∷ []) entries) (pairs_pass steps one entries may.1),
-    )
+-- the lines of entries pass, with the end
+module _ {X : Type 0} (steps : List StepSaid) (inside : List X → BodyDue) (line : X → LineSaid)
+    (ending : List X → EndingSaid)
+    (goes : (done : List X) (x : X)
+    → after_line (inside done) (line x) ≡ Some (inside (done ++ x ∷ [])))
+    (ends : (done : List X)
+    → after_line (inside done) EndLine ≡ Some (BodyRead steps (ending done))) where
+  list_passes : (done xs : List X) → AllByRecursion MaySay (map line xs ++ EndLine ∷ [])
+      → AllPass BodyPasses (inside done) (map line_words (map line xs ++ EndLine ∷ []))
+      (BodyRead steps (ending (done ++ xs)))
+  list_passes done [] may = (
+    BodyRead steps (ending done),
+    right (inside done) (BodyRead steps (ending done)) EndLine tt (ends done),
+    ap (λ (all : List X). BodyRead steps (ending all)) (sym (append-nil done)),
+  )
+  list_passes done (x ∷ xs) may =
+      let one : List X = done ++ x ∷ [] in (
+        inside one,
+        right (inside done) (inside one) (line x) may.0 (goes done x),
+        subst (λ (all : List X). AllPass BodyPasses (inside one)
+            (map line_words (map line xs ++ EndLine ∷ [])) (BodyRead steps (ending all)))
+            (append_assoc done (x ∷ []) xs) (list_passes one xs may.1),
+      )
 
 -- an ending of one line passes, with the end
 line_passes : (steps : List StepSaid) (ending : EndingSaid) (line : LineSaid) → MaySay line
@@ -91,12 +75,19 @@ ending_passes steps (Find call values) may =
 ending_passes steps (Closed entries) may = (
   InEntries steps [],
   right (InSteps steps) (InEntries steps []) PlainLine tt refl,
-  entries_pass steps [] entries may.1,
+  list_passes steps (InEntries steps) ItemLine Closed (λ done x. refl) (λ done. refl) [] entries
+      may.1,
 )
 ending_passes steps (Pairs entries) may = (
   InPairs steps [],
   right (InSteps steps) (InPairs steps []) PairsLine tt refl,
-  pairs_pass steps [] entries may.1,
+  list_passes steps (InPairs steps) MoveLine Pairs (λ done x. refl) (λ done. refl) [] entries may.1,
+)
+ending_passes steps (Levels entries) may = (
+  InLevels steps [],
+  right (InSteps steps) (InLevels steps []) LevelsLine tt refl,
+  list_passes steps (InLevels steps) TableLine Levels (λ done x. refl) (λ done. refl) [] entries
+      may.1,
 )
 
 body_passes : (done steps : List StepSaid) (ending : EndingSaid)

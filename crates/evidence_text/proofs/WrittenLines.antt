@@ -10,10 +10,6 @@ use Rattle.refutation_text.specs.Said.{LineSaid}
 use Rattle.refutation_text.specs.Grammar.{MaySay, line_words}
 use Rattle.evidence_text.specs.Written.{IsWritten}
 
--- no line is written
-pub none_written : (old : List ℕ) → IsWritten old [] old
-none_written old = record { may = tt; text = sym (append-nil old) }
-
 -- one line is written
 pub one_written : (old new : List ℕ) (line : LineSaid) → MaySay line
     → new ≡ old ++ line_text (line_words line) → IsWritten old (line ∷ []) new
@@ -43,18 +39,6 @@ both_written old middle new a b h k =
     }
 
 module _ {X : Type 0} (line : X → LineSaid) (items : List X) where
-  -- the lines of the first items are written, with one more
-  pub more_written : (old middle new : List ℕ) (i : ℕ) (d : X) → i < length items
-      → IsWritten old (map line (take i items)) middle
-      → IsWritten middle (line (get_or items i d) ∷ []) new
-      → IsWritten old (map line (take (i + 1) items)) new
-  more_written old middle new i d lt h k =
-      let item : X = get_or items i d in
-      subst (λ (ls : List LineSaid). IsWritten old ls new)
-      (sym (map-append line (take i items) (item ∷ []))
-      ∙ ap (map line) (sym (take_more items i d lt)))
-      (both_written old middle new (map line (take i items)) (line item ∷ []) h k)
-
   -- the lines of all items are written
   pub all_written : (old new : List ℕ) (i : ℕ) → length items ≤ i
       → IsWritten old (map line (take i items)) new → IsWritten old (map line items) new

@@ -13,9 +13,11 @@ ghost use Rattle.evidence_text.specs.Found.{AreParts, IsRefutationOf, IsFinding,
 
 use crate::counting::counts_of;
 use crate::evidence::{Limit, Limits};
+use crate::level_writer::have_numbers;
 use crate::parts::{Parts, parts_of};
 use crate::writer::write_refutation;
 use book_base::{Book, Call, NoMemory, ReadFault};
+use level_refutations::find_levels;
 use pair_refutations::find_pairs;
 use refutation_text::{Ending, RefutationVerdict, Step, refute};
 use refutations::{find_closed, first_impossible};
@@ -150,7 +152,8 @@ fn of_part(
 }
 
 // The text of a refutation that lists the items of a part, where one is found. Of a queue standings
-// are tried first, of which there are fewer.
+// are tried first, of which there are fewer; of a stack levels where the list is too long, since of
+// small parts a list is shorter.
 fn listed(
     alloc: Global,
     kind: Kind,
@@ -168,8 +171,61 @@ fn listed(
             return Ok(found);
         }
     }
+    let found = plainly(alloc, kind, book, left, steps, limits)?;
+    if kind != Kind::Stack || is_short(&found, limits) {
+        return Ok(found);
+    }
+    match leveled(alloc, kind, book, left, steps, limits)? {
+        Some(text) => Ok(Some(text)),
+        None => Ok(found),
+    }
+}
+
+// Whether a text was found that is within the limit of bytes.
+fn is_short(found: &Option<Vec<u8>>, limits: Limits) -> bool {
+    match found {
+        Some(text) => text.len() as u64 <= limits.bytes,
+        None => false,
+    }
+}
+
+// The text of a refutation that lists pairs of calls and a state of a part, where one is found.
+fn plainly(
+    alloc: Global,
+    kind: Kind,
+    book: &Book,
+    left: &Smaller,
+    steps: &[Step],
+    limits: Limits,
+) -> Result<Option<Vec<u8>>, NoMemory>
+    requires { AllByRecursion HasCounts (steps_said steps.now) }
+    ensures { IfOk result (λ found. IfSome found (λ text. IsRefutationOf kind book.now text.items)) }
+{
     match find_closed(alloc, &kind, &left.book, limits.items)? {
         Some(entries) => judged(alloc, kind, book, steps, &Ending::Closed(entries)),
+        None => Ok(None),
+    }
+}
+
+// The text of a refutation of a stack's book that lists levels of a part, where one is found.
+fn leveled(
+    alloc: Global,
+    kind: Kind,
+    book: &Book,
+    left: &Smaller,
+    steps: &[Step],
+    limits: Limits,
+) -> Result<Option<Vec<u8>>, NoMemory>
+    requires { AllByRecursion HasCounts (steps_said steps.now) }
+    ensures { IfOk result (λ found. IfSome found (λ text. IsRefutationOf kind book.now text.items)) }
+{
+    match find_levels(alloc, &left.book, limits.items)? {
+        Some(entries) => {
+            if !have_numbers(&entries) {
+                return Ok(None);
+            }
+            judged(alloc, kind, book, steps, &Ending::Levels(entries))
+        }
         None => Ok(None),
     }
 }

@@ -6,6 +6,7 @@
 mod counting;
 mod evidence;
 mod finding;
+mod level_writer;
 mod parts;
 mod steps;
 mod writer;

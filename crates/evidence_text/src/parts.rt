@@ -9,13 +9,13 @@ ghost use Rattle.refutation_text.specs.Said.{steps_said};
 ghost use Rattle.evidence_text.specs.Written.{HasCounts};
 ghost use Rattle.evidence_text.specs.Found.{AreParts};
 
-use crate::steps::{cut_step, keys_step, numbers_of, push_leaves, push_step};
+use crate::steps::{cut_step, keys_step, numbers_of, push_step, push_unseen};
 use book_base::{Book, NoMemory};
 use refutation_text::Step;
 use seq_objects::Kind;
 use smaller_book::{
     Smaller, numbers_of_all, without_halves, without_later, without_open, without_singles,
-    without_slices,
+    without_unseen,
 };
 use std::alloc::Global;
 
@@ -26,8 +26,8 @@ enum Rule {
     Cut,
     /// They have keys that no other call has.
     Keys,
-    /// They are read-only.
-    ReadOnly,
+    /// They are read-only, or no call that stays can tell what they set.
+    Unseen,
 }
 
 /// A part of a book, with the numbers that its calls have in the book.
@@ -50,25 +50,50 @@ pub(crate) struct Parts {
 }
 
 /// Makes a book smaller, as long as it has no legal order: the latest records go, then the calls of
-/// keys, read-only calls, and further records. No single record goes that would leave several
-/// unanswered calls of a caller in a view, since more items would be listed of the part.
+/// keys, read-only calls and calls that no call which stays can tell, and further records. No single
+/// record goes that would leave several unanswered calls of a caller in a view, since more items
+/// would be listed of the part.
 pub(crate) fn parts_of(alloc: Global, kind: Kind, book: &Book) -> Result<Parts, NoMemory>
     requires { ¬ HasLegalOrder (kind_spec kind) book.now }
     ensures { IfOk result (AreParts kind) }
 {
     let mut parts = whole(alloc, kind, book)?;
+    parts = with_seen_first(alloc, kind, parts)?;
     let early = without_later(alloc, kind, &parts.last.book)?;
     parts = with_part(alloc, kind, parts, early, Rule::Cut)?;
     let keyless = without_halves(alloc, kind, &parts.last.book)?;
     parts = with_part(alloc, kind, parts, keyless, Rule::Keys)?;
-    let sliced = without_slices(alloc, kind, &parts.last.book)?;
-    parts = with_part(alloc, kind, parts, sliced, Rule::ReadOnly)?;
+    parts = with_seen(alloc, kind, parts)?;
     let thin = without_singles(alloc, kind, &parts.last.book)?;
-    parts = with_part(alloc, kind, parts, thin, Rule::ReadOnly)?;
+    parts = with_part(alloc, kind, parts, thin, Rule::Unseen)?;
     let open = without_open(alloc, kind, &parts.last.book)?;
     parts = with_part(alloc, kind, parts, open, Rule::Cut)?;
     let last = without_halves(alloc, kind, &parts.last.book)?;
     with_part(alloc, kind, parts, last, Rule::Keys)
+}
+
+// The parts, of a register with one more, which lacks calls that no call which stays can tell. They
+// go before any record does, since each record that goes leaves an unanswered call, and an
+// unanswered compare-and-set may see each value.
+fn with_seen_first(alloc: Global, kind: Kind, parts: Parts) -> Result<Parts, NoMemory>
+    requires { AreParts kind parts }
+    ensures { IfOk result (AreParts kind) }
+{
+    match kind {
+        Kind::Register | Kind::CasRegister => with_seen(alloc, kind, parts),
+        Kind::Queue | Kind::Stack | Kind::Pqueue => Ok(parts),
+        Kind::IntSet | Kind::Map | Kind::Counter => Ok(parts),
+    }
+}
+
+// The parts with one at the end that lacks calls of the last one that are read-only or that no call
+// which stays can tell, where there is one.
+fn with_seen(alloc: Global, kind: Kind, parts: Parts) -> Result<Parts, NoMemory>
+    requires { AreParts kind parts }
+    ensures { IfOk result (AreParts kind) }
+{
+    let seen = without_unseen(alloc, kind, &parts.last.book)?;
+    with_part(alloc, kind, parts, seen, Rule::Unseen)
 }
 
 // The book as the only part, without steps.
@@ -161,6 +186,6 @@ fn push_rule(
             let step = keys_step(alloc, kind, part, left)?;
             push_step(steps, step)
         }
-        Rule::ReadOnly => push_leaves(part, left, steps),
+        Rule::Unseen => push_unseen(alloc, kind, part, left, steps),
     }
 }

@@ -9,7 +9,7 @@ ghost use Rattle.evidence_text.specs.Written.{HasCounts};
 use book_base::{Call, Cut, MAX_CALLERS, NoMemory};
 use refutation_text::Step;
 use seq_objects::Kind;
-use smaller_book::{Smaller, keys_of};
+use smaller_book::{Smaller, calls_of_all, is_read_only, keys_of};
 use std::alloc::Global;
 
 /// The step back to a cut that leaves a part: of each caller the calls up to its last answered one
@@ -62,12 +62,81 @@ pub(crate) fn keys_step(
     }
 }
 
-/// Appends a step for each call that goes, which is read-only.
-pub(crate) fn push_leaves(
+/// Appends steps that take the calls that go, of which each is read-only or no call that stays can
+/// tell what it sets: a step for each call where all are read-only and twice as many stay, and else
+/// one that names those that stay.
+pub(crate) fn push_unseen(
+    alloc: Global,
+    kind: Kind,
     part: &Smaller,
     left: &Smaller,
     steps: &mut Vec<Step>,
 ) -> Result<(), NoMemory>
+    // Each step back to a cut has 16 counts.
+    requires { AllByRecursion HasCounts (steps_said steps.old.items) }
+    ensures { OnOk result (AllByRecursion HasCounts (steps_said steps.new.items)) }
+{
+    let stay = calls_of_all(&left.book);
+    let go = calls_of_all(&part.book).saturating_sub(stay);
+    if go <= stay / 2 && lacks_read_only_alone(kind, part, left) {
+        push_leaves(part, left, steps)
+    } else {
+        push_step(steps, Step::Keep(calls_of(alloc, left)?))
+    }
+}
+
+// Whether each call that goes is read-only.
+fn lacks_read_only_alone(kind: Kind, part: &Smaller, left: &Smaller) -> bool {
+    for caller in 0..part.book.callers() {
+        if !caller_lacks_read_only_alone(kind, part, left, caller) {
+            return false;
+        }
+    }
+    true
+}
+
+// Whether each call of a caller that goes is read-only.
+fn caller_lacks_read_only_alone(kind: Kind, part: &Smaller, left: &Smaller, caller: u32) -> bool
+    requires { caller < length part.now.book }
+{
+    let stay = numbers_of(left, caller);
+    let numbers = numbers_of(part, caller);
+    for place in 0..part.book.calls(caller) {
+        if let Some(number) = numbers.get(place as usize) {
+            let call = Call {
+                caller,
+                number: place,
+            };
+            if !stay.contains(number) && !is_read_only(kind, &part.book, call) {
+                return false;
+            }
+        }
+    }
+    true
+}
+
+// The calls of a part, with the numbers that come with it.
+fn calls_of(alloc: Global, left: &Smaller) -> Result<Vec<Call>, NoMemory> {
+    let mut calls = Vec::new(alloc);
+    for caller in 0..left.book.callers() {
+        push_calls_of(left, caller, &mut calls)?;
+    }
+    Ok(calls)
+}
+
+// Appends the calls of a caller in a part, with the numbers that come with it.
+fn push_calls_of(left: &Smaller, caller: u32, calls: &mut Vec<Call>) -> Result<(), NoMemory> {
+    for number in numbers_of(left, caller) {
+        calls.push(Call {
+            caller,
+            number: *number,
+        })?;
+    }
+    Ok(())
+}
+
+/// Appends a step for each call that goes, which is read-only.
+fn push_leaves(part: &Smaller, left: &Smaller, steps: &mut Vec<Step>) -> Result<(), NoMemory>
     // Each step back to a cut has 16 counts.
     requires { AllByRecursion HasCounts (steps_said steps.old.items) }
     ensures { OnOk result (AllByRecursion HasCounts (steps_said steps.new.items)) }

@@ -1,7 +1,7 @@
 //! The text of a refutation.
 
 ghost use Rattle.std.specs.Prelude.{◌≡◌, ◌∷◌, ◌++◌, [], map, decimal, codes, IfOk, OnOk};
-ghost use Rattle.std.specs.List.{AllByRecursion};
+ghost use Rattle.std.specs.List.{AllByRecursion, flat_map};
 ghost use Rattle.text_fields.specs.Lines.{line_text};
 ghost use Rattle.text_fields.specs.Counts.{AreNumbers, pair_words};
 ghost use Rattle.book_text.specs.CallLines.{place_words};
@@ -12,6 +12,7 @@ ghost use Rattle.refutation_text.specs.Grammar.{IsMove, move_words, takes_words,
 ghost use Rattle.refutation_text.specs.RefutationRules.{IsRefutationText};
 ghost use Rattle.evidence_text.specs.Written.{HasCounts, HasValues, IsWritten, form_lines, ending_lines};
 
+use crate::level_writer::put_table;
 use book_base::{Book, Call, Cut, NoMemory};
 use book_text::fields::{put_pairs, put_place, put_spaced, put_title};
 use book_text::write_book;
@@ -33,7 +34,7 @@ pub fn write_refutation(
     // Each step back to a cut has 16 counts.
     requires steps { AllByRecursion HasCounts (steps_said steps.now) }
     // Counted values are below 2^32; where a take that finds nothing is named, they rise, and there
-    // is at least one.
+    // is at least one. Each list of entries of a table of levels has a number.
     requires ending { HasValues (ending_said ending.now) }
     // A reader reads the bytes as the kind, the book, the steps and the ending.
     ensures { IfOk result (λ bytes. IsRefutationText bytes.items kind book.now
@@ -69,6 +70,7 @@ fn put_step(out: &mut Vec<u8>, step: &Step) -> Result<(), NoMemory>
         Step::Without(keys) => put_numbers_line(out, b"without", keys),
         Step::Only(keys) => put_numbers_line(out, b"only", keys),
         Step::Leave(call) => put_call_line(out, b"leave", *call),
+        Step::Keep(calls) => put_calls_line(out, b"keep", calls),
     }
 }
 
@@ -96,7 +98,7 @@ fn put_numbers_line(out: &mut Vec<u8>, first: &[u8], numbers: &[u64]) -> Result<
 }
 
 /// Appends numbers, each after a space.
-fn put_numbers(out: &mut Vec<u8>, numbers: &[u64]) -> Result<(), NoMemory>
+pub(crate) fn put_numbers(out: &mut Vec<u8>, numbers: &[u64]) -> Result<(), NoMemory>
     ensures text { OnOk result (out.new.items ≡ out.old.items ++ spaced (map decimal numbers.now)) }
     ensures small { OnOk result (AreNumbers numbers.now) }
 {
@@ -116,6 +118,37 @@ fn put_call_line(out: &mut Vec<u8>, first: &[u8], call: Call) -> Result<(), NoMe
     put_place(out, call)?;
     out.push(b'\n')?;
     Ok(())
+}
+
+/// Appends a line of a first word, and the callers and the numbers of calls.
+fn put_calls_line(out: &mut Vec<u8>, first: &[u8], calls: &[Call]) -> Result<(), NoMemory>
+    ensures text { OnOk result (out.new.items
+        ≡ out.old.items ++ line_text (first.now ∷ flat_map place_words calls.now)) }
+    ensures may { OnOk result (AllByRecursion IsNamed calls.now) }
+{
+    out.extend_from_slice(first)?;
+    put_calls(out, calls)?;
+    out.push(b'\n')?;
+    Ok(())
+}
+
+/// Appends the callers and the numbers of calls, each after a space.
+fn put_calls(out: &mut Vec<u8>, calls: &[Call]) -> Result<(), NoMemory>
+    ensures text { OnOk result (out.new.items ≡ out.old.items ++ spaced (flat_map place_words calls.now)) }
+    ensures may { OnOk result (AllByRecursion IsNamed calls.now) }
+{
+    for call in calls {
+        put_call(out, *call)?;
+    }
+    Ok(())
+}
+
+/// Appends the caller and the number of a call, each after a space.
+fn put_call(out: &mut Vec<u8>, call: Call) -> Result<(), NoMemory>
+    ensures text { OnOk result (out.new.items ≡ out.old.items ++ spaced (place_words call)) }
+    ensures may { OnOk result (IsNamed call) }
+{
+    put_place(out, call)
 }
 
 /// Appends the lines of an ending, up to the end.
@@ -141,6 +174,7 @@ fn put_form(out: &mut Vec<u8>, ending: &Ending) -> Result<(), NoMemory>
         Ending::CountsFind(caller, number, values) => put_find_line(out, *caller, *number, values),
         Ending::Closed(entries) => put_list(out, entries),
         Ending::Pairs(entries) => put_pair_list(out, entries),
+        Ending::Levels(entries) => put_table(out, entries),
     }
 }
 
