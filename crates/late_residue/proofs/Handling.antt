@@ -237,7 +237,7 @@ pub leads_next : (next : List ℕ → ℕ → List ℕ × ℕ) (writes : ℕ →
     (index : ℕ) (d : OpenCall) → Grows ones new
     → ((at : Configuration) → AreMeant left at → AreMeant after at)
     → LeadsOn next writes calls returning reply ones left index one
-    → ((at : Configuration) → Means one at ⊎ Hides next writes calls one at
+    → ((at : Configuration) → Means one at ⊎ Hides next writes calls returning.call one at
     → MayBePlaced next calls at (get_or calls index d)
     → LeadsTo next writes calls returning reply new after one at (get_or calls index d))
     → LeadsOn next writes calls returning reply new after (index + 1) one

@@ -116,6 +116,18 @@ serves_means one other serves at means = record {
   once = means.once;
 }
 
+-- what serves for a description with more optional places serves for it
+pub serves_narrower : (one wider other : Description) → IsWider one wider
+    → ((p : StreamPlace) → IsAmong one.optional p → IsAmong wider.optional p)
+    → Serves other wider → Serves other one
+serves_narrower one wider other is more serves = record {
+  list = serves.list ∙ is.list;
+  fewer = λ p among. subst (λ (ps : List StreamPlace). IsAmong ps p) is.placed (serves.fewer p among);
+  either = λ p among. serves.either p
+      (subst (λ (ps : List StreamPlace). IsAmong ps p) (sym is.placed) among);
+  optional = λ p among. serves.optional p (more p among);
+}
+
 -- a description means the configuration with its placed calls alone
 abbrev pub least : Description → Configuration
 least one = record { placed = one.placed; list = one.list }

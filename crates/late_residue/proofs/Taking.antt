@@ -233,7 +233,8 @@ module _ (spec : SeqSpec) (stream : List StreamEvent) (calls : List OpenCall)
 
     -- a configuration that one of the descriptions hides, at which the call that returns isn't placed
     abbrev AreHiding : Configuration → Type 0
-    AreHiding from = (one : Description) × Has ones one × Hides spec.next writes calls one from
+    AreHiding from = (one : Description) × Has ones one
+        × Hides spec.next writes calls returning.call one from
         × (IsPlacedAt from returning.call → ⊥)
 
     -- where the call that returns isn't placed at a configuration that is handled or hidden, one of
@@ -243,7 +244,7 @@ module _ (spec : SeqSpec) (stream : List StreamEvent) (calls : List OpenCall)
         → (IsPlacedAt from returning.call → ⊥)
         → (Leaves spec.next returning.op reply × AreMeant left from)
         ⊎ ((one : Description) × Has ones one
-        × (Means one from ⊎ Hides spec.next writes calls one from))
+        × (Means one from ⊎ Hides spec.next writes calls returning.call one from))
     covered_by from (inl handled) free = elim (handled.further free) [
       | inl (one, has, means) ↦ inr (one, has, inl means)
       | inr leaves ↦ inl leaves
@@ -279,7 +280,8 @@ module _ (spec : SeqSpec) (stream : List StreamEvent) (calls : List OpenCall)
               | inr (other, hides) ↦ inr (
                 one,
                 has,
-                subst (λ (c : Configuration). Hides spec.next writes calls one c) it.3 hides,
+                subst (λ (c : Configuration). Hides spec.next writes calls returning.call one c)
+                    it.3 hides,
                 λ (r, among). elim (among-cons z from.placed _ among) [
                   | inl is ↦ other (it.1 ∙ ap (λ (p : StreamPlace). p.call) is)
                   | inr old ↦ free (r, old)

@@ -87,16 +87,24 @@ IsWritten next writes calls place = (one : OpenCall) × Has calls one × (one.ca
     × IsTrue (writes one.op) × ((list : List ℕ) → (next list one.op).1 ≡ place.reply)
     × MayHaveReply one place.reply
 
--- A description hides a configuration: this has each placed call, besides these optional ones and open
--- calls that are known to overwrite alone, no call with two replies, and each open call that may be
--- placed at it is known to overwrite. So its list is overwritten before another call sees it.
+-- An open call rests at a description with a reply: it isn't the call that returns, it leaves each
+-- list at which it has the reply, and it is optional with the reply.
+abbrev pub Rests : (List ℕ → ℕ → List ℕ × ℕ) → ℕ → Description → OpenCall → ℕ → Type 0
+Rests next returning one call reply = (call.call ≢ returning) × Leaves next call.op reply
+    × IsAmong one.optional (record { call = call.call; reply = reply })
+
+-- A description hides a configuration before a call returns: the configuration has each placed call,
+-- besides these optional ones and open calls that are known to overwrite alone, no call with two
+-- replies, and each open call that may be placed at it is known to overwrite, or rests at the
+-- description with the reply that it gets. So its list is overwritten before a call needs to see it.
 pub record Hides (next : List ℕ → ℕ → List ℕ × ℕ) (writes : ℕ → Bool) (calls : List OpenCall)
-    (one : Description) (at : Configuration) : Type 0 where
+    (returning : ℕ) (one : Description) (at : Configuration) : Type 0 where
   pub placed : (place : StreamPlace) → IsAmong one.placed place → IsAmong at.placed place
   pub either : (place : StreamPlace) → IsAmong at.placed place
       → IsPlaceOf one place ⊎ IsWritten next writes calls place
   pub once : AreOnce at.placed
-  pub unseen : (call : OpenCall) → MayBePlaced next calls at call → IsTrue (writes call.op)
+  pub unseen : (call : OpenCall) → MayBePlaced next calls at call
+      → IsTrue (writes call.op) ⊎ Rests next returning one call (next at.list call.op).1
 
 -- A description is sound for a property of configurations: all that it means have the property, each
 -- of its places agrees with what is known, and no call is placed with two replies.
@@ -138,18 +146,22 @@ abbrev pub IsTaken : (List ℕ → ℕ → List ℕ × ℕ) → OpenCall → ℕ
 IsTaken next returning reply ones left one = (at : Configuration) → Means one at
     → IsHandled next returning reply ones left at
 
--- An open call sees nothing of a description: if it may be placed there, it is known to overwrite.
-pub record SeesNothing (next : List ℕ → ℕ → List ℕ × ℕ) (writes : ℕ → Bool) (one : Description)
-    (call : OpenCall) : Type 0 where
+-- An open call needs to see nothing of a description: if it may be placed there, it is known to
+-- overwrite, or rests there with the reply that it gets.
+pub record SeesNothing (next : List ℕ → ℕ → List ℕ × ℕ) (writes : ℕ → Bool) (returning : ℕ)
+    (one : Description) (call : OpenCall) : Type 0 where
   pub written : (AreOf one.placed call.call → ⊥) → MayHaveReply call (next one.list call.op).1
-      → IsTrue (writes call.op)
+      → IsTrue (writes call.op) ⊎ Rests next returning one call (next one.list call.op).1
 
 -- After an open call is placed at a description, another one that may be placed there too is known to
--- overwrite.
-abbrev pub IsUnseenBy : (List ℕ → ℕ → List ℕ × ℕ) → (ℕ → Bool) → Description → OpenCall → OpenCall
-    → Type 0
-IsUnseenBy next writes one call other = (other.call ≢ call.call) → (AreOf one.placed other.call → ⊥)
-    → MayHaveReply other (next (next one.list call.op).0 other.op).1 → IsTrue (writes other.op)
+-- overwrite, or rests at the description with the reply that it gets then.
+abbrev pub IsUnseenBy : (List ℕ → ℕ → List ℕ × ℕ) → (ℕ → Bool) → ℕ → Description → OpenCall
+    → OpenCall → Type 0
+IsUnseenBy next writes returning one call other = (other.call ≢ call.call)
+    → (AreOf one.placed other.call → ⊥)
+    → MayHaveReply other (next (next one.list call.op).0 other.op).1
+    → IsTrue (writes other.op)
+    ⊎ Rests next returning one other (next (next one.list call.op).0 other.op).1
 
 -- A placed call leads on where what it leads to is handled, or is hidden by a description; then the
 -- call isn't the one that returns.
@@ -157,14 +169,15 @@ abbrev pub LeadsTo : (List ℕ → ℕ → List ℕ × ℕ) → (ℕ → Bool) �
     → List Description → List Description → Description → Configuration → OpenCall → Type 0
 LeadsTo next writes calls returning reply ones left one at call =
     IsHandled next returning reply ones left (with_call next at call)
-    ⊎ ((call.call ≢ returning.call) × Hides next writes calls one (with_call next at call))
+    ⊎ ((call.call ≢ returning.call)
+    × Hides next writes calls returning.call one (with_call next at call))
 
 -- Of the first open calls, as many as a number says, each that may be placed at a configuration that
 -- a description means or hides leads on.
 abbrev pub LeadsOn : (List ℕ → ℕ → List ℕ × ℕ) → (ℕ → Bool) → List OpenCall → OpenCall → ℕ
     → List Description → List Description → ℕ → Description → Type 0
 LeadsOn next writes calls returning reply ones left number one = (at : Configuration)
-    → Means one at ⊎ Hides next writes calls one at
+    → Means one at ⊎ Hides next writes calls returning.call one at
     → (j : ℕ) (call : OpenCall) → j < number → slice_get calls j ≡ Some call
     → MayBePlaced next calls at call
     → LeadsTo next writes calls returning reply ones left one at call

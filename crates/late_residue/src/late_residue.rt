@@ -21,6 +21,7 @@ use std::marker::Model;
 #[derive(Drop)]
 pub struct LateResidue {
     reached: Vec<Reached>,
+    settled: u64,
 }
 
 impl Model for LateResidue {
@@ -42,7 +43,10 @@ impl LateResidue {
         object.reset(&mut state);
         let mut reached = Vec::new(alloc);
         reached.push(Reached::first(alloc, &state)?)?;
-        Ok(LateResidue { reached })
+        Ok(LateResidue {
+            reached,
+            settled: 0,
+        })
     }
 
     /// A copy of the descriptions.
@@ -54,6 +58,7 @@ impl LateResidue {
     {
         Ok(LateResidue {
             reached: copies(alloc, &self.reached)?,
+            settled: self.settled,
         })
     }
 
@@ -102,9 +107,21 @@ impl LateResidue {
         // So they are after an error.
         ensures err { OnErr result (self.new ≡ self.old) }
     {
-        match next_set(alloc, object, calls, returning, reply, &self.reached, limit)? {
+        match next_set(
+            alloc,
+            object,
+            calls,
+            returning,
+            reply,
+            self.settled,
+            &self.reached,
+            limit,
+        )? {
             Some(after) => {
                 self.reached = after;
+                if let Some(last) = calls.last() {
+                    self.settled = last.call.saturating_add(1);
+                }
                 Ok(true)
             }
             None => Ok(false),

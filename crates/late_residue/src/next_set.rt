@@ -7,21 +7,22 @@ ghost use Rattle.late_residue.specs.Known.{MayHaveReply};
 ghost use Rattle.late_residue.specs.Placing.{IsTaken};
 ghost use Rattle.late_residue.specs.LateOnes.{AreOpen, AreLate, AreAdded, IsBeyond};
 
-use crate::closing::{close, pruned, take};
+use crate::closing::{admit, close, pruned};
 use crate::open_call::OpenCall;
 use crate::overwriting::Overwriting;
 use crate::reached::Reached;
-use crate::widening::settle;
 use book_base::NoMemory;
 use std::alloc::Global;
 
-/// The descriptions after a return, or `None` where a limit is met.
+/// The descriptions after a return, or `None` where a limit is met. Open calls with a number below
+/// `first` are optional already where they can follow and leave the list.
 pub fn next_set<O: Overwriting>(
     alloc: Global,
     object: &O,
     calls: &[OpenCall],
     returning: &OpenCall,
     reply: u64,
+    first: u64,
     before: &[Reached],
     limit: usize,
 ) -> Result<Option<Vec<Reached>>, NoMemory>
@@ -40,8 +41,9 @@ pub fn next_set<O: Overwriting>(
     let mut ones = Vec::new(alloc);
     let mut left = Vec::new(alloc);
     for one in before {
-        begin(
-            alloc, object, calls, returning, reply, one, &mut ones, &mut left,
+        let copy = one.copy(alloc)?;
+        admit(
+            alloc, object, calls, returning, reply, first, copy, &mut ones, &mut left,
         )?;
     }
     if close(
@@ -51,28 +53,4 @@ pub fn next_set<O: Overwriting>(
     } else {
         Ok(None)
     }
-}
-
-// Takes a description of those before the return, with what can follow and leave the list.
-fn begin<O: Overwriting>(
-    alloc: Global,
-    object: &O,
-    calls: &[OpenCall],
-    returning: &OpenCall,
-    reply: u64,
-    one: &Reached,
-    ones: &mut Vec<Reached>,
-    left: &mut Vec<Reached>,
-) -> Result<(), NoMemory>
-    ensures added { OnOk result (AreAdded (O.spec object.now) calls.now returning.now reply
-        (description_of one.now ∷ [])
-        (descriptions_of ones.old.items) (descriptions_of left.old.items)
-        (descriptions_of ones.new.items) (descriptions_of left.new.items)) }
-    ensures taken { OnOk result (IsTaken (O.spec object.now).next returning.now reply
-        (descriptions_of ones.new.items)
-        (descriptions_of left.new.items) (description_of one.now)) }
-{
-    let mut settled = one.copy(alloc)?;
-    settle(alloc, object, calls, &mut settled)?;
-    take(object, alloc, returning, reply, settled, ones, left)
 }

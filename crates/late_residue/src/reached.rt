@@ -1,4 +1,4 @@
-ghost use Rattle.std.specs.Prelude.{◌≡◌, ◌↔◌, ◌⊎◌, ◌+◌, ◌<◌, [], length, IfOk, OnOk, IfSome, IfNone, IsTrue, filter, not, ◌==◌, ◌&&◌, ◌||◌};
+ghost use Rattle.std.specs.Prelude.{ℕ, Some, ◌≡◌, ◌↔◌, ◌⊎◌, ◌+◌, ◌<◌, [], length, IfOk, OnOk, IfSome, IfNone, IsTrue, filter, not, ◌==◌, ◌&&◌, ◌||◌};
 ghost use Rattle.std.specs.List.{list_any, list_all};
 ghost use Rattle.book_base.specs.declared.TheConstants.{MAX_ROOM};
 ghost use Rattle.streams.specs.StreamOrder.{StreamPlace, IsAmong};
@@ -71,6 +71,21 @@ impl Reached {
         ensures { IsTrue result ↔ IsAmong (description_of self.now).optional (place_of place) }
     {
         holds(&self.optional, place)
+    }
+
+    /// Whether an open call is optional here with its known reply.
+    pub fn has_known(&self, call: &OpenCall) -> bool
+        ensures { IsTrue result ↔ (reply : ℕ) × (call.now.reply ≡ Some reply)
+            × IsAmong (description_of self.now).optional
+            (record { call = call.now.call; reply = reply }) }
+    {
+        match call.reply {
+            Some(reply) => self.may_have(Placed {
+                call: call.call,
+                reply,
+            }),
+            None => false,
+        }
     }
 
     /// Whether a call is placed here with this reply or not at all.

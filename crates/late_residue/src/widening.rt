@@ -1,4 +1,4 @@
-ghost use Rattle.std.specs.Prelude.{◌≢◌, ◌<◌, length, OnOk, IfOk, IfSome, IfNone, IsTrue, List, [], ◌∷◌};
+ghost use Rattle.std.specs.Prelude.{◌≢◌, ℕ, ◌<◌, length, OnOk, IfOk, IfSome, IfNone, IsTrue, List, [], ◌∷◌};
 ghost use Rattle.book_base.specs.declared.TheConstants.{MAX_ROOM};
 ghost use Rattle.streams.specs.Stream.{StreamEvent};
 ghost use Rattle.streams.specs.StreamOrder.{StreamPlace, IsAmong};
@@ -16,8 +16,7 @@ use book_base::{GrowsByOne, NoMemory};
 use std::alloc::Global;
 
 /// The description after an open call is placed, or `None` where it can't have the reply that the
-/// object gives. Where it overwrites, others that overwrite may have come just before it. What can
-/// follow and leave the list is optional too.
+/// object gives. Where it overwrites, others that overwrite may have come just before it.
 pub fn expanded<O: Overwriting>(
     alloc: Global,
     object: &O,
@@ -31,8 +30,10 @@ pub fn expanded<O: Overwriting>(
     ensures means { IfOk result (λ found. IfSome found (λ after. (at : Configuration)
         → Means (description_of from.now) at → (IsPlacedAt at call.now.call → ⊥)
         → Means (description_of after) (with_call (O.spec object.now).next at call.now))) }
-    ensures hidden { IfOk result (λ found. IfSome found (λ after. (at : Configuration)
-        → Hides (O.spec object.now).next (O.writes object.now) calls.now (description_of from.now) at
+    ensures hidden { IfOk result (λ found. IfSome found (λ after.
+        IsTrue (O.writes object.now call.now.op) → (returning : ℕ) (at : Configuration)
+        → Hides (O.spec object.now).next (O.writes object.now) calls.now returning
+        (description_of from.now) at
         → MayBePlaced (O.spec object.now).next calls.now at call.now
         → Means (description_of after) (with_call (O.spec object.now).next at call.now))) }
     ensures sound { IfOk result (λ found. IfSome found (λ after. (stream : List StreamEvent)
@@ -47,18 +48,22 @@ pub fn expanded<O: Overwriting>(
         return Ok(None);
     };
     hide(alloc, object, calls, from, call, &mut after)?;
-    settle(alloc, object, calls, &mut after)?;
     Ok(Some(after))
 }
 
-/// Makes each open call optional that may be placed last and leaves the list.
+/// Makes each open call optional that may be placed last and leaves the list, of those with a number
+/// from `first` on.
 pub fn settle<O: GrowsByOne>(
     alloc: Global,
     object: &O,
     calls: &[OpenCall],
+    first: u64,
     one: &mut Reached,
 ) -> Result<(), NoMemory>
     ensures wider { OnOk result (IsWider (description_of one.old) (description_of one.new)) }
+    ensures optional { OnOk result ((place : StreamPlace)
+        → IsAmong (description_of one.old).optional place
+        → IsAmong (description_of one.new).optional place) }
     ensures sound { OnOk result ((stream : List StreamEvent) → AreOpen stream calls.now
         → IsSound (IsInResidue (O.spec object.now) stream) calls.now (description_of one.old)
         → IsSound (IsInResidue (O.spec object.now) stream) calls.now (description_of one.new)) }
@@ -67,27 +72,32 @@ pub fn settle<O: GrowsByOne>(
         return Ok(());
     }
     for call in calls {
-        settle_call(alloc, object, calls, call, one)?;
+        settle_call(alloc, object, calls, first, call, one)?;
     }
     Ok(())
 }
 
-// Makes an open call optional where it may be placed last and leaves the list.
+// Makes an open call optional where it may be placed last and leaves the list, and has a number from
+// `first` on.
 fn settle_call<O: GrowsByOne>(
     alloc: Global,
     object: &O,
     calls: &[OpenCall],
+    first: u64,
     call: &OpenCall,
     one: &mut Reached,
 ) -> Result<(), NoMemory>
     requires is_open { Has calls.now call.now }
     requires short { length one.old.list.items < MAX_ROOM }
     ensures wider { OnOk result (IsWider (description_of one.old) (description_of one.new)) }
+    ensures optional { OnOk result ((place : StreamPlace)
+        → IsAmong (description_of one.old).optional place
+        → IsAmong (description_of one.new).optional place) }
     ensures sound { OnOk result ((stream : List StreamEvent) → AreOpen stream calls.now
         → IsSound (IsInResidue (O.spec object.now) stream) calls.now (description_of one.old)
         → IsSound (IsInResidue (O.spec object.now) stream) calls.now (description_of one.new)) }
 {
-    if one.places(call.call) {
+    if call.call < first || one.places(call.call) || one.has_known(call) {
         return Ok(());
     }
     let (reply, stays) = one.step(alloc, object, call.op)?;

@@ -18,11 +18,11 @@ loop-other-preserved g c =
         | inl earlier ↦ c.loop-other.invariant.unseen j other earlier is
         | inr later ↦
             let same : j ≡ c.loop-other.other-index = omega (arith, less, later) in
-            subst (λ (o : OpenCall). IsUnseenBy next writes one c.args.call.now o)
+            subst (λ (o : OpenCall). IsUnseenBy next writes c.args.returning.now.call one c.args.call.now o)
             (get_or_from_slice_get c.args.calls.now c.loop-other.other-index other _
             (subst (λ (i : ℕ). slice_get c.args.calls.now i ≡ Some other) same is))
             (unseen_by next writes c.args.calls.now
-            (g.met.O.Overwriting.they_overwrite c.args.object.now) one
+            (g.met.O.Overwriting.they_overwrite c.args.object.now) c.args.returning.now.call one
             (description_of c.in-Some.after) c.args.call.now _
             (some_of _ c.in_ok-after.field-0 c.in-Some.after c.in-Some.is
             c.in_ok-after.ensures.after) (c.in_ok-sees.ensures c.if-branch.false))

@@ -1,8 +1,11 @@
-use Rattle.std.proofs.Common.{ℕ, ◌≤◌, List, sym, ap, subst}
+use Rattle.std.proofs.Common.{ℕ, ◌≤◌, List, [], ◌∷◌, sym, ap, subst}
 use Rattle.std.proofs.lemmas.List.{length-map}
 use Rattle.late_residue.specs.declared.reached.Reached.{Reached}
 use Rattle.late_residue.specs.Reached.{Has, description_of, descriptions_of}
+use Rattle.late_residue.specs.Description.{Description}
 use Rattle.late_residue.specs.Meaning.{AreMeant}
+use Rattle.late_residue.specs.Placing.{IsTaken}
+use Rattle.late_residue.specs.LateOnes.{AreAdded}
 use Rattle.late_residue.proofs.Handling.{item_at}
 use Rattle.late_residue.proofs.Next.{begun_none, begun_next, begun_taken, is_beyond, late_next}
 use Rattle.late_residue.proofs.next_set.next_set.Goals as goal
@@ -17,11 +20,18 @@ loop-one-init g c = begun_none (g.O.SeqObject.spec c.args.object.now) c.args.cal
 pub loop-one-preserved : goal.loop-one-preserved
 loop-one-preserved g c = begun_next (g.O.SeqObject.spec c.args.object.now) c.args.calls.now
     c.args.returning.now c.args.reply c.args.before.now (descriptions_of c.loop-one.ones.items)
-    (descriptions_of c.loop-one.left.items) (descriptions_of c.begin.new.ones.items)
-    (descriptions_of c.begin.new.left.items) c.loop-one.one-index c.one-item.result
+    (descriptions_of c.loop-one.left.items) (descriptions_of c.admit.new.ones.items)
+    (descriptions_of c.admit.new.left.items) c.loop-one.one-index c.one-item.result
     c.loop-one.invariant
     (item_at c.args.before.now c.loop-one.one-index c.one-item.result _ c.loop-one-test.true
-    c.one-item.is) c.in_ok-begin.ensures.added c.in_ok-begin.ensures.taken
+    c.one-item.is)
+    (subst (λ (d : Description). AreAdded (g.O.SeqObject.spec c.args.object.now) c.args.calls.now
+    c.args.returning.now c.args.reply (d ∷ []) (descriptions_of c.loop-one.ones.items)
+    (descriptions_of c.loop-one.left.items) (descriptions_of c.admit.new.ones.items)
+    (descriptions_of c.admit.new.left.items)) c.in_ok-copy.ensures c.in_ok-admit.ensures.added)
+    (subst (λ (d : Description). IsTaken (g.O.SeqObject.spec c.args.object.now).next
+    c.args.returning.now c.args.reply (descriptions_of c.admit.new.ones.items)
+    (descriptions_of c.admit.new.left.items) d) c.in_ok-copy.ensures c.in_ok-admit.ensures.taken)
 
 pub close-requires : goal.close-requires
 close-requires g c = begun_taken (g.O.SeqObject.spec c.args.object.now) c.args.calls.now
@@ -50,3 +60,8 @@ returns-clause-beyond g c stream are late = is_beyond (g.O.SeqObject.spec c.args
     (descriptions_of c.close.new.ones.items) (descriptions_of c.close.new.left.items)
     c.loop-one.one-index c.args.limit stream c.loop-one.invariant c.in_ok-close.ensures.added are late
     (c.in_ok-close.ensures.beyond c.if-branch.false)
+
+pub admit-requires : goal.admit-requires
+admit-requires g c = begun_taken (g.O.SeqObject.spec c.args.object.now) c.args.calls.now
+    c.args.returning.now c.args.reply c.args.before.now (descriptions_of c.loop-one.ones.items)
+    (descriptions_of c.loop-one.left.items) c.loop-one.one-index c.loop-one.invariant

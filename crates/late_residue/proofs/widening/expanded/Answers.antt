@@ -9,29 +9,27 @@ use Rattle.late_residue.proofs.widening.expanded.Goals as goal
 
 pub returns-clause-means : goal.returns-clause-means
 returns-clause-means g c at means lacks =
-    c.in_ok-settle.ensures.wider.means _ (c.in_ok-hide.ensures.wider.means _
+    c.in_ok-hide.ensures.wider.means _
     (placed_means (g.O.SeqObject.spec c.args.object.now).next (description_of c.args.from.now)
     (description_of c.in-Some.after) c.args.call.now
     (some_of _ c.in_ok-after.field-0 c.in-Some.after c.in-Some.is c.in_ok-after.ensures.after) at
-    means lacks))
+    means lacks)
 
 pub returns-clause-hidden : goal.returns-clause-hidden
-returns-clause-hidden g c at hides may =
+returns-clause-hidden g c =
     let on = description_of c.in-Some.after in
-    c.in_ok-settle.ensures.wider.means _
-    (hidden_means (g.O.SeqObject.spec c.args.object.now).next
+    hidden_means (g.O.SeqObject.spec c.args.object.now).next
     (g.O.Overwriting.writes c.args.object.now) c.args.calls.now
     (g.met.O.Overwriting.they_overwrite c.args.object.now) (description_of c.args.from.now) on
     (description_of c.hide.new.one) c.args.call.now
     (some_of _ c.in_ok-after.field-0 c.in-Some.after c.in-Some.is c.in_ok-after.ensures.after)
-    c.in_ok-hide.ensures.wider c.in_ok-hide.ensures.optional c.in_ok-hide.ensures.hidden at hides may)
+    c.in_ok-hide.ensures.wider c.in_ok-hide.ensures.optional c.in_ok-hide.ensures.hidden
 
 pub returns-clause-sound : goal.returns-clause-sound
 returns-clause-sound g c stream are sound =
     let spec = g.O.SeqObject.spec c.args.object.now in
     let call = c.args.call.now in
-    c.in_ok-settle.ensures.sound stream are
-    (sound_for (IsReachedBy spec stream call) (IsInResidue spec stream) c.args.calls.now
+    sound_for (IsReachedBy spec stream call) (IsInResidue spec stream) c.args.calls.now
     (description_of c.hide.new.one)
     (last_is_reached spec stream c.args.calls.now are call c.requires.is_open)
     (c.in_ok-hide.ensures.sound stream are
@@ -40,4 +38,4 @@ returns-clause-sound g c stream are sound =
     (some_of _ c.in_ok-after.field-0 c.in-Some.after c.in-Some.is c.in_ok-after.ensures.after)
     c.requires.lacking
     (some_of _ c.in_ok-after.field-0 c.in-Some.after c.in-Some.is c.in_ok-after.ensures.reply)
-    sound)))
+    sound))

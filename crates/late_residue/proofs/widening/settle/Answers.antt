@@ -12,6 +12,7 @@ pub loop-call-init : goal.loop-call-init
 loop-call-init g c = record {
   short = c.is_short.ensures.0 c.if-not-is_short.false;
   wider = wider_none (description_of c.args.one.now);
+  optional = λ place among. among;
   sound = λ stream are sound. sound;
 }
 
@@ -31,12 +32,17 @@ loop-call-preserved g c = record {
   wider = wider_on (description_of c.args.one.now) (description_of c.loop-call.one)
       (description_of c.settle_call.new.one) c.loop-call.invariant.wider
       c.in_ok-settle_call.ensures.wider;
+  optional = λ place among. c.in_ok-settle_call.ensures.optional place
+      (c.loop-call.invariant.optional place among);
   sound = λ stream are sound. c.in_ok-settle_call.ensures.sound stream are
       (c.loop-call.invariant.sound stream are sound);
 }
 
 pub returns-clause-wider : goal.returns-clause-wider
 returns-clause-wider g c = c.loop-call.invariant.wider
+
+pub returns-clause-optional : goal.returns-clause-optional
+returns-clause-optional g c = c.loop-call.invariant.optional
 
 pub returns-clause-sound : goal.returns-clause-sound
 returns-clause-sound g c = c.loop-call.invariant.sound

@@ -1,3 +1,4 @@
+use Rattle.std.proofs.Common.{inr}
 use Rattle.late_residue.specs.Reached.{description_of}
 use Rattle.late_residue.specs.Placing.{AreOf}
 use Rattle.late_residue.proofs.Items.{not_true, on_ok}
@@ -14,6 +15,10 @@ returns-clause-wider g c =
     on_ok c.allow.result (λ allowed. allowed_wider one (description_of c.allow.new.self)
     (record { call = c.args.call.now.call; reply = c.in_ok-reply.reply }) allowed lacks)
     c.allow.ensures
+
+pub returns-clause-optional : goal.returns-clause-optional
+returns-clause-optional g c = on_ok c.allow.result
+    (λ allowed place among. (allowed.optional place).1 (inr among)) c.allow.ensures
 
 pub returns-clause-sound : goal.returns-clause-sound
 returns-clause-sound g c =
