@@ -1,9 +1,9 @@
 -- The names of a stream's objects.
-use Rattle.std.proofs.Common.{◌≡◌, ◌∙◌, ℕ, zero, suc, ◌+◌, ◌≤◌, Bool, true, false, cond, if◌then◌else◌, List, [], ◌∷◌, ◌++◌, length, get_or, map, refl, sym, ap, arith, bytes_eq, length-append}
+use Rattle.std.proofs.Common.{◌≡◌, ◌∙◌, ℕ, zero, suc, ◌+◌, ◌<◌, ◌≤◌, Bool, true, false, cond, if◌then◌else◌, List, [], ◌∷◌, ◌++◌, length, get_or, map, refl, sym, ap, arith, bytes_eq, length-append}
 use Rattle.std.specs.Prelude.{not, ◌||◌}
 use Rattle.std.specs.List.{list_any, position_or_len}
 use Rattle.std.proofs.lemmas.List.{map-append}
-use Rattle.stream_text.specs.Stream.{names_with}
+use Rattle.stream_text.specs.Stream.{names_with, object_named}
 
 -- a test by a value is the same after both are mapped
 pub any_mapped : {X Y : Type 0} (f : X → Y) (E : X → X → Bool) (F : Y → Y → Bool)
@@ -71,3 +71,35 @@ names_count f E same x xs names name are is is_new added =
     ∙ ap (λ (n : List ℕ). list_any (bytes_eq n) names) is in
     counted b names name ∙ ap (λ (n : Bool). length names + (if n then 1 else 0))
     (ap not (sym found) ∙ sym added)
+
+none_here : (b c : Bool) (n : ℕ) (xs : List (List ℕ)) → (c ≡ false → n ≡ length xs)
+    → b || c ≡ false → cond (not b) (1 + n) 0 ≡ suc (length xs)
+none_here true c n xs rest e = absurd cc
+none_here false c n xs rest e = omega (arith, rest e)
+
+-- a name that isn't there has the next number
+pub not_named : (p : List ℕ → Bool) (xs : List (List ℕ)) → list_any p xs ≡ false
+    → position_or_len p xs ≡ length xs
+not_named p [] e = refl
+not_named p (x ∷ xs) e =
+    none_here (p x) (list_any p xs) (position_or_len p xs) xs (not_named p xs) e
+
+same_or_longer : (b : Bool) (names : List (List ℕ)) (name : List ℕ) (n : ℕ)
+    → (b ≡ false → n ≡ length names) → n < length names
+    → (if b then names else names ++ name ∷ []) ≡ names
+same_or_longer true names name n new low = refl
+same_or_longer false names name n new low = absurd (omega (arith, new refl, low))
+
+-- a name with one of the numbers so far isn't new
+pub names_same : (names : List (List ℕ)) (name : List ℕ)
+    → object_named names name < length names → names_with names name ≡ names
+names_same names name low =
+    same_or_longer (list_any (bytes_eq name) names) names name (object_named names name)
+    (not_named (bytes_eq name) names) low
+
+-- what isn't zero is within a list
+pub some_within : (xs : List ℕ) (k : ℕ) → 0 < get_or xs k 0 → k < length xs
+some_within [] zero some = absurd (omega (arith, some))
+some_within [] (suc k) some = absurd (omega (arith, some))
+some_within (x ∷ xs) zero some = omega arith
+some_within (x ∷ xs) (suc k) some = omega (arith, some_within xs k some)

@@ -1,6 +1,6 @@
 -- The tables of a reader.
-use Rattle.std.proofs.Common.{◌≡◌, ◌∙◌, ℕ, ◌-◌, ◌<◌, Bool, true, false, if◌then◌else◌, Option, Some, None, List, [], ◌∷◌, ◌++◌, length, get_or, set, map, refl, sym, ap, arith, nat_eq, inl, inr}
-use Rattle.std.specs.Prelude.{◌==◌, unwrap_or, codes}
+use Rattle.std.proofs.Common.{◌≡◌, ◌∙◌, ℕ, ◌-◌, ◌<◌, Bool, true, false, if◌then◌else◌, Option, Some, None, List, [], ◌∷◌, ◌++◌, length, get_or, set, map, Result, Ok, Err, refl, sym, ap, subst, arith, nat_eq, inl, inr}
+use Rattle.std.specs.Prelude.{◌==◌, unwrap_or, codes, IfErr}
 use Rattle.std.proofs.lemmas.Bool.{cases_eq, eq-eqb, ne_eqb}
 use Rattle.std.proofs.lemmas.List.{get_or-set_same, get_or-set_other}
 use Rattle.std.proofs.lemmas.List.Sums.{fold-append}
@@ -12,9 +12,9 @@ use Rattle.text_fields.specs.Lines.{words_of}
 use Rattle.stream_text.specs.declared.reader.StreamReader.{StreamReader}
 use Rattle.stream_text.specs.declared.reader.Phase.TheVariants as phase
 use Rattle.stream_text.specs.declared.reader.Taken.TheVariants as taken
-use Rattle.stream_text.specs.Stream.{Said, ObjectEvent, Due, TitleDue, ObjectDue, EventDue, Ended, Passes, nothing_of, names_with, with_event, called_object, pending_after, pending_of, open_after, open_of}
+use Rattle.stream_text.specs.Stream.{Said, ObjectEvent, Due, TitleDue, ObjectDue, EventDue, Ended, Passes, nothing_of, names_with, object_named, with_event, called_object, pending_after, pending_of, open_after, open_of}
 use Rattle.stream_text.specs.Reader.{HasTables, HasRead, Tells}
-use Rattle.stream_text.proofs.Names.{names_stay}
+use Rattle.stream_text.proofs.Names.{names_stay, names_same, some_within}
 
 -- a reader with the same tables has what another one has
 pub same_tables : (a b : StreamReader) (said : Said) → b.names ≡ a.names → b.counts ≡ a.counts
@@ -41,6 +41,29 @@ named_tables a b said name names size counts pending has = record {
   pending = λ process. ap (λ m. get nat_eq m process) pending ∙ has.pending process;
   named = λ process object is.
       omega (arith, has.named process object is, names_stay said.names name);
+}
+
+-- where calls are open of the object of a name, the name isn't new
+pub known_tables : (a b : StreamReader) (said : Said) (name : List ℕ) → HasTables a said
+    → 0 < open_of (object_named said.names name) said.events
+    → HasTables b (record said { names = names_with said.names name }) → HasTables b said
+known_tables a b said name before some has =
+    let object = object_named said.names name in
+    let low = some_within a.counts.items object (omega (arith, before.counts object, some)) in
+    subst (λ (names : List (List ℕ)). HasTables b (record said { names = names }))
+    (names_same said.names name (omega (arith, low, before.size))) has
+
+-- a reader whose counts and pending calls are those of another one has what that one has
+pub alike_tables : (a b : StreamReader) (said : Said) → b.names ≡ a.names
+    → b.counts.items ≡ a.counts.items
+    → ((process : ℕ) → get nat_eq b.pending process ≡ get nat_eq a.pending process)
+    → HasTables a said → HasTables b said
+alike_tables a b said names counts pending has = record {
+  names = ap (λ n. map (λ name. name.items) n.keys) names ∙ has.names;
+  size = ap length counts ∙ has.size;
+  counts = λ object. ap (λ n. get_or n object 0) counts ∙ has.counts object;
+  pending = λ process. pending process ∙ has.pending process;
+  named = has.named;
 }
 
 -- what is pending and open after one event more
@@ -141,3 +164,18 @@ same_either false n = refl
 pub one_lost : (i process k n : ℕ)
     → n ≡ open_after k n (record { object = i; event = Lost process })
 one_lost i process k n = same_either (i == k) n
+
+-- what is so of an error is so where more follows from it
+pub err_then : {T E : Type 0} (r : Result T E) (P Q : E → Type 0) → IfErr r P
+    → ((e : E) → P e → Q e) → IfErr r Q
+err_then (Ok x) P Q p f = tt
+err_then (Err e) P Q p f = f e p
+
+-- a reader to which an event is due has read what another one has, where it has so for events
+pub events_still : (a b : StreamReader) (kind : Kind) (due : Due) → a.phase ≡ phase.Events kind
+    → ((said : Said) → HasRead a (EventDue said) → HasRead b (EventDue said)) → HasRead a due
+    → HasRead b due
+events_still a b kind TitleDue is same has = absurd cc
+events_still a b kind ObjectDue is same has = absurd cc
+events_still a b kind (EventDue said) is same has = same said has
+events_still a b kind (Ended said) is same has = absurd cc

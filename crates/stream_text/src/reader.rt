@@ -8,6 +8,7 @@ ghost use Rattle.stream_text.specs.Reader.{HasTables, HasRead, Tells, IsErrorOf}
 ghost use Rattle.stream_text.specs.declared.line.StreamLine.TheVariants as lines;
 ghost use Rattle.stream_text.specs.declared.fault.StreamError.TheVariants as errors;
 ghost use Rattle.stream_text.specs.declared.fault.Wrong.TheVariants.{Idle};
+ghost use Rattle.stream_text.specs.declared.fault.Wrong.{Wrong};
 
 use crate::fault::{StreamError, Wrong};
 use crate::line::{StreamLine, read_object, read_stream_line, read_title};
@@ -73,7 +74,7 @@ impl StreamReader {
         }
     }
 
-    /// Takes the next line. After an error the reader is done with.
+    /// Takes the next line. After want of memory the reader is done with.
     pub fn take(&mut self, line: &[u8]) -> Result<Taken, StreamError>
         // The line is right where the lines so far have led to, and the answer tells what it leads
         // to.
@@ -83,6 +84,9 @@ impl StreamReader {
         // An error is the test that the line fails, or want of memory.
         ensures wrong { IfErr result (λ error. (due : Due) → HasRead self.old due
             → IsErrorOf (Fails due line.now) error) }
+        // After a wrong line the reader has read what it had read.
+        ensures same { IfErr result (λ error. (what : Wrong) → error ≡ errors.Wrong what
+            → (due : Due) → HasRead self.old due → HasRead self.new due) }
     {
         match self.phase {
             Phase::Title => {
@@ -106,6 +110,9 @@ impl StreamReader {
             × Tells (EventDue said) taken after × HasRead self.new after) }
         ensures wrong { IfErr result (λ error. (said : Said) → HasTables self.old said
             → IsErrorOf (IsUntimely said line.entry) error) }
+        ensures same { IfErr result (λ error. (what : Wrong) → error ≡ errors.Wrong what
+            → (said : Said) → HasRead self.old (EventDue said)
+            → HasRead self.new (EventDue said)) }
     {
         match line {
             StreamLine::Call { process, name, op } => {
@@ -145,6 +152,8 @@ impl StreamReader {
             (Called process op))) }
         ensures wrong { IfErr result (λ error. (said : Said) → HasTables self.old said
             → IsErrorOf (IsUntimely said (lines.Call process name.entry op)) error) }
+        ensures same { IfErr result (λ error. (what : Wrong) → error ≡ errors.Wrong what
+            → (said : Said) → HasTables self.old said → HasTables self.new said) }
     {
         if self.pending.contains_key(&process) {
             return Err(StreamError::Wrong(Wrong::Busy));
@@ -188,7 +197,9 @@ impl StreamReader {
             × ((other : ℕ) → get nat_eq self.new.pending other
             ≡ (if process == other then None else get nat_eq self.old.pending other))) }
         ensures wrong { IfErr result (λ error. (error ≡ errors.Wrong Idle)
-            × (get nat_eq self.old.pending process ≡ None)) }
+            × (get nat_eq self.old.pending process ≡ None)
+            × ((other : ℕ) → get nat_eq self.new.pending other
+            ≡ get nat_eq self.old.pending other)) }
     {
         match self.pending.swap_remove(&process) {
             Some(object) => Ok(object),

@@ -1,0 +1,12 @@
+pub mod OnLines
+pub mod Outputs
+pub mod Findings
+pub mod Settling
+pub mod Changing
+pub mod Growing
+pub mod Reading
+pub mod Returning
+pub mod Punctual
+pub mod Endings
+pub mod Advancing
+pub mod Running

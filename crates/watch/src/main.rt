@@ -2,9 +2,11 @@
 //! their calls so far have legal orders.
 #![tactic(auto)]
 
+mod ending;
 mod objects;
 mod settings;
 mod telling;
+mod watched_source;
 mod watching;
 
 use byte_streams::{Status, StdSink, StdSource, write_text};
@@ -13,13 +15,13 @@ use std::env;
 use std::io::ErrorKind;
 use std::process::ExitCode;
 use std::rt::Env;
-use watching::watch_source;
+use watched_source::watch_source;
 
 /// The code that the program ends with where the system doesn't hand over the command words.
 const NO_WORDS: u8 = 7;
 
 /// The output for other words.
-const USAGE: &[u8] = b"usage: watch [--every LINES] [--most CONFIGURATIONS] [--window EVENTS]\n";
+const USAGE: &[u8] = b"usage: watch [--every LINES] [--most DESCRIPTIONS] [--window EVENTS]\n";
 
 // The settings that the command words say, where they are right; or, where they can't be had, the
 // code that the program ends with.
@@ -53,7 +55,7 @@ fn run<R: Env + Input + Print + AllocGlobal>(rt: &R) -> u8 {
     match settings_asked(rt) {
         Ok(Some(settings)) => {
             let mut source = StdSource::new(rt);
-            watch_source(rt.alloc(), settings, &mut source, &mut sink)
+            watch_source(rt.alloc(), settings, &mut source, &mut sink).code()
         }
         Ok(None) => write_text(&mut sink, Status::Usage, USAGE).code(),
         Err(code) => code,

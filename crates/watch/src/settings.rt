@@ -1,6 +1,7 @@
 //! The command words.
 
-/// How many configurations of one object are held at most, where the command words don't say it.
+/// At how many descriptions of one key the calls of a return are placed at most, where the command
+/// words don't say it.
 const MOST: usize = 10_000;
 
 /// How many events of one object are held back at most, where the command words don't say it.
@@ -10,7 +11,8 @@ const WINDOW: usize = 64;
 const MOST_WINDOW: u64 = 4096;
 
 /// What the command words say: after how many lines each it is said that the stream is legal so
-/// far, and how many configurations and events of one object are held at most.
+/// far, at how many descriptions of one key calls are placed at most, and how many events of one
+/// object are held back at most.
 #[derive(Clone, Copy, Debug, PartialEq, Eq)]
 pub struct Settings {
     pub every: Option<u64>,

@@ -1,13 +1,10 @@
 //! The lines that the program writes.
 
-ghost use Rattle.std.specs.Prelude.{◌≡◌, ◌++◌, IfOk, OnOk};
+ghost use Rattle.std.specs.Prelude.{◌≡◌, ◌++◌, OnOk};
 ghost use Rattle.watch.specs.Output.{second_number, at_name, output_line};
 
 use book_base::NoMemory;
-use byte_streams::{Sink, Status, write_text};
 use seq_objects::put_number;
-use std::alloc::Global;
-use stream_text::{StreamFault, stream_refusal};
 
 // Appends a second number after a space, where it is another one than the first.
 #[tactic(auto, unfolding(crate::specs::Output::second_number))]
@@ -33,32 +30,43 @@ fn put_name(out: &mut Vec<u8>, name: &[u8]) -> Result<(), NoMemory>
     Ok(())
 }
 
-/// A word, the number of a line, or of the first and the last one of some, and the name of an
-/// object that has one.
+// Appends a line, or a beginning of it where memory is lacking.
 #[tactic(auto, unfolding(crate::specs::Output::output_line))]
-pub fn line_text(
-    alloc: Global,
+fn put_parts(
+    out: &mut Vec<u8>,
     word: &[u8],
     first: u64,
     last: u64,
     name: &[u8],
-) -> Result<Vec<u8>, NoMemory>
-    ensures { IfOk result (λ text. text.items ≡ output_line word.now first last name.now) }
+) -> Result<(), NoMemory>
+    ensures { OnOk result
+        (out.new.items ≡ out.old.items ++ output_line word.now first last name.now) }
 {
-    let mut text = Vec::new(alloc);
-    text.extend_from_slice(word)?;
-    text.extend_from_slice(b" ")?;
-    put_number(&mut text, first)?;
-    put_second(&mut text, first, last)?;
-    put_name(&mut text, name)?;
-    text.extend_from_slice(b"\n")?;
-    Ok(text)
+    out.extend_from_slice(word)?;
+    out.extend_from_slice(b" ")?;
+    put_number(out, first)?;
+    put_second(out, first, last)?;
+    put_name(out, name)?;
+    out.extend_from_slice(b"\n")?;
+    Ok(())
 }
 
-/// Writes why a stream is refused, and answers the code that the program ends with.
-pub fn refused_text<K: Sink>(alloc: Global, sink: &mut K, fault: StreamFault) -> u8 {
-    match stream_refusal(alloc, fault) {
-        Ok(text) => write_text(sink, Status::Refused, &text).code(),
-        Err(NoMemory) => Status::NoMemory.code(),
+/// Appends a word, the number of a line, or of the first and the last one of some, and the name of
+/// an object that has one. Nothing is appended where memory is lacking.
+pub fn put_line(
+    out: &mut Vec<u8>,
+    word: &[u8],
+    first: u64,
+    last: u64,
+    name: &[u8],
+) -> Result<(), NoMemory>
+    ensures { OnOk result
+        (out.new.items ≡ out.old.items ++ output_line word.now first last name.now) }
+{
+    let size = out.len();
+    let put = put_parts(out, word, first, last, name);
+    if put.is_err() {
+        out.truncate(size);
     }
+    put
 }
