@@ -12,25 +12,25 @@ use Rattle.smaller_book.proofs.Filtering.{rising-filter_range}
 
 module _ (stays : ℕ → ℕ → Bool) (book : List Page) where
   -- the numbers of a caller's calls that pass
-  abbrev row : ℕ → List ℕ
-  row i = filter (stays i) (range_with_len 0 (calls_of book i))
+  abbrev chosen : ℕ → List ℕ
+  chosen i = filter (stays i) (range_with_len 0 (calls_of book i))
 
   -- for each caller the numbers of its calls that pass
   abbrev rows : List (List ℕ)
-  rows = map row (range_with_len 0 (length book))
+  rows = map chosen (range_with_len 0 (length book))
 
-  cases_rows : (P : ℕ → List ℕ → Type 0) → ((i : ℕ) → P i (row i)) → ((i : ℕ) → P i [])
+  cases_rows : (P : ℕ → List ℕ → Type 0) → ((i : ℕ) → P i (chosen i)) → ((i : ℕ) → P i [])
       → (i : ℕ) → P i (numbers_of rows i)
   cases_rows P here past i = elim (cases_lt i (length book)) [
     | inl inside ↦ subst (P i)
-        (sym (get_or-map-range_with_len row 0 (length book) i i [] inside (zero-add i))) (here i)
+        (sym (get_or-map-range_with_len chosen 0 (length book) i i [] inside (zero-add i))) (here i)
     | inr out ↦ subst (P i)
         (sym (get_or_past rows i []
-        (omega (arith, out, length-map-range_with_len row 0 (length book))))) (past i)
+        (omega (arith, out, length-map-range_with_len chosen 0 (length book))))) (past i)
   ]
 
-  inside-row : (i k : ℕ) → k < length (row i) → get_or (row i) k 0 < calls_of book i
-  inside-row i k room =
+  inside-chosen : (i k : ℕ) → k < length (chosen i) → get_or (chosen i) k 0 < calls_of book i
+  inside-chosen i k room =
       All-filter (stays i) (λ (n : ℕ). n < calls_of book i) (range_with_len 0 (calls_of book i))
       (λ j d less. omega (
         arith,
@@ -44,10 +44,10 @@ module _ (stays : ℕ → ℕ → Bool) (book : List Page) where
   -- the numbers of all calls that pass are rising numbers of calls of the book
   pub passing_are_numbers : AreNumbersOf book rows
   passing_are_numbers = record {
-    wide = length-map-range_with_len row 0 (length book);
+    wide = length-map-range_with_len chosen 0 (length book);
     rising = cases_rows (λ i xs. AreRising xs)
         (λ i. rising-filter_range (stays i) (calls_of book i))
         (λ i j k less room. absurd (omega arith));
     inside = cases_rows (λ i xs. (k : ℕ) → k < length xs → get_or xs k 0 < calls_of book i)
-        (λ i k room. inside-row i k room) (λ i k room. absurd (omega arith));
+        (λ i k room. inside-chosen i k room) (λ i k room. absurd (omega arith));
   }
